@@ -1,0 +1,5 @@
+pub mod Lending
+pub mod CodeTexts
+pub mod Lists
+pub mod Spelling
+pub mod Laws

@@ -1,0 +1,44 @@
+-- The text before the caret: its characters, the window in which marks live, and how it is put, taken and read again.
+use Rattle.std.specs.Prelude.{◌≡◌, ℕ, ◌-◌, Bool, true, false, ◌&&◌, ◌||◌, nat_eq, if◌then◌else◌, List, [], ◌∷◌, ◌++◌, length, take, drop, map, All}
+use Rattle.std.specs.List.{ends_with}
+use Rattle.kmn_base.specs.declared.items.Item.{Item}
+use Rattle.kmn_base.specs.declared.items.Item.TheVariants.{Char, Mark}
+
+-- the characters of a list of items, without its marks
+abbrev pub characters : List Item → List ℕ
+characters [] = []
+characters (Char c ∷ items) = c ∷ characters items
+characters (Mark m ∷ items) = characters items
+
+-- whether an item is a mark
+abbrev pub is_mark : Item → Bool
+is_mark (Char c) = false
+is_mark (Mark m) = true
+
+-- all but the last n
+abbrev pub without_last : {X : Type 0} → ℕ → List X → List X
+without_last n xs = take (length xs - n) xs
+
+-- the last 64 items, or all where there are fewer
+abbrev pub window : List Item → List Item
+window items = drop (length items - 64) items
+
+-- each mark stands among the last 64 items
+abbrev pub IsSound : List Item → Type 0
+IsSound items = All (λ item. is_mark item ≡ false) (without_last 64 items)
+
+-- an item is put at the end, and each mark that is then before the window is forgotten
+abbrev pub put : List Item → Item → List Item
+put items item = map Char (characters (without_last 64 (items ++ item ∷ []))) ++ window (items ++ item ∷ [])
+
+-- the last items of the old text still stand at the end of the new one, and it is known what stands before them
+abbrev pub still_stands : List Item → List ℕ → Bool
+still_stands kept text = ends_with nat_eq text (characters kept) && (nat_eq (length kept) 64 || nat_eq (length text) (length (characters kept)))
+
+-- the text read again: the marks of the window keep their places where its characters still stand, else none is left
+abbrev pub read_again : List Item → List ℕ → List Item
+read_again items text =
+    let kept = window items in
+    if still_stands kept text
+    then map Char (without_last (length (characters kept)) text) ++ kept
+    else map Char text

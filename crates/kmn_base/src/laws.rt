@@ -1,0 +1,110 @@
+//! Laws of the definitions in `specs/`, each the contract of a function with an empty body.
+
+ghost use Rattle.kmn_base.specs.Laws.{PutIsSound, TakingKeepsSoundness, WindowOfPut, CharactersOfPutChar, CharactersOfPutMark, ReadingAgainNeedsTheWindow, ReadingAgainIsSound, ReadingAgainGivesTheText, ReadingAgainTheSameText, SpellingsArePrefixFree, SpellingsAreShort, SpellingsAreUnits, SpelledItemIsNoFault, NoFaultIsEndOrItem, UnitsSpellOneList, FirstFaultIsOne, SpelledThroughOrBad, SpelledThroughIsNotBad};
+
+/// After a put each mark stands among the last 64 items, whatever stood before.
+#[tactic(auto, using(crate::proofs::Lists::put_is_sound))]
+pub fn put_is_sound()
+    ensures { PutIsSound }
+{}
+
+/// What is left of a sound list after its last items were taken is sound.
+#[tactic(auto, using(crate::proofs::Lists::taking_keeps_soundness))]
+pub fn taking_keeps_soundness()
+    ensures { TakingKeepsSoundness }
+{}
+
+/// The window after a put is the window of the old window and the item: what stands further back is not needed.
+#[tactic(auto, using(crate::proofs::Lists::window_of_put))]
+pub fn window_of_put()
+    ensures { WindowOfPut }
+{}
+
+/// A put character comes behind the characters that stood before, none of which is forgotten.
+#[tactic(auto, using(crate::proofs::Lists::characters_of_put_char))]
+pub fn characters_of_put_char()
+    ensures { CharactersOfPutChar }
+{}
+
+/// A put mark changes no character.
+#[tactic(auto, using(crate::proofs::Lists::characters_of_put_mark))]
+pub fn characters_of_put_mark()
+    ensures { CharactersOfPutMark }
+{}
+
+/// Reading again needs to know the window of the old list and the new text alone.
+#[tactic(auto, using(crate::proofs::ReadingAgain::reading_again_needs_the_window))]
+pub fn reading_again_needs_the_window()
+    ensures { ReadingAgainNeedsTheWindow }
+{}
+
+/// What was read again is sound, whatever stood before.
+#[tactic(auto, using(crate::proofs::ReadingAgain::reading_again_is_sound))]
+pub fn reading_again_is_sound()
+    ensures { ReadingAgainIsSound }
+{}
+
+/// What was read again has the characters of the text.
+#[tactic(auto, using(crate::proofs::ReadingAgain::reading_again_gives_the_text))]
+pub fn reading_again_gives_the_text()
+    ensures { ReadingAgainGivesTheText }
+{}
+
+/// Reading a sound list's own text again changes nothing.
+#[tactic(auto, using(crate::proofs::ReadingAgain::reading_again_the_same_text))]
+pub fn reading_again_the_same_text()
+    ensures { ReadingAgainTheSameText }
+{}
+
+/// No spelling is a prefix of another's, and no two items have one spelling.
+#[tactic(auto, using(crate::proofs::Spelling::spellings_are_prefix_free))]
+pub fn spellings_are_prefix_free()
+    ensures { SpellingsArePrefixFree }
+{}
+
+/// Each spelling has one to five units.
+#[tactic(auto, using(crate::proofs::Spelling::spellings_are_short))]
+pub fn spellings_are_short()
+    ensures { SpellingsAreShort }
+{}
+
+/// Each unit of a spelling has 16 bits and is not 0, which ends a string.
+#[tactic(auto, using(crate::proofs::Spelling::spellings_are_units))]
+pub fn spellings_are_units()
+    ensures { SpellingsAreUnits }
+{}
+
+/// At each place stands exactly one of the end, an item and a fault: where an item is spelled there is no fault,
+/// whatever follows.
+#[tactic(auto, using(crate::proofs::Faults::spelled_item_is_no_fault))]
+pub fn spelled_item_is_no_fault()
+    ensures { SpelledItemIsNoFault }
+{}
+
+/// Where there is no fault the bytes end or an item is spelled.
+#[tactic(auto, using(crate::proofs::StandingItems::no_fault_is_end_or_item))]
+pub fn no_fault_is_end_or_item()
+    ensures { NoFaultIsEndOrItem }
+{}
+
+/// Units are the spellings of at most one list of items.
+#[tactic(auto, using(crate::proofs::FirstFaults::units_spell_one_list))]
+pub fn units_spell_one_list()
+    ensures { UnitsSpellOneList }
+{}
+
+/// Bytes have at most one first place at which no item is spelled.
+pub fn first_fault_is_one()
+    ensures { FirstFaultIsOne }
+{}
+
+/// Bytes are spelled to their end or have a first place at which no item is spelled.
+#[tactic(auto, using(crate::proofs::FirstFaults::spelled_through_or_bad))]
+pub fn spelled_through_or_bad()
+    ensures { SpelledThroughOrBad }
+{}
+
+/// Bytes that are spelled to their end have no place at which no item is spelled.
+pub fn spelled_through_is_not_bad()
+    ensures { SpelledThroughIsNotBad }
+{}

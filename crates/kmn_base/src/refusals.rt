@@ -1,0 +1,21 @@
+use crate::Code;
+use thiserror::Error;
+
+/// A named rule that a text breaks, with the number of the line, from 1.
+#[derive(Clone, Copy, Debug, PartialEq, Eq)]
+pub struct Refusal {
+    pub line: u32,
+    pub code: Code,
+}
+
+/// Why a source was not compiled.
+#[derive(Debug, Drop, Error)]
+pub enum CompileError {
+    #[error("refused {} line {}", .0.code, .0.line)]
+    Refused(Refusal),
+    /// The picture or the file would pass its limit; the size is in bytes.
+    #[error("refused {code} size {size}")]
+    TooLarge { code: Code, size: u64 },
+    #[error("out of memory")]
+    Memory,
+}

@@ -1,0 +1,125 @@
+ghost use Rattle.std.specs.Prelude.{◌≡◌, ◌<◌, ◌==◌, List, [], ◌∷◌, ◌++◌, length, MatchResult, MatchOption, IfOk, slice_set};
+
+use crate::Memory;
+use std::alloc::Global;
+use std::marker::Model;
+
+/// A growing list on the heap, which contracts see as the list of its items. It promises nothing of spare room.
+#[derive(Drop)]
+pub struct Seq<T> {
+    items: Vec<T>,
+}
+
+/// UTF-8 text, as its bytes.
+pub type Text = Seq<u8>;
+
+impl<T> Model for Seq<T> {
+    ghost use Rattle.std.specs.Prelude.{List};
+
+    ghost Value = { List T };
+
+    ghost view = { λ s. s.items.items };
+}
+
+impl<T> Seq<T> {
+    ghost use Rattle.std.specs.Borrow.{sem};
+    ghost use Rattle.kmn_base.specs.Lending.{LendsItems};
+
+    /// An empty list, which takes no memory yet.
+    pub fn new(alloc: Global) -> Seq<T>
+        ensures { result ≡ [] }
+    {
+        Seq {
+            items: Vec::new(alloc),
+        }
+    }
+
+    /// The items of a vector as a list.
+    pub fn from_vec(items: Vec<T>) -> Seq<T>
+        ensures { result ≡ items.items }
+    {
+        Seq { items }
+    }
+
+    /// Appends an item, or hands it back for want of memory.
+    pub fn push(&mut self, item: T) -> Result<(), T>
+        ensures { MatchResult result (λ _. self.new ≡ self.old ++ item ∷ []) (λ back. (back ≡ item) × (self.new ≡ self.old)) }
+    {
+        match self.items.push(item) {
+            Ok(()) => Ok(()),
+            Err(failed) => Err(failed.value),
+        }
+    }
+
+    /// Takes the last item off.
+    pub fn pop(&mut self) -> Option<T>
+        ensures { MatchOption result ((self.old ≡ []) × (self.new ≡ [])) (λ last. self.old ≡ self.new ++ last ∷ []) }
+    {
+        self.items.pop()
+    }
+
+    /// How many items the list has.
+    pub fn len(&self) -> usize
+        ensures { result ≡ length self.now }
+    {
+        self.items.len()
+    }
+
+    /// Whether the list has no item.
+    pub fn is_empty(&self) -> bool
+        ensures { result ≡ (length self.now == 0) }
+    {
+        self.items.is_empty()
+    }
+
+    /// The items.
+    pub fn as_slice(&self) -> &[T]
+        ensures { result.now ≡ self.now }
+    {
+        self.items.as_slice()
+    }
+
+    /// The items, to be written: what stands in the slice in the end is what the list then has.
+    pub fn as_mut_slice(&mut self) -> &mut [T]
+        ensures* writes_back { sem 𝓛 (LendsItems T.row self.entry result) }
+        ensures value { result.now ≡ self.old }
+    {
+        self.items.as_mut_slice()
+    }
+}
+
+impl<T: Drop> Seq<T> {
+    /// Puts an item in the place of another, which is dropped.
+    pub fn set(&mut self, index: usize, item: T)
+        requires { index < length self.old }
+        ensures { self.new ≡ slice_set self.old index item }
+    {
+        self.items[index] = item;
+    }
+}
+
+impl<T: Copy> Seq<T> {
+    /// A list with the same items.
+    pub fn copy(&self, alloc: Global) -> Result<Seq<T>, Memory>
+        ensures { IfOk result (λ copy. copy ≡ self.now) }
+    {
+        Seq::from_slice(alloc, self.as_slice())
+    }
+
+    /// A list with the items of a slice.
+    pub fn from_slice(alloc: Global, items: &[T]) -> Result<Seq<T>, Memory>
+        ensures { IfOk result (λ copy. copy ≡ items.now) }
+    {
+        Ok(Seq {
+            items: Vec::from_slice(alloc, items)?,
+        })
+    }
+
+    /// Appends the items of a slice, or nothing for want of memory.
+    pub fn extend_from_slice(&mut self, items: &[T]) -> Result<(), Memory>
+        ensures { MatchResult result (λ _. self.new ≡ self.old ++ items.now) (λ _. self.new ≡ self.old) }
+    {
+        self.items.extend_from_slice(items)?;
+        Ok(())
+    }
+}

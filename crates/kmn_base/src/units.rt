@@ -1,0 +1,50 @@
+/// One item of a compiled string. Store and group numbers count from 1 here, as they are spelled; so do offsets.
+#[derive(Clone, Copy, Debug, PartialEq, Eq)]
+pub enum UnitItem {
+    Char(char),
+    Any(u16),
+    /// Store and offset.
+    Index(u16, u16),
+    Context,
+    Nul,
+    Enter(u16),
+    Stop,
+    Beep,
+    Dead(u16),
+    /// Shift flags and key code.
+    Key(u16, u16),
+    ContextAt(u16),
+    NotAny(u16),
+    /// Store and value store.
+    Set(u16, u16),
+    /// Store, 1 for unequal or 2 for equal, and value store.
+    Test(u16, u16, u16),
+    Save(u16),
+    Reset(u16),
+}
+
+/// Why no item is spelled at a place.
+#[derive(Clone, Copy, Debug, PartialEq, Eq)]
+pub enum BadKind {
+    /// An unpaired surrogate.
+    U1,
+    /// A code that no item has.
+    U2,
+    /// The bytes end after whole units inside an item with a sentinel, or a zero unit stands at an item or inside one
+    /// with a sentinel.
+    U3,
+    /// No `0x10` after a virtual key.
+    U4,
+    /// A comparison that is neither 1 nor 2.
+    U5,
+    /// The bytes end after the first byte of a unit of the item.
+    U6,
+}
+
+/// The first place, in bytes, at which no item is spelled. `code` is the unlisted code of `U2`, else 0.
+#[derive(Clone, Copy, Debug, PartialEq, Eq)]
+pub struct BadUnits {
+    pub kind: BadKind,
+    pub at: u32,
+    pub code: u16,
+}
