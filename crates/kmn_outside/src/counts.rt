@@ -1,0 +1,10 @@
+ghost use Rattle.std.specs.Prelude.{◌≡◌};
+ghost use Rattle.kmn_outside.specs.Memory.{is_due};
+
+/// Whether the call after so many has its number in the list.
+pub(crate) fn is_due(fails: &[u32], made: usize) -> bool
+    ensures { result ≡ is_due fails.now made }
+{
+    let number = u32::try_from(made).unwrap_or(u32::MAX).saturating_add(1);
+    fails.contains(&number)
+}
