@@ -1,0 +1,4 @@
+pub mod EntryLemmas
+pub mod GroupLemmas
+pub mod HexLemmas
+pub mod PositionLemmas

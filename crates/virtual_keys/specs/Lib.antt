@@ -1,0 +1,5 @@
+pub mod Dictionary
+pub mod Entries
+pub mod Fits
+pub mod Groups
+pub mod Keys

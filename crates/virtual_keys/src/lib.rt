@@ -1,0 +1,21 @@
+//! The keys of the product: their names and codes, the characters that they give on the US layout, which presses the
+//! key of a rule fits, and the names of a keyboard's own keys.
+//!
+//! It stands on `kmn_base` for the types of keys, on `arrayvec` for the characters of a name and on `indexmap` for the
+//! dictionary. No look-up takes memory. The layer above uses `fits` and `char_of`, whose answers are `key_fits` and
+//! `char_of_press` of `specs/Fits`, the tables of `specs/Keys`, and `KeyDictionary`, which contracts see as the list of
+//! its names; `specs/Dictionary` has the words for names.
+#![tactic(auto)]
+
+mod dictionary;
+mod names;
+mod presses;
+mod tables;
+#[cfg(test)]
+mod tests;
+mod unicode_names;
+
+pub use dictionary::KeyDictionary;
+pub use names::{key_named, modifier_named, name_of};
+pub use presses::{char_of, fits};
+pub use unicode_names::named_chars;

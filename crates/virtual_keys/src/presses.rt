@@ -1,0 +1,143 @@
+ghost use Rattle.std.specs.Prelude.{◌≡◌, IsTrue};
+ghost use Rattle.virtual_keys.specs.Fits.{has, has_either, letter, is_letter, character_in, us_character, caps_fit, sides_fit, flags_fit, char_of_press, key_fits};
+ghost use Rattle.virtual_keys.specs.Keys.{us_characters};
+
+use crate::tables::US_CHARACTERS;
+use kmn_base::{KeyPress, RuleKey};
+
+// The bits of shift flags. A press has the sides, shift and caps lock at the same bits.
+const LEFT_CONTROL: u32 = 0x0001;
+
+const RIGHT_CONTROL: u32 = 0x0002;
+
+const LEFT_ALT: u32 = 0x0004;
+
+const RIGHT_ALT: u32 = 0x0008;
+
+const SHIFT: u32 = 0x0010;
+
+const EITHER_CONTROL: u32 = 0x0020;
+
+const EITHER_ALT: u32 = 0x0040;
+
+const CAPS: u32 = 0x0100;
+
+const NO_CAPS: u32 = 0x0200;
+
+/// Whether a bit is set.
+fn has(bits: u32, bit: u32) -> bool
+    ensures { result ≡ has bits bit }
+{
+    bits & bit != 0
+}
+
+/// Whether one of two bits is set.
+fn has_either(bits: u32, left: u32, right: u32) -> bool
+    ensures { result ≡ has_either bits left right }
+{
+    has(bits, left) || has(bits, right)
+}
+
+/// Whether a code is that of a letter key.
+fn is_letter(code: u16) -> bool
+    ensures { result ≡ is_letter code }
+{
+    (65..=90).contains(&code)
+}
+
+/// The letter of a letter key.
+fn letter(code: u16, upper: bool) -> char
+    requires { IsTrue (is_letter code) }
+    ensures { result ≡ letter code upper }
+{
+    let capital = char::from(code as u8);
+    if upper {
+        capital
+    } else {
+        capital.to_ascii_lowercase()
+    }
+}
+
+/// The character that a table has for a key, with or without shift.
+fn character_in(table: &[(u16, char, char)], code: u16, shifted: bool) -> Option<char>
+    ensures { result ≡ character_in table.now code shifted }
+{
+    for row in table {
+        if row.0 == code {
+            return Some(if shifted { row.2 } else { row.1 });
+        }
+    }
+    None
+}
+
+/// The character that a key other than a letter gives on the US layout.
+#[tactic(auto, unfolding(crate::specs::Keys::us_characters))]
+fn other_character(code: u16, shifted: bool) -> Option<char>
+    ensures { result ≡ character_in us_characters code shifted }
+{
+    character_in(&US_CHARACTERS, code, shifted)
+}
+
+/// The character that a key gives on the US layout.
+fn us_character(code: u16, shifted: bool, locked: bool) -> Option<char>
+    ensures { result ≡ us_character code shifted locked }
+{
+    if is_letter(code) {
+        Some(letter(code, shifted != locked))
+    } else {
+        other_character(code, shifted)
+    }
+}
+
+/// The character that a press gives on the US layout.
+#[tactic(auto, unfolding(crate::specs::Fits::char_of_press))]
+pub fn char_of(press: KeyPress) -> Option<char>
+    ensures { result ≡ char_of_press press }
+{
+    let mods = u32::from(press.mods);
+    if has_either(mods, LEFT_CONTROL, RIGHT_CONTROL) || has_either(mods, LEFT_ALT, RIGHT_ALT) {
+        return None;
+    }
+    us_character(press.code, has(mods, SHIFT), has(mods, CAPS))
+}
+
+/// Whether caps lock is as the shift flags want it.
+fn caps_fit(flags: u32, mods: u32) -> bool
+    ensures { result ≡ caps_fit flags mods }
+{
+    (!has(flags, CAPS) || has(mods, CAPS)) && (!has(flags, NO_CAPS) || !has(mods, CAPS))
+}
+
+/// Whether the held sides of control or alt are those that the shift flags want.
+fn sides_fit(either: u32, left: u32, right: u32, flags: u32, mods: u32) -> bool
+    ensures { result ≡ sides_fit either left right flags mods }
+{
+    if has(flags, either) {
+        has_either(mods, left, right)
+    } else {
+        has(flags, left) == has(mods, left) && has(flags, right) == has(mods, right)
+    }
+}
+
+/// Whether the held modifiers are those that the shift flags want.
+fn flags_fit(flags: u32, mods: u32) -> bool
+    ensures { result ≡ flags_fit flags mods }
+{
+    has(flags, SHIFT) == has(mods, SHIFT)
+        && caps_fit(flags, mods)
+        && sides_fit(EITHER_CONTROL, LEFT_CONTROL, RIGHT_CONTROL, flags, mods)
+        && sides_fit(EITHER_ALT, LEFT_ALT, RIGHT_ALT, flags, mods)
+}
+
+/// Whether the key of a rule fits a press.
+#[tactic(auto, unfolding(crate::specs::Fits::key_fits))]
+pub fn fits(key: RuleKey, press: KeyPress) -> bool
+    ensures { result ≡ key_fits key press }
+{
+    match key {
+        RuleKey::Any => true,
+        RuleKey::Char(unit) => char_of(press).is_some_and(|given| given as u32 == u32::from(unit)),
+        RuleKey::Virtual { flags, code } => code == press.code
+            && flags_fit(flags, u32::from(press.mods)),
+    }
+}
