@@ -1,0 +1,68 @@
+-- Lists of items and of elements.
+use Rattle.std.proofs.Common.{◌≡◌, ◌≢◌, ℕ, zero, suc, ◌+◌, ◌-◌, ◌<◌, ◌≤◌, Bool, true, false, cond, List, [], ◌∷◌, length, drop, get_or, Option, Some, None, refl, sym, ap, ◌∙◌, arith}
+use Rattle.std.proofs.lemmas.Grind.{common_steps}
+use Rattle.std.proofs.lemmas.List.{drop_all, drop_more}
+use Rattle.std.proofs.lemmas.List.Sums.{sum_by-cons}
+use Rattle.std.specs.Prelude.{◌&&◌, nat_eq, is_some, filter_map}
+use Rattle.std.specs.Cmp.Lexicographic.{pointwise}
+use Rattle.std.specs.List.{cons_option, count_by, common_prefix_len}
+use Rattle.kmn_base.specs.declared.items.Item.{Item}
+use Rattle.kmn_base.specs.declared.items.Item.TheVariants as item
+use Rattle.kmn_base.specs.declared.items.Element.{Element}
+use Rattle.kmn_base.specs.declared.items.Element.TheVariants as element
+use Rattle.kmn_base.specs.contracts.items.ElementPartialEq.TheImpl as ElementPartialEq
+use Rattle.kmn_base.specs.Lists.{characters}
+use Rattle.rule_model.specs.Match.{same_element, same_value}
+
+-- what `==` says of two elements
+equal_elements : (a b : Element) → ElementPartialEq.eq-value.it a b ≡ same_element a b
+equal_elements (element.Char c) (element.Char d) = refl
+equal_elements (element.Char c) (element.Mark n) = refl
+equal_elements (element.Char c) (element.Key flags code) = refl
+equal_elements (element.Mark m) (element.Char d) = refl
+equal_elements (element.Mark m) (element.Mark n) = refl
+equal_elements (element.Mark m) (element.Key flags code) = refl
+equal_elements (element.Key flags code) (element.Char d) = refl
+equal_elements (element.Key flags code) (element.Mark n) = refl
+equal_elements (element.Key flags code) (element.Key other other_code) = refl
+
+-- what `==` says of two values
+pub equal_values : (a b : List Element) → pointwise ElementPartialEq.eq-value.it a b ≡ same_value a b
+equal_values [] [] = refl
+equal_values [] (b ∷ others) = refl
+equal_values (a ∷ rest) [] = refl
+equal_values (a ∷ rest) (b ∷ others) = λ j. equal_elements a b j && equal_values rest others j
+
+-- where one text ends, they begin no further alike
+pub common_prefix_ended : (count : ℕ) (old new : List ℕ) → length old ≤ count → common_prefix_len nat_eq (drop count old) (drop count new) ≡ 0
+common_prefix_ended count old new e = ap (λ xs. common_prefix_len nat_eq xs (drop count new)) (drop_all count old e)
+
+nothing_alike : (xs : List ℕ) → common_prefix_len nat_eq xs [] ≡ 0
+nothing_alike [] = refl
+nothing_alike (x ∷ xs) = refl
+
+pub common_prefix_other_ended : (count : ℕ) (old new : List ℕ) → length new ≤ count → common_prefix_len nat_eq (drop count old) (drop count new) ≡ 0
+common_prefix_other_ended count old new e = ap (common_prefix_len nat_eq (drop count old)) (drop_all count new e) ∙ nothing_alike (drop count old)
+
+caught_one : {Y : Type 0} (y : Option Y) (ys : List Y) → length (cons_option y ys) ≡ cond (is_some y) 1 0 + length ys
+caught_one None ys = omega arith
+caught_one (Some y) ys = omega arith
+
+-- as many items are caught as there are catches with an item
+pub length_filter_map : {X Y : Type 0} (f : X → Option Y) (xs : List X) → length (filter_map f xs) ≡ count_by (λ x. is_some (f x)) xs
+length_filter_map f [] = refl
+length_filter_map f (x ∷ xs) = caught_one (f x) (filter_map f xs) ∙ ap (λ n. cond (is_some (f x)) 1 0 + n) (length_filter_map f xs) ∙ sym (sum_by-cons (λ x. cond (is_some (f x)) 1 0) x xs)
+
+-- two texts are alike for no more characters than the first has
+pub common_prefix_bound : (old new : List ℕ) → common_prefix_len nat_eq old new ≤ length old
+common_prefix_bound [] new = omega arith
+common_prefix_bound (x ∷ xs) [] = omega arith
+common_prefix_bound (x ∷ xs) (y ∷ ys) =
+    let behind = common_prefix_bound xs ys in
+    elim (nat_eq x y) as (λ t. cond t (1 + common_prefix_len nat_eq xs ys) 0 ≤ suc (length xs)) [ true ↦ omega arith | false ↦ omega arith ]
+
+-- a text has no more characters than items
+pub length_characters : (items : List Item) → length (characters items) ≤ length items
+length_characters [] = omega arith
+length_characters (item.Char c ∷ items) = let h = length_characters items in omega arith
+length_characters (item.Mark m ∷ items) = let h = length_characters items in omega arith

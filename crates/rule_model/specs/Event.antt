@@ -1,0 +1,153 @@
+-- What an event does to a state, or why it is refused.
+use Rattle.std.specs.Prelude.{ℕ, ◌+◌, ◌-◌, Bool, false, not, ◌&&◌, ◌||◌, nat_eq, nat_lt, nat_le, if◌then◌else◌, List, [], ◌∷◌, ◌++◌, length, take, drop, map, Option, Some, None, position, slice_set, Result, Ok, Err}
+use Rattle.kmn_base.specs.declared.items.Item.{Item}
+use Rattle.kmn_base.specs.declared.items.Element.{Element}
+use Rattle.kmn_base.specs.declared.items.Element.TheVariants as element
+use Rattle.kmn_base.specs.declared.keys.KeyPress.{KeyPress}
+use Rattle.kmn_base.specs.declared.events.Event.{Event}
+use Rattle.kmn_base.specs.declared.events.Event.TheVariants as event
+use Rattle.kmn_base.specs.declared.events.Outcome.{Outcome}
+use Rattle.kmn_base.specs.declared.codes.Code.{Code}
+use Rattle.kmn_base.specs.declared.codes.Code.TheVariants.{E1, E2}
+use Rattle.kmn_base.specs.Lists.{characters, without_last, read_again}
+use Rattle.virtual_keys.specs.Dictionary.{same_name}
+use Rattle.rule_model.specs.declared.acting.Acting.{Acting}
+use Rattle.rule_model.specs.Keyboard.{Keyboard}
+use Rattle.rule_model.specs.Enter.{is_plain_press}
+use Rattle.rule_model.specs.KeyEvent.{begin_event, after_key, outcome_of, inserted}
+
+-- a state: the list before the caret, the text after it, and of each option store, in order, its name, its current
+-- value and its saved one
+pub record State : Type 0 where
+  pub left : List Item
+  pub right : List ℕ
+  pub names : List (List ℕ)
+  pub current : List (List Element)
+  pub saved : List (Option (List Element))
+
+-- what an event did: its outcome, the text that a key inserted, and the state after it
+pub record Happening : Type 0 where
+  pub outcome : Outcome
+  pub inserted : List ℕ
+  pub after : State
+
+-- the whole text, before and after the caret
+abbrev pub whole_text : State → List ℕ
+whole_text state = characters state.left ++ state.right
+
+-- the outcome of an event that is no key
+abbrev pub no_outcome : Outcome
+no_outcome = record { delete = 0; pass = false; beeps = 0; entered = 0; put = 0; saved = 0 }
+
+-- the text is now these characters before the caret and those after it, and the left list is read again
+abbrev pub text_becomes : List ℕ → List ℕ → State → State
+text_becomes left right state = record state { left = read_again state.left left; right = right }
+
+-- the text before the caret after a key that the editor handles by itself
+abbrev pub editor_left : ℕ → List ℕ → List ℕ → List ℕ
+editor_left code left right =
+    if nat_eq code 13 then left ++ 0x0A ∷ []
+    else if nat_eq code 9 then left ++ 0x09 ∷ []
+    else if nat_eq code 37 then without_last 1 left
+    else if nat_eq code 39 then left ++ take 1 right
+    else if nat_eq code 36 then []
+    else if nat_eq code 35 then left ++ right
+    else left
+
+-- the text after the caret then
+abbrev pub editor_right : ℕ → List ℕ → List ℕ → List ℕ
+editor_right code left right =
+    if nat_eq code 37 then drop (length left - 1) left ++ right
+    else if nat_eq code 39 then drop 1 right
+    else if nat_eq code 36 then left ++ right
+    else if nat_eq code 35 then []
+    else if nat_eq code 46 then drop 1 right
+    else right
+
+-- the editor's default for a key that was passed on: only without control and alt
+abbrev pub by_editor : KeyPress → State → State
+by_editor press state =
+    let left = characters state.left in
+    if is_plain_press press
+    then text_becomes (editor_left press.code left state.right) (editor_right press.code left state.right) state
+    else text_becomes left state.right state
+
+-- the state that a press leaves
+abbrev pub after_press : KeyPress → Acting → State → State
+after_press press s state =
+    let acted = record state { left = s.left; current = s.current; saved = s.saved } in
+    if s.pass then by_editor press acted else acted
+
+-- what a press did
+abbrev pub happening_of : KeyPress → Acting → State → Happening
+happening_of press s state =
+    record { outcome = outcome_of state.left s; inserted = inserted state.left s.left; after = after_press press s state }
+
+abbrev pub key_event : Keyboard → KeyPress → State → Happening
+key_event kb press state = happening_of press (after_key kb press (begin_event state.left state.current state.saved)) state
+
+-- what an event that is no key did
+abbrev pub only_state : State → Happening
+only_state state = record { outcome = no_outcome; inserted = []; after = state }
+
+-- an option by its name: the first that has it; a store without a name is found by none
+abbrev pub has_name : List ℕ → List ℕ → Bool
+has_name name other = not (nat_eq (length other) 0) && same_name other name
+
+-- an option gets a value from the host, as current and as saved one
+abbrev pub set_option : Option ℕ → List Element → State → State
+set_option None value state = state
+set_option (Some option) value state =
+    record state { current = slice_set state.current option value; saved = slice_set state.saved option (Some value) }
+
+abbrev pub setting_event : List ℕ → List ℕ → State → State
+setting_event name value state = set_option (position (has_name name) state.names) (map element.Char value) state
+
+-- the caret moves to a place of the whole text
+abbrev pub caret_event : ℕ → State → State
+caret_event place state = text_becomes (take place (whole_text state)) (drop place (whole_text state)) state
+
+-- where the caret is after the characters from one place to another were replaced by so many
+abbrev pub moved_caret : ℕ → ℕ → ℕ → ℕ → ℕ
+moved_caret from to count caret =
+    if nat_le caret from then caret
+    else if nat_lt caret to then from + count
+    else caret - to + from + count
+
+-- the whole text after an edit
+abbrev pub edited_text : ℕ → ℕ → List ℕ → List ℕ → List ℕ
+edited_text from to text whole = take from whole ++ text ++ drop to whole
+
+abbrev pub edit_event : ℕ → ℕ → List ℕ → State → State
+edit_event from to text state =
+    let whole = edited_text from to text (whole_text state) in
+    let caret = moved_caret from to (length text) (length (characters state.left)) in
+    text_becomes (take caret whole) (drop caret whole) state
+
+-- why an event is refused: E1 for a place past the text, E2 for a text that is or would be too long
+abbrev pub edit_refusal : ℕ → ℕ → ℕ → ℕ → Option Code
+edit_refusal from to count whole =
+    if nat_lt to from || nat_lt whole to then Some E1
+    else if nat_lt 1_000_000 (whole - (to - from) + count) then Some E2
+    else None
+
+abbrev pub event_refusal : State → Event → Option Code
+event_refusal state (event.Key press) = if nat_lt 995_000 (length (whole_text state)) then Some E2 else None
+event_refusal state (event.Setting name value) = None
+event_refusal state (event.Caret place) = if nat_lt (length (whole_text state)) place then Some E1 else None
+event_refusal state (event.Edit from to text) = edit_refusal from to (length text) (length (whole_text state))
+
+-- what an event does where it is not refused
+unfoldable pub happening : Keyboard → State → Event → Happening
+happening kb state (event.Key press) = key_event kb press state
+happening kb state (event.Setting name value) = only_state (setting_event name value state)
+happening kb state (event.Caret place) = only_state (caret_event place state)
+happening kb state (event.Edit from to text) = only_state (edit_event from to text state)
+
+abbrev pub unless_refused : Option Code → Happening → Result Happening Code
+unless_refused None done = Ok done
+unless_refused (Some code) done = Err code
+
+-- an event is refused, or this happens
+abbrev pub event_of : Keyboard → State → Event → Result Happening Code
+event_of kb state event = unless_refused (event_refusal state event) (happening kb state event)

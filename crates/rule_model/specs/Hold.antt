@@ -1,0 +1,72 @@
+-- When a rule holds, and what it has then caught.
+use Rattle.std.specs.Prelude.{ℕ, ◌-◌, Bool, true, false, not, ◌&&◌, nat_eq, nat_le, if◌then◌else◌, List, [], length, drop, Option, Some, None, position, count_by}
+use Rattle.std.specs.List.{list_all, list_any}
+use Rattle.kmn_base.specs.declared.items.Item.{Item}
+use Rattle.kmn_base.specs.declared.items.Element.{Element}
+use Rattle.kmn_base.specs.declared.items.Element.TheVariants as element
+use Rattle.kmn_base.specs.declared.keys.RuleKey.{RuleKey}
+use Rattle.kmn_base.specs.declared.keys.RuleKey.TheVariants as key
+use Rattle.kmn_base.specs.declared.keys.KeyPress.{KeyPress}
+use Rattle.virtual_keys.specs.Fits.{key_fits}
+use Rattle.rule_model.specs.declared.acting.Catch.{Catch}
+use Rattle.rule_model.specs.declared.acting.Caught.{Caught}
+use Rattle.rule_model.specs.Keyboard.{Pattern, IfEqual, IfUnequal, AtStart, KeyPattern, OneKey, KeyIn, RuleMeaning}
+use Rattle.rule_model.specs.Match.{Content, same_value, takes_item, catches_from}
+
+-- whether a condition is true of a moment
+abbrev pub is_true : Content → Pattern → Bool
+is_true content (IfEqual store value) = same_value (content store) value
+is_true content (IfUnequal store value) = not (same_value (content store) value)
+is_true content pattern = true
+
+abbrev pub is_at_start : Pattern → Bool
+is_at_start AtStart = true
+is_at_start pattern = false
+
+-- how many items of the text a context looks at
+abbrev pub pattern_count : List Pattern → ℕ
+pattern_count context = count_by takes_item context
+
+-- the left list has room for the context, and with a `nul` nothing more
+abbrev pub has_room : List Pattern → List Item → Bool
+has_room context left =
+    if list_any is_at_start context then nat_eq (length left) (pattern_count context) else nat_le (pattern_count context) (length left)
+
+-- the key that an element of a key store stands for; a mark stands for none
+abbrev pub key_of_element : Element → Option RuleKey
+key_of_element (element.Char c) = Some (key.Char c)
+key_of_element (element.Mark m) = None
+key_of_element (element.Key flags code) = Some (key.Virtual flags code)
+
+abbrev pub fits_press : KeyPress → Option RuleKey → Bool
+fits_press press None = false
+fits_press press (Some wanted) = key_fits wanted press
+
+-- the first place of a key store that fits the press
+abbrev pub key_place : KeyPress → List Element → Option ℕ
+key_place press elements = position (λ e. fits_press press (key_of_element e)) elements
+
+abbrev pub some_place : Option ℕ → Option (Option ℕ)
+some_place None = None
+some_place (Some place) = Some (Some place)
+
+-- a key that fits has no place where it is one key, and its first place where it is a store; None where none fits
+abbrev pub fitting_place : Content → KeyPress → KeyPattern → Option (Option ℕ)
+fitting_place content press (OneKey wanted) = if key_fits wanted press then Some None else None
+fitting_place content press (KeyIn store) = some_place (key_place press (content store))
+
+-- what was caught, where both the context and the key were
+abbrev pub caught_by : Option (List Catch) → Option (Option ℕ) → Option Caught
+caught_by None place = None
+caught_by (Some catches) None = None
+caught_by (Some catches) (Some place) = Some (record { catches = catches; key_place = place })
+
+-- a rule holds on a left list: its conditions are true, the last items match its patterns place by place, the list has
+-- exactly these items where the context has a `nul`, and its key fits the press. Then this is what it caught
+abbrev pub holds : Content → List Item → KeyPress → RuleMeaning → Option Caught
+holds content left press rule =
+    if list_all (is_true content) rule.context && has_room rule.context left
+    then caught_by
+    (catches_from content [] rule.context (drop (length left - pattern_count rule.context) left))
+    (fitting_place content press rule.key)
+    else None

@@ -1,0 +1,76 @@
+-- A keyboard as its meaning sees it: by names as a source has it, by numbers as a compiled file has it.
+use Rattle.std.specs.Prelude.{ℕ, Bool, List, Option}
+use Rattle.kmn_base.specs.declared.items.Element.{Element}
+use Rattle.kmn_base.specs.declared.keys.RuleKey.{RuleKey}
+
+-- a store or a group, by its name or by its number
+pub data Ref : Type 0 where
+  Named : (name : List ℕ) → Ref
+  Numbered : (n : ℕ) → Ref
+
+-- an item of a context: what an item of the text has to be, or a condition; offsets count the context's items from 1
+pub data Pattern : Type 0 where
+  IsChar : (c : ℕ) → Pattern
+  IsMark : (m : ℕ) → Pattern
+  IsAny : (store : Ref) → Pattern
+  IsNotAny : (store : Ref) → Pattern
+  IsIndex : (store : Ref) → (offset : ℕ) → Pattern
+  IsContextAt : (offset : ℕ) → Pattern
+  IfEqual : (store : Ref) → (value : List Element) → Pattern
+  IfUnequal : (store : Ref) → (value : List Element) → Pattern
+  AtStart : Pattern
+
+-- an item of an output, which acts
+pub data Output : Type 0 where
+  PutChar : (c : ℕ) → Output
+  PutMark : (m : ℕ) → Output
+  PutIndex : (store : Ref) → (offset : ℕ) → Output
+  PutContext : Output
+  PutContextAt : (offset : ℕ) → Output
+  PutStore : (store : Ref) → Output
+  UseGroup : (group : Ref) → Output
+  SetOption : (store : Ref) → (value : List Element) → Output
+  SaveOption : (store : Ref) → Output
+  ResetOption : (store : Ref) → Output
+  MakeBeep : Output
+  DoNothing : Output
+  StopEvent : Output
+
+-- the key of a rule: one, or each element of a store
+pub data KeyPattern : Type 0 where
+  OneKey : (key : RuleKey) → KeyPattern
+  KeyIn : (store : Ref) → KeyPattern
+
+-- a rule with the line of its source
+pub record RuleMeaning : Type 0 where
+  pub line : ℕ
+  pub context : List Pattern
+  pub key : KeyPattern
+  pub output : List Output
+
+-- a group; its match and nomatch outputs may be absent
+pub record GroupMeaning : Type 0 where
+  pub name : List ℕ
+  pub using_keys : Bool
+  pub rules : List RuleMeaning
+  pub on_match : Option (List Output)
+  pub on_nomatch : Option (List Output)
+
+-- a store; an option is one that some condition, `set`, `save` or `reset` names
+pub record StoreMeaning : Type 0 where
+  pub name : List ℕ
+  pub elements : List Element
+  pub is_option : Bool
+
+-- which of the rules that hold goes first: the best of a source, the first of a file
+pub data Choice : Type 0 where
+  Best : Choice
+  First : Choice
+
+-- a keyboard: its Unicode start group, stores and groups, the names of its key dictionary, and its choice
+pub record Keyboard : Type 0 where
+  pub start : Ref
+  pub stores : List StoreMeaning
+  pub groups : List GroupMeaning
+  pub dictionary : List (List ℕ)
+  pub choice : Choice

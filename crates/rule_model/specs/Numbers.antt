@@ -1,0 +1,96 @@
+-- The numbers that a program's stores, groups and values have in its compiled file, and the stores that are added there.
+use Rattle.std.specs.Prelude.{ℕ, ◌+◌, Bool, nat_eq, List, [], ◌∷◌, ◌++◌, length, map, flat_map, find, position, codes, Option, Some, None, option_map, unwrap_or}
+use Rattle.std.specs.List.{join_with_byte}
+use Rattle.std.specs.Str.{bytes_eq, chars}
+use Rattle.kmn_base.specs.declared.items.Element.TheVariants as element
+use Rattle.virtual_keys.specs.Dictionary.{same_name}
+use Rattle.rule_model.specs.declared.program.SrcItem.{SrcItem}
+use Rattle.rule_model.specs.declared.program.SrcItem.TheVariants as source
+use Rattle.rule_model.specs.declared.program.GroupDef.{GroupDef}
+use Rattle.rule_model.specs.declared.program.BeginDef.{BeginDef}
+use Rattle.rule_model.specs.declared.program.Program.{Program}
+use Rattle.rule_model.specs.declared.tables.Store.{Store}
+use Rattle.rule_model.specs.Match.{same_value}
+use Rattle.rule_model.specs.Tab.{distinct_onto}
+use Rattle.rule_model.specs.Naming.{SourceNames, names_of, stores_of, rule_items, all_rules}
+use Rattle.rule_model.specs.Src.{value_elements}
+
+-- the value that an item compares with or sets
+abbrev pub item_values : SrcItem → List (List ℕ)
+item_values (source.Equal store value) = value ∷ []
+item_values (source.Unequal store value) = value ∷ []
+item_values (source.Set store value) = value ∷ []
+item_values item = []
+
+-- the values of a program, each once, by first appearance
+unfoldable pub values_of : Program → List (List ℕ)
+values_of program = distinct_onto bytes_eq [] (flat_map item_values (flat_map rule_items (all_rules program)))
+
+-- the store that a file has for a value
+abbrev pub value_store : List ℕ → Store
+value_store value = record { system = 0; name = []; elements = value_elements value }
+
+-- the store of the key dictionary, where there is a name: the names, parted by spaces
+abbrev pub dictionary_stores : List (List ℕ) → List Store
+dictionary_stores [] = []
+dictionary_stores (name ∷ names) = record { system = 34; name = []; elements = map element.Char (chars (join_with_byte 32 (name ∷ names))) } ∷ []
+
+-- the stores of a compiled file: those of the statements, the key dictionary, and one for each value
+abbrev pub compiled_stores : Program → List Store
+compiled_stores program = stores_of program ++ (dictionary_stores (names_of program).keys ++ map value_store (values_of program))
+
+-- what a program's numbers are found by: its names, stores, groups and values, and the number of the first value's store
+pub record Numbers : Type 0 where
+  pub names : SourceNames
+  pub stores : List Store
+  pub groups : List (List ℕ)
+  pub values : List (List ℕ)
+  pub first_value : ℕ
+
+-- the numbers of a program: behind the stores of the statements stands the key dictionary, if any, and then the values
+abbrev pub numbers_of : Program → Numbers
+numbers_of program =
+    record {
+      names = names_of program;
+      stores = stores_of program;
+      groups = map (λ (group : GroupDef). group.name) program.groups;
+      values = values_of program;
+      first_value = length (stores_of program) + length (dictionary_stores (names_of program).keys);
+    }
+
+-- the number of a store in the file: the place of the first that has the name
+abbrev pub number_of_store : Numbers → List ℕ → ℕ
+number_of_store numbers name = unwrap_or (position (λ (store : Store). same_name store.name name) numbers.stores) 0
+
+-- the number of a group
+abbrev pub number_of_group : Numbers → List ℕ → ℕ
+number_of_group numbers name = unwrap_or (position (λ known. same_name known name) numbers.groups) 0
+
+-- the number of the store of a value
+abbrev pub number_of_value : Numbers → List ℕ → ℕ
+number_of_value numbers value = numbers.first_value + unwrap_or (position (λ known. bytes_eq known value) numbers.values) 0
+
+-- each version that `&version` may state, with the number that a file has for it
+abbrev pub file_versions : List (List ℕ × ℕ)
+file_versions =
+    (codes "6.0", 0x0600) ∷ (codes "7.0", 0x0700) ∷ (codes "8.0", 0x0800) ∷ (codes "9.0", 0x0900) ∷ (codes "10.0", 0x0A00) ∷
+    (codes "14.0", 0x0E00) ∷ (codes "15.0", 0x0F00) ∷ (codes "16.0", 0x1000) ∷ (codes "17.0", 0x1100) ∷ []
+
+-- the version that a store of `&version` states, or 10.0 without one
+abbrev pub stated_version : Option Store → ℕ
+stated_version None = 0x0A00
+stated_version (Some store) =
+    unwrap_or (option_map (λ row. row.1) (find (λ row. same_value (value_elements row.0) store.elements) file_versions)) 0x0A00
+
+-- whether a store is `&version`
+abbrev pub is_version : Store → Bool
+is_version store = nat_eq store.system 8
+
+-- the version of the file: what the first `&version` states
+abbrev pub version_of : Program → ℕ
+version_of program = stated_version (find is_version (stores_of program))
+
+-- the number of the start group that a statement names, or what a file has for none
+abbrev pub number_of_start : Numbers → Option BeginDef → ℕ
+number_of_start numbers None = 0xFFFF_FFFF
+number_of_start numbers (Some start) = number_of_group numbers start.group

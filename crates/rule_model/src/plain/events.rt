@@ -1,0 +1,298 @@
+ghost use Rattle.std.specs.Prelude.{◌≡◌, ◌+◌, ◌-◌, ◌^◌, ◌<◌, ◌≤◌, ◌++◌, IfOk, OnOk, length, map};
+ghost use Rattle.kmn_base.specs.Lists.{characters, read_again};
+ghost use Rattle.rule_model.specs.KeyEvent.{begin_event, outcome_of};
+ghost use Rattle.rule_model.specs.Event.{whole_text, no_outcome, by_editor, key_event, only_state, setting_event, caret_event, moved_caret, edited_text, edit_event};
+ghost use Rattle.rule_model.specs.Tab.{tab};
+ghost use Rattle.rule_model.specs.Plain.{of_options, acted, given, with_text, state_of, IsMadeBy, IsPlainStep, IsStateOf, IsWithin};
+
+use crate::plain::defaults::is_plain_press;
+use crate::plain::editor::{editor_left, editor_right, joined};
+use crate::plain::entering::after_key;
+use crate::plain::player::Player;
+use crate::plain::texts::{characters, common_prefix, read_again};
+use crate::plain::values::{copies, picked, set_value, spread};
+use crate::{Acting, PlainState, Tables};
+use kmn_base::{Element, Event, Item, KeyPress, Memory, Outcome, Seq};
+use std::alloc::Global;
+
+/// An event begins on a state, with nothing done.
+#[tactic(auto, using(crate::proofs::PlainOptions::picked_options))]
+fn begin_event(player: &Player, state: &PlainState) -> Result<Acting, Memory>
+    ensures { IfOk result (λ acting. acting ≡ begin_event state.now.left
+        (of_options (tab player.now).stores state.now.current) (of_options (tab player.now).stores state.now.saved)) }
+{
+    Ok(Acting {
+        left: state.left.copy(player.alloc())?,
+        current: picked(player, state.current.as_slice())?,
+        saved: picked(player, state.saved.as_slice())?,
+        pass: false,
+        stopped: false,
+        beeps: 0,
+        entered: 0,
+        put: 0,
+        saves: 0,
+    })
+}
+
+/// The outcome of a press, from the list before and what it left.
+#[tactic(auto, using(crate::proofs::PlainLists::length_characters, crate::proofs::PlainLists::common_prefix_bound))]
+fn outcome_of(alloc: Global, old: &[Item], acting: &Acting) -> Result<Outcome, Memory>
+    requires { length old.now < 2 ^ 32 }
+    ensures { IfOk result (λ outcome. outcome ≡ outcome_of old.now acting.now) }
+{
+    let before = characters(alloc, old)?;
+    let after = characters(alloc, acting.left.as_slice())?;
+    let deleted = before.len() - common_prefix(before.as_slice(), after.as_slice());
+    Ok(Outcome {
+        delete: deleted as u32,
+        pass: acting.pass,
+        beeps: acting.beeps,
+        entered: acting.entered,
+        put: acting.put,
+        saved: acting.saves,
+    })
+}
+
+/// The state that acting left, with this outcome.
+fn acted(
+    player: &Player,
+    acting: &Acting,
+    last: Outcome,
+    state: &PlainState,
+) -> Result<PlainState, Memory>
+    ensures { IfOk result (λ after. after ≡ acted player.now acting.now last state.now) }
+{
+    Ok(PlainState {
+        left: acting.left.copy(player.alloc())?,
+        right: state.right.copy(player.alloc())?,
+        current: spread(player, state.current.as_slice(), acting.current.as_slice())?,
+        saved: spread(player, state.saved.as_slice(), acting.saved.as_slice())?,
+        last,
+    })
+}
+
+/// The state with these texts before and after the caret.
+fn text_becomes(
+    alloc: Global,
+    left: &[char],
+    right: &[char],
+    state: &PlainState,
+) -> Result<PlainState, Memory>
+    ensures { IfOk result (λ after. after ≡ record state.now {
+      left = read_again state.now.left left.now;
+      right = right.now;
+    }) }
+{
+    Ok(PlainState {
+        left: read_again(alloc, state.left.as_slice(), left)?,
+        right: Seq::from_slice(alloc, right)?,
+        current: copies(alloc, state.current.as_slice())?,
+        saved: copies(alloc, state.saved.as_slice())?,
+        last: state.last,
+    })
+}
+
+/// The editor's default for a key that was passed on.
+fn by_editor(alloc: Global, press: KeyPress, state: &PlainState) -> Result<PlainState, Memory>
+    ensures after { IfOk result (λ after. (tables : Tables) → state_of tables after ≡ by_editor press (state_of tables state.now)) }
+    ensures others { IfOk result (λ after. after ≡ record state.now { left = after.left; right = after.right }) }
+{
+    let text = characters(alloc, state.left.as_slice())?;
+    let left = text.as_slice();
+    let right = state.right.as_slice();
+    if !is_plain_press(press) {
+        return text_becomes(alloc, left, right, state);
+    }
+    let before = editor_left(alloc, press.code, left, right)?;
+    let after = editor_right(alloc, press.code, left, right)?;
+    text_becomes(alloc, before.as_slice(), after.as_slice(), state)
+}
+
+/// A key press.
+fn key_event(player: &Player, press: KeyPress, state: &PlainState) -> Result<PlainState, Memory>
+    requires { IsStateOf player.now state.now }
+    ensures { IfOk result (IsMadeBy player.now state.now (key_event (tab player.now) press (state_of player.now state.now))) }
+{
+    let mut acting = begin_event(player, state)?;
+    after_key(player, press, &mut acting)?;
+    let outcome = outcome_of(player.alloc(), state.left.as_slice(), &acting)?;
+    let after = acted(player, &acting, outcome, state)?;
+    if !acting.pass {
+        return Ok(after);
+    }
+    let edited = by_editor(player.alloc(), press, &after)?;
+    Ok(edited)
+}
+
+/// The outcome of an event that is no key.
+fn no_outcome() -> Outcome
+    ensures { result ≡ no_outcome }
+{
+    Outcome {
+        delete: 0,
+        pass: false,
+        beeps: 0,
+        entered: 0,
+        put: 0,
+        saved: 0,
+    }
+}
+
+/// Characters as elements.
+fn as_elements(alloc: Global, text: &[char]) -> Result<Seq<Element>, Memory>
+    ensures { IfOk result (λ value. value ≡ map Element.Char text.now) }
+{
+    let mut elements = Vec::new(alloc);
+    for c in text {
+        elements.push(Element::Char(*c))?;
+    }
+    Ok(Seq::from_vec(elements))
+}
+
+/// An option that there may be gets a value, as current and as saved one.
+fn give(
+    alloc: Global,
+    option: Option<usize>,
+    value: &[char],
+    acting: &mut Acting,
+) -> Result<(), Memory>
+    ensures { OnOk result (acting.new ≡ given option (map Element.Char value.now) acting.old) }
+{
+    let Some(option) = option else {
+        return Ok(());
+    };
+    let current = as_elements(alloc, value)?;
+    let saved = as_elements(alloc, value)?;
+    set_value(&mut acting.current, option, current);
+    set_value(&mut acting.saved, option, Some(saved));
+    Ok(())
+}
+
+/// The host gives an option a value.
+fn setting_event(
+    player: &Player,
+    name: &[u8],
+    value: &[char],
+    state: &PlainState,
+) -> Result<PlainState, Memory>
+    requires { IsStateOf player.now state.now }
+    ensures { IfOk result (IsMadeBy player.now state.now (only_state (setting_event name.now value.now (state_of player.now state.now)))) }
+{
+    let mut acting = begin_event(player, state)?;
+    give(
+        player.alloc(),
+        player.option_named(name),
+        value,
+        &mut acting,
+    )?;
+    let after = acted(player, &acting, no_outcome(), state)?;
+    Ok(after)
+}
+
+/// The whole text, before and after the caret.
+fn whole_text(alloc: Global, state: &PlainState) -> Result<Vec<char>, Memory>
+    ensures { IfOk result (λ text. text.items ≡ characters state.now.left ++ state.now.right) }
+{
+    let left = characters(alloc, state.left.as_slice())?;
+    joined(alloc, left.as_slice(), state.right.as_slice())
+}
+
+/// The state with a whole text and the caret at a place of it.
+fn with_text(
+    alloc: Global,
+    text: &[char],
+    caret: usize,
+    state: &PlainState,
+) -> Result<PlainState, Memory>
+    requires { caret ≤ length text.now }
+    ensures { IfOk result (λ after. after ≡ with_text text.now caret state.now) }
+{
+    let (left, right) = text.split_at(caret);
+    let mut after = text_becomes(alloc, left, right, state)?;
+    after.last = no_outcome();
+    Ok(after)
+}
+
+/// The caret moves to a place.
+fn caret_event(alloc: Global, place: u32, state: &PlainState) -> Result<PlainState, Memory>
+    requires { place ≤ length (characters state.now.left ++ state.now.right) }
+    ensures { IfOk result (λ after. (tables : Tables) → IsMadeBy tables state.now (only_state (caret_event place (state_of tables state.now))) after) }
+{
+    let whole = whole_text(alloc, state)?;
+    let after = with_text(alloc, whole.as_slice(), place as usize, state)?;
+    Ok(after)
+}
+
+/// Where the caret is after characters were replaced by so many.
+fn moved_caret(from: usize, to: usize, count: usize, caret: usize) -> usize
+    requires { from + count + (caret - to) < 2 ^ 64 }
+    ensures { result ≡ moved_caret from to count caret }
+{
+    if caret <= from {
+        caret
+    } else if caret < to {
+        from + count
+    } else {
+        caret - to + from + count
+    }
+}
+
+/// The whole text after an edit.
+fn edited_text(
+    alloc: Global,
+    from: usize,
+    to: usize,
+    text: &[char],
+    whole: &[char],
+) -> Result<Vec<char>, Memory>
+    requires { (from ≤ to) × (to ≤ length whole.now) }
+    ensures { IfOk result (λ edited. edited.items ≡ edited_text from to text.now whole.now) }
+{
+    let before = joined(alloc, &whole[..from], text)?;
+    joined(alloc, before.as_slice(), &whole[to..])
+}
+
+/// The application replaces characters.
+fn edit_event(
+    alloc: Global,
+    from: u32,
+    to: u32,
+    text: &[char],
+    state: &PlainState,
+) -> Result<PlainState, Memory>
+    requires { (from ≤ to) × (to ≤ length (characters state.now.left ++ state.now.right)) }
+    ensures { IfOk result (λ after. (tables : Tables) → IsMadeBy tables state.now (only_state (edit_event from to text.now (state_of tables state.now))) after) }
+{
+    let before = characters(alloc, state.left.as_slice())?;
+    let whole = joined(alloc, before.as_slice(), state.right.as_slice())?;
+    let edited = edited_text(alloc, from as usize, to as usize, text, whole.as_slice())?;
+    let caret = moved_caret(from as usize, to as usize, text.len(), before.len());
+    let after = with_text(alloc, edited.as_slice(), caret, state)?;
+    Ok(after)
+}
+
+/// What an event does to a state, by the meaning of tables. The limits of an event's text are not looked at.
+#[tactic(auto, unfolding(crate::specs::Event::happening))]
+pub fn plain_event(
+    alloc: Global,
+    tables: &Tables,
+    state: &PlainState,
+    event: &Event,
+) -> Result<PlainState, Memory>
+    requires state { IsStateOf tables.now state.now }
+    requires places { IsWithin (whole_text (state_of tables.now state.now)) event.now }
+    ensures { IfOk result (IsPlainStep tables.now state.now event.now) }
+{
+    let player = Player::new(alloc, tables)?;
+    match event {
+        Event::Key(press) => key_event(&player, *press, state),
+        Event::Setting { name, value } => setting_event(
+            &player,
+            name.as_slice(),
+            value.as_slice(),
+            state,
+        ),
+        Event::Caret(place) => caret_event(alloc, *place, state),
+        Event::Edit { from, to, text } => edit_event(alloc, *from, *to, text.as_slice(), state),
+    }
+}

@@ -1,0 +1,110 @@
+ghost use Rattle.std.specs.Prelude.{◌≡◌, ◌+◌, [], ◌∷◌, IfOk, OnOk, find, filter_map, encode_utf8_all, length, option_copied, nat_eq, not, filter, position};
+ghost use Rattle.std.specs.List.{slice_split, list_any};
+ghost use Rattle.std.specs.String.{string_bytes};
+ghost use Rattle.virtual_keys.specs.Dictionary.{same_name};
+ghost use Rattle.rule_model.specs.Tab.{store_elements, is_dictionary, element_char, words, distinct_onto, tab_dictionary};
+ghost use Rattle.rule_model.specs.Plain.{words_left, bytes_left};
+
+use crate::Store;
+use kmn_base::{Element, Memory, Seq, Text};
+use std::alloc::Global;
+
+/// The id of the store that has the key dictionary.
+const DICTIONARY: u32 = 34;
+
+/// The elements of the store that has the key dictionary.
+fn dictionary_elements(stores: &[Store]) -> &[Element]
+    ensures { result.now ≡ store_elements (find is_dictionary stores.now) }
+{
+    for store in stores {
+        if store.system == DICTIONARY {
+            return store.elements.as_slice();
+        }
+    }
+    &[]
+}
+
+/// The characters among elements, as UTF-8.
+fn element_text(alloc: Global, elements: &[Element]) -> Result<String, Memory>
+    ensures { IfOk result (λ text. string_bytes text ≡ encode_utf8_all (filter_map element_char elements.now)) }
+{
+    let mut text = String::new(alloc);
+    for element in elements {
+        if let Element::Char(c) = element {
+            text.push(*c)?;
+        }
+    }
+    Ok(text)
+}
+
+/// The place of the first space of a text.
+fn first_space(text: &[u8]) -> Option<usize>
+    ensures { result ≡ position (nat_eq 32) text.now }
+{
+    text.iter().position(|byte| *byte == b' ')
+}
+
+/// A text up to its first space, and what stands behind that.
+#[tactic(auto, using(crate::proofs::PlainWords::words_parted, crate::proofs::PlainWords::words_alone))]
+fn first_word(text: &[u8]) -> (&[u8], Option<&[u8]>)
+    ensures parts { slice_split (nat_eq 32) text.now ≡ result.0.now ∷ words_left (option_copied result.1) }
+    ensures sizes { length result.0.now + bytes_left (option_copied result.1) ≡ length text.now }
+{
+    match first_space(text) {
+        Some(at) => (&text[..at], Some(&text[at + 1..])),
+        None => (text, None),
+    }
+}
+
+/// Whether two names are the same, without ASCII case.
+#[tactic(auto, unfolding(virtual_keys::specs::Dictionary::same_name))]
+pub fn same_name(known: &[u8], name: &[u8]) -> bool
+    ensures { result ≡ same_name known.now name.now }
+{
+    known.eq_ignore_ascii_case(name)
+}
+
+/// Whether a name is among names, without ASCII case.
+fn is_among(names: &[Text], name: &[u8]) -> bool
+    ensures { result ≡ list_any (λ known. same_name known name.now) names.now }
+{
+    for known in names {
+        if same_name(known.as_slice(), name) {
+            return true;
+        }
+    }
+    false
+}
+
+/// Appends a word, unless it is empty or the same as a name before it.
+fn add_word(alloc: Global, names: &mut Vec<Text>, word: &[u8]) -> Result<(), Memory>
+    ensures { OnOk result (names.new.items ≡ distinct_onto same_name names.old.items (filter (λ w. not (nat_eq (length w) 0)) (word.now ∷ []))) }
+{
+    if !word.is_empty() && !is_among(names.as_slice(), word) {
+        names.push(Seq::from_slice(alloc, word)?)?;
+    }
+    Ok(())
+}
+
+/// The words of a text, each once.
+fn distinct_words(alloc: Global, text: &[u8]) -> Result<Vec<Text>, Memory>
+    ensures { IfOk result (λ names. names.items ≡ distinct_onto same_name [] (words text.now)) }
+{
+    let mut names = Vec::new(alloc);
+    let mut left = Some(text);
+    while let Some(text) = left {
+        let (word, behind) = first_word(text);
+        add_word(alloc, &mut names, word)?;
+        left = behind;
+    }
+    Ok(names)
+}
+
+/// The names of the key dictionary.
+#[tactic(auto, unfolding(crate::specs::Tab::tab_dictionary))]
+pub fn own_keys(alloc: Global, stores: &[Store]) -> Result<Vec<Text>, Memory>
+    ensures { IfOk result (λ names. names.items ≡ tab_dictionary stores.now) }
+{
+    let text = element_text(alloc, dictionary_elements(stores))?;
+    distinct_words(alloc, text.as_bytes())
+}

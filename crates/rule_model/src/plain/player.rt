@@ -1,0 +1,179 @@
+ghost use Rattle.std.specs.Prelude.{◌≡◌, [], IfOk, option_copied, slice_get, unwrap_or, position};
+ghost use Rattle.std.specs.Option.{option_flatten};
+ghost use Rattle.virtual_keys.specs.Dictionary.{name_in};
+ghost use Rattle.rule_model.specs.Keyboard.{Numbered};
+ghost use Rattle.rule_model.specs.Content.{option_number};
+ghost use Rattle.rule_model.specs.Match.{element_at};
+ghost use Rattle.rule_model.specs.Act.{content_now};
+ghost use Rattle.rule_model.specs.Event.{has_name};
+ghost use Rattle.rule_model.specs.Plain.{option_numbers, option_names, option_named};
+ghost use Rattle.rule_model.specs.Tab.{elements_of, tab};
+
+use crate::plain::options::option_numbers;
+use crate::plain::own_keys::{own_keys, same_name};
+use crate::{Acting, Group, Store, Tables};
+use kmn_base::{Element, Memory, Text};
+use std::alloc::Global;
+use std::marker::Model;
+
+/// Tables with what events look up: the option number of each store, and the names of the key dictionary.
+#[derive(Drop)]
+pub struct Player<'a> {
+    alloc: Global,
+    tables: &'a Tables,
+    numbers: Vec<Option<usize>>,
+    names: Vec<Text>,
+}
+
+impl<'a> Model for Player<'a> {
+    ghost use Rattle.std.specs.Prelude.{◌≡◌};
+    ghost use Rattle.rule_model.specs.declared.tables.Tables.{Tables};
+    ghost use Rattle.rule_model.specs.Plain.{option_numbers};
+    ghost use Rattle.rule_model.specs.Tab.{tab};
+
+    ghost Value = { Tables };
+
+    ghost view = { λ player. player.tables.now };
+
+    ghost invariant = { λ player.
+        (player.numbers.items ≡ option_numbers 0 (tab player.tables.now).stores)
+        × (player.names.items ≡ (tab player.tables.now).dictionary) };
+}
+
+impl<'a> Player<'a> {
+    /// Looks up what the events of tables need.
+    #[tactic(auto, unfolding(crate::specs::Tab::tab))]
+    pub fn new(alloc: Global, tables: &'a Tables) -> Result<Player<'a>, Memory>
+        ensures { IfOk result (λ player. player ≡ tables.now) }
+    {
+        let numbers = option_numbers(alloc, tables)?;
+        let names = own_keys(alloc, tables.stores.as_slice())?;
+        Ok(Player {
+            alloc,
+            tables,
+            numbers,
+            names,
+        })
+    }
+
+    /// The allocator.
+    pub fn alloc(&self) -> Global {
+        self.alloc
+    }
+
+    /// The number of the Unicode start group.
+    pub fn start(&self) -> u32
+        ensures { result ≡ self.now.start_unicode }
+    {
+        self.tables.start_unicode
+    }
+
+    /// The option number of each store.
+    pub fn numbers(&self) -> &[Option<usize>]
+        ensures { result.now ≡ option_numbers 0 (tab self.now).stores }
+    {
+        self.numbers.as_slice()
+    }
+
+    /// The elements of a store, none where there is no such store.
+    pub fn elements(&self, store: u32) -> &[Element]
+        ensures { result.now ≡ elements_of self.now.stores store }
+    {
+        match self.tables.stores.as_slice().get(store as usize) {
+            Some(store) => store.elements.as_slice(),
+            None => &[],
+        }
+    }
+
+    /// The option number of a store.
+    #[tactic(auto, using(crate::proofs::PlainOptions::number_found))]
+    pub fn option_number(&self, store: u32) -> Option<usize>
+        ensures { result ≡ option_number (tab self.now).stores (Numbered store) }
+    {
+        number_at(self.numbers.as_slice(), store)
+    }
+
+    /// What a store has at a moment: the current value of an option, else its elements.
+    #[tactic(auto, using(crate::proofs::PlainOptions::content_of_option, crate::proofs::PlainOptions::content_of_other, crate::proofs::PlainOptions::elements_with_options), unfolding(crate::specs::Tab::tab))]
+    pub fn content<'b>(&'b self, acting: &'b Acting, store: u32) -> &'b [Element]
+        ensures { result.now ≡ content_now (tab self.now) acting.now (Numbered store) }
+    {
+        match self.option_number(store) {
+            Some(option) => value_at(acting, option),
+            None => self.elements(store),
+        }
+    }
+
+    /// The element at a place of what a store has at a moment, where there is such a place.
+    pub fn element(&self, acting: &Acting, store: u32, place: Option<usize>) -> Option<Element>
+        ensures { result ≡ element_at (content_now (tab self.now) acting.now (Numbered store)) place }
+    {
+        self.content(acting, store).get(place?).copied()
+    }
+
+    /// The number of the first option of a name; a store without a name is found by none.
+    #[tactic(auto, using(crate::proofs::PlainOptions::first_named), unfolding(crate::specs::Tab::tab))]
+    pub fn option_named(&self, name: &[u8]) -> Option<usize>
+        ensures { result ≡ position (has_name name.now) (option_names (tab self.now).stores) }
+    {
+        option_named(name, self.numbers.as_slice(), self.tables.stores.as_slice())
+    }
+
+    /// The group of a number.
+    pub fn group(&self, group: u32) -> Option<&Group>
+        ensures { option_copied result ≡ slice_get self.now.groups group }
+    {
+        self.tables.groups.as_slice().get(group as usize)
+    }
+
+    /// The name in the key dictionary that has a code.
+    pub fn own_key(&self, code: u16) -> Option<&[u8]>
+        ensures { option_copied result ≡ name_in (tab self.now).dictionary code }
+    {
+        if code < 256 {
+            return None;
+        }
+        match self.names.as_slice().get(code as usize - 256) {
+            Some(name) => Some(name.as_slice()),
+            None => None,
+        }
+    }
+}
+
+/// The option number in a list of numbers by store.
+fn number_at(numbers: &[Option<usize>], store: u32) -> Option<usize>
+    ensures { result ≡ option_flatten (slice_get numbers.now store) }
+{
+    numbers.get(store as usize).copied().flatten()
+}
+
+/// The current value of an option, empty where there is no such option.
+pub fn value_at(acting: &Acting, option: usize) -> &[Element]
+    ensures { result.now ≡ unwrap_or (slice_get acting.now.current option) [] }
+{
+    match acting.current.as_slice().get(option) {
+        Some(value) => value.as_slice(),
+        None => &[],
+    }
+}
+
+/// Whether an option has a name.
+fn has_name(name: &[u8], other: &[u8]) -> bool
+    ensures { result ≡ has_name name.now other.now }
+{
+    !other.is_empty() && same_name(other, name)
+}
+
+/// The option number of the first store of a name that has one.
+#[tactic(auto, using(crate::proofs::PlainOptions::named_ended))]
+fn option_named(name: &[u8], numbers: &[Option<usize>], stores: &[Store]) -> Option<usize>
+    ensures { result ≡ option_named name.now numbers.now stores.now }
+{
+    for n in 0..numbers.len().min(stores.len()) {
+        let store = &stores[n];
+        if numbers[n].is_some() && has_name(name, store.name.as_slice()) {
+            return numbers[n];
+        }
+    }
+    None
+}

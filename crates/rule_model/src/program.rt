@@ -1,0 +1,90 @@
+use kmn_base::{Seq, Text};
+
+/// A virtual key of a source: shift flags as the file has them, with the bit `0x4000`, and a code or, where the code is
+/// 0, a name of the key dictionary.
+#[derive(Drop)]
+pub struct KeyName {
+    pub flags: u16,
+    pub code: u16,
+    pub name: Text,
+}
+
+/// One item of a store, a context, a key or an output, by the names that the source has. Offsets count the items of
+/// the context from 1, and the key stands one place after the last.
+#[derive(Drop)]
+pub enum SrcItem {
+    Char(char),
+    Dead(Text),
+    Key(KeyName),
+    Any(Text),
+    NotAny(Text),
+    Index(Text, u32),
+    Context,
+    ContextAt(u32),
+    Equal(Text, Seq<char>),
+    Unequal(Text, Seq<char>),
+    Nul,
+    Outs(Text),
+    Enter(Text),
+    Set(Text, Seq<char>),
+    Save(Text),
+    Reset(Text),
+    Beep,
+    Stop,
+    Call(Text),
+    /// An item of the language that this product leaves out.
+    OutOfProfile,
+}
+
+/// A store statement. `system` is 0 for an ordinary store, else the id of a system store, `0xFFFE` for one that is
+/// left out and `0xFFFF` for one that is read and dropped; `name` is empty for each but an ordinary store.
+#[derive(Drop)]
+pub struct StoreDef {
+    pub line: u32,
+    pub system: u32,
+    pub name: Text,
+    pub items: Seq<SrcItem>,
+}
+
+/// Whether a rule stands for itself or is what a group does after a match, or where nothing matches.
+#[derive(Clone, Copy, Debug, PartialEq, Eq)]
+pub enum RuleKind {
+    Plain,
+    OnMatch,
+    OnNoMatch,
+}
+
+/// A rule, match or nomatch statement, with the number of its first physical line, from 1.
+#[derive(Drop)]
+pub struct RuleDef {
+    pub line: u32,
+    pub kind: RuleKind,
+    pub context: Seq<SrcItem>,
+    pub key: Option<SrcItem>,
+    pub output: Seq<SrcItem>,
+}
+
+/// A group statement with the rules that follow it.
+#[derive(Drop)]
+pub struct GroupDef {
+    pub line: u32,
+    pub name: Text,
+    pub using_keys: bool,
+    pub rules: Seq<RuleDef>,
+}
+
+/// A begin statement, of the kind `Unicode` or `ANSI`.
+#[derive(Drop)]
+pub struct BeginDef {
+    pub line: u32,
+    pub unicode: bool,
+    pub group: Text,
+}
+
+/// The statements of a source.
+#[derive(Drop)]
+pub struct Program {
+    pub stores: Seq<StoreDef>,
+    pub begins: Seq<BeginDef>,
+    pub groups: Seq<GroupDef>,
+}

@@ -1,0 +1,11 @@
+use kmn_base::{Element, Item, Outcome, Seq};
+
+/// What a keyboard's tables act on, and what the last event did. Values stand by store number.
+#[derive(Drop)]
+pub struct PlainState {
+    pub left: Seq<Item>,
+    pub right: Seq<char>,
+    pub current: Seq<Seq<Element>>,
+    pub saved: Seq<Option<Seq<Element>>>,
+    pub last: Outcome,
+}

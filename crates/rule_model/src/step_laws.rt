@@ -1,0 +1,81 @@
+//! Laws of a keyboard's steps, each the contract of a function with an empty body. They hold for every keyboard.
+
+ghost use Rattle.rule_model.specs.StepLaws.{BeforeIsTransitive, BestGoesBeforeOthers, BestIsBest, BestIsNone, DefaultKeepsSound, EachEventHasItsStep, EditGivesTheText, EditIsShort, EventKeepsSound, EventKeepsTextInBounds, FirstIsFirst, FirstIsNone, GroupKeepsSound, GroupsKeepSound, ItemKeepsSound, NoMoreStepsThanEvents, NoneBeforeItself, OneGoesBefore, OneIsBest, OnlyKeysAct, OutputKeepsSound, PressAddsWhatItPuts, PressEditsTheText, PressIsWithinBudget, PressKeepsSound, RefusalFollowsTheSteps, StepsAreNumbered, StepsAreSound, StepsAreWithinBudget, StepsKeepTextInBounds};
+ghost use Rattle.rule_model.specs.Choose.{goes_before};
+ghost use Rattle.std.specs.Cmp.{IsStrictWeakOrder};
+
+/// Which of two rules goes before the other is an order, in which two rules with different lines are never alike.
+#[tactic(auto, using(crate::proofs::Choosing::goes_before_is_weak_order, crate::proofs::Choosing::none_before_itself, crate::proofs::Choosing::before_is_transitive, crate::proofs::Choosing::one_goes_before))]
+pub fn going_before_is_an_order()
+    ensures weak_order { IsStrictWeakOrder goes_before }
+    ensures irreflexive { NoneBeforeItself }
+    ensures transitive { BeforeIsTransitive }
+    ensures total { OneGoesBefore }
+{}
+
+/// A file's choice: the first rule of a list that holds.
+#[tactic(auto, using(crate::proofs::Choosing::first_is_none))]
+pub fn first_holds_first()
+    ensures none { FirstIsNone }
+    ensures some { FirstIsFirst }
+{}
+
+/// A source's choice: of the rules that hold one that no other goes before, and where lines differ the only one.
+#[tactic(auto, using(crate::proofs::Choosing::best_is_none, crate::proofs::Choosing::best_goes_before_others))]
+pub fn best_goes_before_others()
+    ensures none { BestIsNone }
+    ensures some { BestIsBest }
+    ensures only { OneIsBest }
+    ensures before_others { BestGoesBeforeOthers }
+{}
+
+/// No key event enters more than 50 groups or puts more than 4,096 items, and other events do neither.
+#[tactic(auto, using(crate::proofs::Budget::press_is_within_budget, crate::proofs::Budget::steps_are_within_budget, crate::proofs::Budget::only_keys_act))]
+pub fn events_are_within_budget()
+    ensures press { PressIsWithinBudget }
+    ensures steps { StepsAreWithinBudget }
+    ensures others { OnlyKeysAct }
+{}
+
+/// The steps of a trace count from 1, one for each event up to the end or the refused one.
+#[tactic(auto, using(crate::proofs::Steps::steps_are_numbered, crate::proofs::Steps::no_more_steps_than_events, crate::proofs::Steps::each_event_has_its_step, crate::proofs::Steps::refusal_follows_the_steps))]
+pub fn steps_count_events()
+    ensures numbers { StepsAreNumbered }
+    ensures at_most { NoMoreStepsThanEvents }
+    ensures each { EachEventHasItsStep }
+    ensures refused { RefusalFollowsTheSteps }
+{}
+
+/// Whatever acts in a key event, each mark of a sound list stays among the last 64 items.
+#[tactic(auto, using(crate::proofs::Soundness::item_keeps_sound, crate::proofs::Soundness::output_keeps_sound, crate::proofs::Soundness::default_keeps_sound, crate::proofs::Soundness::group_keeps_sound, crate::proofs::Soundness::groups_keep_sound, crate::proofs::Soundness::press_keeps_sound))]
+pub fn acting_keeps_sound()
+    ensures item { ItemKeepsSound }
+    ensures output { OutputKeepsSound }
+    ensures default { DefaultKeepsSound }
+    ensures group { GroupKeepsSound }
+    ensures groups { GroupsKeepSound }
+    ensures press { PressKeepsSound }
+{}
+
+/// Each event keeps the list before the caret sound, and so each state of a trace has a sound one.
+#[tactic(auto, using(crate::proofs::Soundness::event_keeps_sound, crate::proofs::Soundness::steps_are_sound))]
+pub fn events_keep_sound()
+    ensures event { EventKeepsSound }
+    ensures steps { StepsAreSound }
+{}
+
+/// The edit that a key event reports makes the new text of the old one, and repeats nothing that both begin with.
+#[tactic(auto, using(crate::proofs::Edits::edit_gives_the_text, crate::proofs::Edits::edit_is_short))]
+pub fn edits_give_the_text()
+    ensures text { EditGivesTheText }
+    ensures short { EditIsShort }
+    ensures press { PressEditsTheText }
+{}
+
+/// The whole text of a trace has at most 1,000,000 characters: a press adds at most what it puts, and is refused in time.
+#[tactic(auto, using(crate::proofs::Bounds::press_adds_what_it_puts, crate::proofs::Bounds::event_keeps_text_in_bounds, crate::proofs::Bounds::steps_keep_text_in_bounds))]
+pub fn text_stays_in_bounds()
+    ensures press { PressAddsWhatItPuts }
+    ensures event { EventKeepsTextInBounds }
+    ensures steps { StepsKeepTextInBounds }
+{}

@@ -1,0 +1,75 @@
+use kmn_base::{Element, RuleKey, Seq, Text};
+
+/// An item of a compiled context. Stores count from 0, offsets from 1.
+#[derive(Clone, Copy, Debug, PartialEq, Eq)]
+pub enum Pat {
+    Char(char),
+    Mark(u16),
+    Any(u32),
+    NotAny(u32),
+    /// Store and offset.
+    Index(u32, u32),
+    ContextAt(u32),
+    /// Store and value store.
+    Equal(u32, u32),
+    Unequal(u32, u32),
+    Nul,
+}
+
+/// An item of a compiled output. Stores and groups count from 0, offsets from 1.
+#[derive(Clone, Copy, Debug, PartialEq, Eq)]
+pub enum Out {
+    Char(char),
+    Mark(u16),
+    /// Store and offset.
+    Index(u32, u32),
+    Context,
+    ContextAt(u32),
+    Enter(u32),
+    /// Store and value store.
+    Set(u32, u32),
+    Save(u32),
+    Reset(u32),
+    Nul,
+    Beep,
+    Stop,
+}
+
+/// A key record. `line` is the source's line, `place` the place in the key store of the source, else 0; a file does
+/// not keep the place.
+#[derive(Drop)]
+pub struct Rule {
+    pub line: u32,
+    pub place: u32,
+    pub key: RuleKey,
+    pub context: Seq<Pat>,
+    pub output: Seq<Out>,
+}
+
+/// A store of a file. `system` is its system id, 0 for an ordinary one.
+#[derive(Drop)]
+pub struct Store {
+    pub system: u32,
+    pub name: Text,
+    pub elements: Seq<Element>,
+}
+
+/// A group of a file. An empty `on_match` or `on_nomatch` is absent.
+#[derive(Drop)]
+pub struct Group {
+    pub name: Text,
+    pub using_keys: bool,
+    pub rules: Seq<Rule>,
+    pub on_match: Seq<Out>,
+    pub on_nomatch: Seq<Out>,
+}
+
+/// All that a compiled file says of a keyboard. A start group of `0xFFFF_FFFF` is none.
+#[derive(Drop)]
+pub struct Tables {
+    pub version: u16,
+    pub start_ansi: u32,
+    pub start_unicode: u32,
+    pub stores: Seq<Store>,
+    pub groups: Seq<Group>,
+}
