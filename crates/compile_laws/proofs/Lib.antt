@@ -1,0 +1,17 @@
+pub mod Places
+pub mod Linked
+pub mod Traces
+pub mod Keyboards
+pub mod Patterns
+pub mod Outputs
+pub mod Least
+pub mod Known
+pub mod Records
+pub mod Choices
+pub mod Values
+pub mod Groups
+pub mod Dictionary
+pub mod Stores
+pub mod Whole
+pub mod Options
+pub mod Examples
