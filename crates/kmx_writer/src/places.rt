@@ -1,0 +1,45 @@
+ghost use Rattle.kmx_writer.specs.Places.{ArePlaces};
+ghost use Rattle.kmx_writer.specs.Spellings.{AreSpellable};
+
+use crate::{groups, stores};
+use rule_model::Tables;
+
+pub(crate) const HEADER_BYTES: u64 = 64;
+
+const STORE_BYTES: u64 = 12;
+
+const GROUP_BYTES: u64 = 24;
+
+const RULE_BYTES: u64 = 20;
+
+/// Where the parts of a file begin behind its header and its store array, in bytes.
+#[derive(Clone, Copy, Debug, PartialEq, Eq)]
+pub(crate) struct Places {
+    pub(crate) groups: u64,
+    pub(crate) rules: u64,
+    pub(crate) store_strings: u64,
+    pub(crate) group_strings: u64,
+    pub(crate) rule_strings: u64,
+    pub(crate) picture: u64,
+}
+
+/// Where the parts of the tables' file begin.
+pub(crate) fn places_of(tables: &Tables) -> Places
+    requires { AreSpellable tables.now }
+    ensures { ArePlaces tables.now result }
+{
+    let groups = HEADER_BYTES + STORE_BYTES * tables.stores.len() as u64;
+    let rules = groups + GROUP_BYTES * tables.groups.len() as u64;
+    let store_strings = rules + RULE_BYTES * groups::rule_count(tables.groups.as_slice());
+    let group_strings = store_strings + stores::all_strings_size(tables.stores.as_slice());
+    let rule_strings = group_strings + groups::all_strings_size(tables.groups.as_slice());
+    let picture = rule_strings + groups::rule_strings_size(tables.groups.as_slice());
+    Places {
+        groups,
+        rules,
+        store_strings,
+        group_strings,
+        rule_strings,
+        picture,
+    }
+}

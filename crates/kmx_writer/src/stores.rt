@@ -1,0 +1,75 @@
+//! The store array of a file, and the strings of stores.
+
+ghost use Rattle.std.specs.Prelude.{◌≡◌, ◌+◌, ◌<◌, ◌^◌, ◌++◌, length, IfOk, OnOk};
+ghost use Rattle.std.specs.List.{All, flat_map};
+ghost use Rattle.rule_model.specs.File.{store_strings, store_record, store_records};
+ghost use Rattle.rule_model.specs.Writable.{IsWritableStore};
+
+use crate::names::{name_size, put_name};
+use crate::spelled::{put_string, string_size};
+use crate::units::{offset_of, put_words};
+use kmn_base::Memory;
+use rule_model::Store;
+
+/// How many bytes the strings of a store take.
+fn strings_size(store: &Store) -> u64
+    requires writable { IsWritableStore store.now }
+    requires fits { length (store_strings store.now) < 2 ^ 62 }
+    ensures { result ≡ length (store_strings store.now) }
+{
+    name_size(store.name.as_slice()) + string_size(store.elements.as_slice())
+}
+
+/// How many bytes the strings of all stores take.
+pub(crate) fn all_strings_size(stores: &[Store]) -> u64
+    requires writable { All IsWritableStore stores.now }
+    requires fits { length (flat_map store_strings stores.now) < 2 ^ 62 }
+    ensures { result ≡ length (flat_map store_strings stores.now) }
+{
+    let mut size = 0;
+    for store in stores {
+        size += strings_size(store);
+    }
+    size
+}
+
+/// Puts the record of a store whose strings begin at a place, and answers the place behind them.
+#[tactic(auto, using(crate::proofs::Strings::offset_of_string))]
+fn put_record(out: &mut Vec<u8>, place: u32, store: &Store) -> Result<u32, Memory>
+    requires writable { IsWritableStore store.now }
+    requires fits { place + length (store_strings store.now) < 2 ^ 32 }
+    ensures next { IfOk result (λ next. next ≡ place + length (store_strings store.now)) }
+    ensures bytes { OnOk result (out.new.items ≡ out.old.items ++ store_record place store.now) }
+{
+    let name_bytes = name_size(store.name.as_slice()) as u32;
+    let element_bytes = string_size(store.elements.as_slice()) as u32;
+    let name = offset_of(name_bytes, place);
+    let elements = offset_of(element_bytes, place + name_bytes);
+    put_words(out, &[store.system, name, elements])?;
+    Ok(place + name_bytes + element_bytes)
+}
+
+/// Puts the store array, where the strings of stores begin at a place.
+pub(crate) fn put_records(out: &mut Vec<u8>, place: u32, stores: &[Store]) -> Result<(), Memory>
+    requires writable { All IsWritableStore stores.now }
+    requires fits { place + length (flat_map store_strings stores.now) < 2 ^ 32 }
+    ensures { OnOk result (out.new.items ≡ out.old.items ++ store_records place stores.now) }
+{
+    let mut place = place;
+    for store in stores {
+        place = put_record(out, place, store)?;
+    }
+    Ok(())
+}
+
+/// Puts the strings of stores.
+pub(crate) fn put_strings(out: &mut Vec<u8>, stores: &[Store]) -> Result<(), Memory>
+    requires { All IsWritableStore stores.now }
+    ensures { OnOk result (out.new.items ≡ out.old.items ++ flat_map store_strings stores.now) }
+{
+    for store in stores {
+        put_name(out, store.name.as_slice())?;
+        put_string(out, store.elements.as_slice())?;
+    }
+    Ok(())
+}
