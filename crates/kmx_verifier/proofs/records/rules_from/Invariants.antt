@@ -1,0 +1,6 @@
+use Rattle.std.proofs.Common.{◌≡◌, ◌+◌, ◌-◌, ◌*◌, ◌++◌}
+use Rattle.rule_model.specs.TablesOf.{rules_from}
+use Rattle.kmx_verifier.proofs.records.rules_from.Given as goal
+
+abbrev pub invariant-loop-i : goal.invariant-loop-i
+invariant-loop-i l = l.rules.items ++ rules_from l.bytes l.using_keys (l.place + 20 * l.i) (l.count - l.i) ≡ rules_from l.bytes l.using_keys l.place l.count

@@ -1,0 +1,6 @@
+use Rattle.std.proofs.Common.{◌≡◌, ◌+◌, ◌-◌, ◌*◌, ◌++◌}
+use Rattle.rule_model.specs.TablesOf.{stores_from}
+use Rattle.kmx_verifier.proofs.records.stores_from.Given as goal
+
+abbrev pub invariant-loop-i : goal.invariant-loop-i
+invariant-loop-i l = l.stores.items ++ stores_from l.bytes (l.place + 12 * l.i) (l.count - l.i) ≡ stores_from l.bytes l.place l.count

@@ -1,0 +1,16 @@
+//! A compiled keyboard file that is known to be sound, with the tables that were read from it.
+//!
+//! It stands on `kmn_base` and `rule_model`. The layers above open a file here and use a `Verified`, whose tables are
+//! those that its bytes have.
+#![tactic(auto)]
+
+mod items;
+mod numbers;
+mod records;
+mod strings;
+mod verified;
+
+pub use verified::{Fault, Verified, VerifyError, adopt};
+
+#[cfg(test)]
+mod tests;

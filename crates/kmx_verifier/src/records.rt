@@ -1,0 +1,128 @@
+//! The records of a file, and all its tables, read at their places.
+
+ghost use Rattle.std.specs.Prelude.{◌≡◌, ◌<◌, ◌^◌, IfOk};
+ghost use Rattle.rule_model.specs.TablesOf.{store_at, stores_from, key_of, rule_at, rules_from, group_at, groups_from, tables_of};
+
+use crate::items::{elements_at, outputs_at, patterns_at};
+use crate::numbers::{half_at, word_at};
+use crate::strings::name_at;
+use kmn_base::{Memory, RuleKey, Seq};
+use rule_model::{Group, Rule, Store, Tables};
+use std::alloc::Global;
+
+const STORE_BYTES: usize = 12;
+
+const GROUP_BYTES: usize = 24;
+
+const RULE_BYTES: usize = 20;
+
+fn store_at(alloc: Global, bytes: &[u8], place: usize) -> Result<Store, Memory>
+    requires { place < 2 ^ 62 }
+    ensures { IfOk result (λ store. store ≡ store_at bytes.now place) }
+{
+    Ok(Store {
+        system: word_at(bytes, place),
+        name: name_at(alloc, bytes, word_at(bytes, place + 4))?,
+        elements: elements_at(alloc, bytes, word_at(bytes, place + 8))?,
+    })
+}
+
+fn stores_from(alloc: Global, bytes: &[u8], place: u32, count: u32) -> Result<Seq<Store>, Memory>
+    ensures { IfOk result (λ stores. stores ≡ stores_from bytes.now place count) }
+{
+    let mut stores = Vec::new(alloc);
+    for i in 0..count as usize {
+        let store = store_at(alloc, bytes, place as usize + STORE_BYTES * i)?;
+        stores.push(store)?;
+    }
+    Ok(Seq::from_vec(stores))
+}
+
+fn key_of(using_keys: bool, code: u16, flags: u32) -> RuleKey
+    ensures { result ≡ key_of using_keys code flags }
+{
+    if !using_keys {
+        RuleKey::Any
+    } else if flags == 0 {
+        RuleKey::Char(code)
+    } else {
+        RuleKey::Virtual { flags, code }
+    }
+}
+
+fn rule_at(alloc: Global, bytes: &[u8], using_keys: bool, place: usize) -> Result<Rule, Memory>
+    requires { place < 2 ^ 62 }
+    ensures { IfOk result (λ rule. rule ≡ rule_at bytes.now using_keys place) }
+{
+    let key = key_of(using_keys, half_at(bytes, place), word_at(bytes, place + 8));
+    Ok(Rule {
+        line: word_at(bytes, place + 4),
+        place: 0,
+        key,
+        context: patterns_at(alloc, bytes, word_at(bytes, place + 16))?,
+        output: outputs_at(alloc, bytes, word_at(bytes, place + 12))?,
+    })
+}
+
+fn rules_from(
+    alloc: Global,
+    bytes: &[u8],
+    using_keys: bool,
+    place: u32,
+    count: u32,
+) -> Result<Seq<Rule>, Memory>
+    ensures { IfOk result (λ rules. rules ≡ rules_from bytes.now using_keys place count) }
+{
+    let mut rules = Vec::new(alloc);
+    for i in 0..count as usize {
+        let rule = rule_at(alloc, bytes, using_keys, place as usize + RULE_BYTES * i)?;
+        rules.push(rule)?;
+    }
+    Ok(Seq::from_vec(rules))
+}
+
+fn group_at(alloc: Global, bytes: &[u8], place: usize) -> Result<Group, Memory>
+    requires { place < 2 ^ 62 }
+    ensures { IfOk result (λ group. group ≡ group_at bytes.now place) }
+{
+    let using_keys = word_at(bytes, place + 20) != 0;
+    let rules_place = word_at(bytes, place + 4);
+    Ok(Group {
+        name: name_at(alloc, bytes, word_at(bytes, place))?,
+        using_keys,
+        rules: rules_from(
+            alloc,
+            bytes,
+            using_keys,
+            rules_place,
+            word_at(bytes, place + 16),
+        )?,
+        on_match: outputs_at(alloc, bytes, word_at(bytes, place + 8))?,
+        on_nomatch: outputs_at(alloc, bytes, word_at(bytes, place + 12))?,
+    })
+}
+
+fn groups_from(alloc: Global, bytes: &[u8], place: u32, count: u32) -> Result<Seq<Group>, Memory>
+    ensures { IfOk result (λ groups. groups ≡ groups_from bytes.now place count) }
+{
+    let mut groups = Vec::new(alloc);
+    for i in 0..count as usize {
+        let group = group_at(alloc, bytes, place as usize + GROUP_BYTES * i)?;
+        groups.push(group)?;
+    }
+    Ok(Seq::from_vec(groups))
+}
+
+/// The tables that the bytes have.
+#[tactic(auto, unfolding(rule_model::specs::TablesOf::tables_of))]
+pub(crate) fn tables_of(alloc: Global, bytes: &[u8]) -> Result<Tables, Memory>
+    ensures { IfOk result (λ tables. tables ≡ tables_of bytes.now) }
+{
+    Ok(Tables {
+        version: half_at(bytes, 4),
+        start_ansi: word_at(bytes, 40),
+        start_unicode: word_at(bytes, 44),
+        stores: stores_from(alloc, bytes, word_at(bytes, 32), word_at(bytes, 24))?,
+        groups: groups_from(alloc, bytes, word_at(bytes, 36), word_at(bytes, 28))?,
+    })
+}

@@ -1,0 +1,117 @@
+ghost use Rattle.std.specs.Prelude.{◌≡◌, ◌<◌, ◌^◌, length, IfOk};
+ghost use Rattle.std.specs.List.{flat_map};
+ghost use Rattle.rule_model.specs.File.{rules_of};
+ghost use Rattle.rule_model.specs.Writable.{IsFile};
+
+use crate::records::tables_of;
+use kmn_base::{Code, Memory};
+use rule_model::{Group, Tables};
+use std::alloc::Global;
+use std::marker::Model;
+use thiserror::Error;
+
+/// What is wrong with a file: the rule that it breaks, the place in bytes at which it breaks it, and the code that
+/// V14 names, else 0.
+#[derive(Clone, Copy, Debug, PartialEq, Eq)]
+pub struct Fault {
+    pub code: Code,
+    pub at: u32,
+    pub unit: u16,
+}
+
+/// Why bytes were not opened as a file.
+#[derive(Debug, Drop, Error)]
+pub enum VerifyError {
+    #[error("refused {} at {}", .0.code, .0.at)]
+    Refused(Fault),
+    #[error("out of memory")]
+    Memory,
+}
+
+/// A sound file, borrowed, with the tables that were read from it. Contracts see it as its bytes.
+#[derive(Drop)]
+pub struct Verified<'a> {
+    bytes: &'a [u8],
+    tables: Tables,
+}
+
+impl<'a> Model for Verified<'a> {
+    ghost use Rattle.std.specs.Prelude.{◌≡◌, ℕ, List};
+    ghost use Rattle.rule_model.specs.TablesOf.{tables_of};
+    ghost use Rattle.rule_model.specs.Writable.{IsWritable};
+
+    ghost Value = { List ℕ };
+
+    ghost view = { λ file. file.bytes.now };
+
+    ghost invariant = { λ file. (file.tables ≡ tables_of file.bytes.now) × IsWritable file.tables };
+}
+
+impl<'a> Verified<'a> {
+    ghost use Rattle.rule_model.specs.File.{all_rules};
+    ghost use Rattle.rule_model.specs.TablesOf.{tables_of};
+    ghost use Rattle.rule_model.specs.Writable.{IsWritable};
+
+    /// The bytes of the file.
+    pub fn bytes(&self) -> &'a [u8]
+        ensures { result.now ≡ self.now }
+    {
+        self.bytes
+    }
+
+    /// The tables that the file has.
+    pub fn tables(&self) -> &Tables
+        ensures value { result.now ≡ tables_of self.now }
+        ensures writable { IsWritable result.now }
+    {
+        &self.tables
+    }
+
+    /// The version of the file's format.
+    pub fn version(&self) -> u16
+        ensures { result ≡ (tables_of self.now).version }
+    {
+        self.tables.version
+    }
+
+    /// How many stores the file has.
+    pub fn store_count(&self) -> u32
+        ensures { result ≡ length (tables_of self.now).stores }
+    {
+        self.tables.stores.len() as u32
+    }
+
+    /// How many groups the file has.
+    pub fn group_count(&self) -> u32
+        ensures { result ≡ length (tables_of self.now).groups }
+    {
+        self.tables.groups.len() as u32
+    }
+
+    /// How many key records all groups of the file have.
+    pub fn rule_count(&self) -> u32
+        ensures { result ≡ length (all_rules (tables_of self.now)) }
+    {
+        count_rules(self.tables.groups.as_slice())
+    }
+}
+
+fn count_rules(groups: &[Group]) -> u32
+    requires { length (flat_map rules_of groups.now) < 2 ^ 32 }
+    ensures { result ≡ length (flat_map rules_of groups.now) }
+{
+    let mut count = 0;
+    for group in groups {
+        count += group.rules.len() as u32;
+    }
+    count
+}
+
+/// Opens a file that was written here, without looking for faults.
+pub fn adopt<'a>(alloc: Global, bytes: &'a [u8]) -> Result<Verified<'a>, Memory>
+    requires { IsFile bytes.now }
+    ensures { IfOk result (λ file. file ≡ bytes.now) }
+{
+    let tables = tables_of(alloc, bytes)?;
+    Ok(Verified { bytes, tables })
+}
