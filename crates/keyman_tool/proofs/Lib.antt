@@ -1,0 +1,16 @@
+pub mod AskedLaws
+pub mod CompilingLaws
+pub mod FirstCompiles
+pub mod FirstFileLaws
+pub mod FirstMeaning
+pub mod FirstPlay
+pub mod FirstPress
+pub mod FirstTranscript
+pub mod FormLaws
+pub mod Hexadecimal
+pub mod MeaningLaws
+pub mod PlainRules
+pub mod PlayingLaws
+pub mod PrintingLaws
+pub mod RunLaws
+pub mod TextLinesLaws

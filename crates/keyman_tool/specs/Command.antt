@@ -1,0 +1,22 @@
+-- What the words of a call ask for.
+use Rattle.std.specs.Prelude.{Bool, if◌then◌else◌, List, [], ◌∷◌, codes, Option, Some, None, is_some, ℕ}
+use Rattle.std.specs.Str.{bytes_eq}
+use Rattle.keyman_tool.specs.declared.command.Command.{Command}
+use Rattle.keyman_tool.specs.declared.command.Command.TheVariants as command
+
+-- a command with the names of its files
+pub data Request : Type 0 where
+  Test : (source file keys : List ℕ) → Request
+
+-- `test SOURCE FILE KEYS`; all other words ask for nothing
+abbrev pub request_of : List (List ℕ) → Option Request
+request_of (word ∷ source ∷ file ∷ keys ∷ []) = if bytes_eq word (codes "test") then Some (Test source file keys) else None
+request_of _ = None
+
+-- whether the words are a command
+abbrev pub is_form : List (List ℕ) → Bool
+is_form words = is_some (request_of words)
+
+-- the request of a command as the program holds it
+abbrev pub requested : Command → Request
+requested (command.Test source file keys) = Test source.now file.now keys.now

@@ -1,0 +1,16 @@
+pub mod Asked
+pub mod Command
+pub mod FirstFile
+pub mod FirstTables
+pub mod Forms
+pub mod Inputs
+pub mod LinesLeft
+pub mod Player
+pub mod Printing
+pub mod Run
+pub mod ScriptForm
+pub mod SourceForm
+pub mod Stated
+pub mod Status
+pub mod Steps
+pub mod TextLines
