@@ -89,6 +89,15 @@ impl<T> Seq<T> {
 }
 
 impl<T: Drop> Seq<T> {
+    /// Appends the items of another list, or nothing for want of memory.
+    pub fn append(&mut self, other: Seq<T>) -> Result<(), Memory>
+        ensures { MatchResult result (λ _. self.new ≡ self.old ++ other) (λ _. self.new ≡ self.old) }
+    {
+        let mut items = other.items;
+        self.items.append(&mut items)?;
+        Ok(())
+    }
+
     /// Puts an item in the place of another, which is dropped.
     pub fn set(&mut self, index: usize, item: T)
         requires { index < length self.old }

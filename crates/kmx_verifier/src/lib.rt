@@ -1,6 +1,6 @@
 //! A compiled keyboard file that is known to be sound, with the tables that were read from it.
 //!
-//! It stands on `kmn_base` and `rule_model`. The layers above open a file here and use a `Verified`, whose tables are
+//! It stands on `kmn_base`, `item_codec` and `rule_model`. The layers above open a file here and use a `Verified`, whose tables are
 //! those that its bytes have.
 #![tactic(auto)]
 

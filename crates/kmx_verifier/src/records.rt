@@ -1,6 +1,7 @@
 //! The records of a file, and all its tables, read at their places.
 
-ghost use Rattle.std.specs.Prelude.{◌≡◌, ◌<◌, ◌^◌, IfOk};
+ghost use Rattle.std.specs.Prelude.{◌≡◌, ◌<◌, ◌≤◌, ◌^◌, length, IfOk};
+ghost use Rattle.kmn_base.specs.declared.limits.TheConstants.{FILE_BYTES};
 ghost use Rattle.rule_model.specs.TablesOf.{store_at, stores_from, key_of, rule_at, rules_from, group_at, groups_from, tables_of};
 
 use crate::items::{elements_at, outputs_at, patterns_at};
@@ -17,7 +18,8 @@ const GROUP_BYTES: usize = 24;
 const RULE_BYTES: usize = 20;
 
 fn store_at(alloc: Global, bytes: &[u8], place: usize) -> Result<Store, Memory>
-    requires { place < 2 ^ 62 }
+    requires place { place < 2 ^ 62 }
+    requires fits { length bytes.now ≤ FILE_BYTES }
     ensures { IfOk result (λ store. store ≡ store_at bytes.now place) }
 {
     Ok(Store {
@@ -28,6 +30,7 @@ fn store_at(alloc: Global, bytes: &[u8], place: usize) -> Result<Store, Memory>
 }
 
 fn stores_from(alloc: Global, bytes: &[u8], place: u32, count: u32) -> Result<Seq<Store>, Memory>
+    requires { length bytes.now ≤ FILE_BYTES }
     ensures { IfOk result (λ stores. stores ≡ stores_from bytes.now place count) }
 {
     let mut stores = Vec::new(alloc);
@@ -51,7 +54,8 @@ fn key_of(using_keys: bool, code: u16, flags: u32) -> RuleKey
 }
 
 fn rule_at(alloc: Global, bytes: &[u8], using_keys: bool, place: usize) -> Result<Rule, Memory>
-    requires { place < 2 ^ 62 }
+    requires place { place < 2 ^ 62 }
+    requires fits { length bytes.now ≤ FILE_BYTES }
     ensures { IfOk result (λ rule. rule ≡ rule_at bytes.now using_keys place) }
 {
     let key = key_of(using_keys, half_at(bytes, place), word_at(bytes, place + 8));
@@ -71,6 +75,7 @@ fn rules_from(
     place: u32,
     count: u32,
 ) -> Result<Seq<Rule>, Memory>
+    requires { length bytes.now ≤ FILE_BYTES }
     ensures { IfOk result (λ rules. rules ≡ rules_from bytes.now using_keys place count) }
 {
     let mut rules = Vec::new(alloc);
@@ -82,7 +87,8 @@ fn rules_from(
 }
 
 fn group_at(alloc: Global, bytes: &[u8], place: usize) -> Result<Group, Memory>
-    requires { place < 2 ^ 62 }
+    requires place { place < 2 ^ 62 }
+    requires fits { length bytes.now ≤ FILE_BYTES }
     ensures { IfOk result (λ group. group ≡ group_at bytes.now place) }
 {
     let using_keys = word_at(bytes, place + 20) != 0;
@@ -103,6 +109,7 @@ fn group_at(alloc: Global, bytes: &[u8], place: usize) -> Result<Group, Memory>
 }
 
 fn groups_from(alloc: Global, bytes: &[u8], place: u32, count: u32) -> Result<Seq<Group>, Memory>
+    requires { length bytes.now ≤ FILE_BYTES }
     ensures { IfOk result (λ groups. groups ≡ groups_from bytes.now place count) }
 {
     let mut groups = Vec::new(alloc);
@@ -116,6 +123,7 @@ fn groups_from(alloc: Global, bytes: &[u8], place: u32, count: u32) -> Result<Se
 /// The tables that the bytes have.
 #[tactic(auto, unfolding(rule_model::specs::TablesOf::tables_of))]
 pub(crate) fn tables_of(alloc: Global, bytes: &[u8]) -> Result<Tables, Memory>
+    requires { length bytes.now ≤ FILE_BYTES }
     ensures { IfOk result (λ tables. tables ≡ tables_of bytes.now) }
 {
     Ok(Tables {

@@ -19,7 +19,7 @@ const IDENTIFIER: u32 = 0x5354_584B;
 /// Puts the header of the tables' file with a picture of so many bytes.
 #[tactic(auto, using(crate::proofs::Strings::offset_of_list))]
 fn put_header(
-    out: &mut Vec<u8>,
+    out: &mut Seq<u8>,
     tables: &Tables,
     places: &Places,
     picture: &[u8],
@@ -27,7 +27,7 @@ fn put_header(
     requires spellable { AreSpellable tables.now }
     requires places { ArePlaces tables.now places.now }
     requires fits { picture_place tables.now + length picture.now ≤ FILE_BYTES }
-    ensures { OnOk result (out.new.items ≡ out.old.items ++ header tables.now picture.now) }
+    ensures { OnOk result (out.new ≡ out.old ++ header tables.now picture.now) }
 {
     let stores = tables.stores.len() as u32;
     let groups = tables.groups.len() as u32;
@@ -51,13 +51,14 @@ fn put_header(
 
 /// The file of the tables and a picture.
 #[tactic(auto, unfolding(rule_model::specs::File::file_of))]
-fn file(alloc: Global, tables: &Tables, places: &Places, picture: &[u8]) -> Result<Vec<u8>, Memory>
+fn file(alloc: Global, tables: &Tables, places: &Places, picture: &[u8]) -> Result<Seq<u8>, Memory>
     requires spellable { AreSpellable tables.now }
     requires places { ArePlaces tables.now places.now }
     requires fits { picture_place tables.now + length picture.now ≤ FILE_BYTES }
-    ensures { IfOk result (λ bytes. bytes.items ≡ file_of tables.now picture.now) }
+    ensures { IfOk result (λ bytes. bytes ≡ file_of tables.now picture.now) }
 {
-    let mut out = Vec::with_capacity(alloc, places.picture as usize + picture.len())?;
+    let room = Vec::with_capacity(alloc, places.picture as usize + picture.len())?;
+    let mut out = Seq::from_vec(room);
     put_header(&mut out, tables, places, picture)?;
     stores::put_records(
         &mut out,
@@ -107,7 +108,7 @@ pub fn write(alloc: Global, tables: &Tables, picture: &[u8]) -> Result<Seq<u8>, 
         });
     }
     match file(alloc, tables, &places, picture) {
-        Ok(bytes) => Ok(Seq::from_vec(bytes)),
+        Ok(bytes) => Ok(bytes),
         Err(Memory) => Err(CompileError::Memory),
     }
 }

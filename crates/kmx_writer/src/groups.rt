@@ -9,7 +9,7 @@ use crate::names::{name_size, put_name};
 use crate::rules;
 use crate::spelled::{put_string, string_size};
 use crate::units::{offset_of, put_words};
-use kmn_base::Memory;
+use kmn_base::{Memory, Seq};
 use rule_model::Group;
 
 const RULE_BYTES: u32 = 20;
@@ -66,12 +66,12 @@ pub(crate) fn rule_count(groups: &[Group]) -> u64
 /// Puts the record of a group whose key records and whose strings begin at two places, and answers the place behind
 /// its strings.
 #[tactic(auto, using(crate::proofs::Strings::offset_of_string, crate::proofs::Strings::offset_of_list))]
-fn put_record(out: &mut Vec<u8>, rules_place: u32, place: u32, group: &Group) -> Result<u32, Memory>
+fn put_record(out: &mut Seq<u8>, rules_place: u32, place: u32, group: &Group) -> Result<u32, Memory>
     requires spellable { IsSpellableGroup group.now }
     requires rules_fit { length group.now.rules < 2 ^ 32 }
     requires fits { place + length (group_strings group.now) < 2 ^ 32 }
     ensures next { IfOk result (λ next. next ≡ place + length (group_strings group.now)) }
-    ensures bytes { OnOk result (out.new.items ≡ out.old.items ++ group_record rules_place place group.now) }
+    ensures bytes { OnOk result (out.new ≡ out.old ++ group_record rules_place place group.now) }
 {
     let name_bytes = name_size(group.name.as_slice()) as u32;
     let match_bytes = string_size(group.on_match.as_slice()) as u32;
@@ -97,7 +97,7 @@ fn put_record(out: &mut Vec<u8>, rules_place: u32, place: u32, group: &Group) ->
 
 /// Puts the group array, where the key records and the strings of groups begin at two places.
 pub(crate) fn put_records(
-    out: &mut Vec<u8>,
+    out: &mut Seq<u8>,
     rules_place: u32,
     place: u32,
     groups: &[Group],
@@ -105,7 +105,7 @@ pub(crate) fn put_records(
     requires spellable { All IsSpellableGroup groups.now }
     requires rules_fit { rules_place + 20 * length (flat_map rules_of groups.now) < 2 ^ 32 }
     requires fits { place + length (flat_map group_strings groups.now) < 2 ^ 32 }
-    ensures { OnOk result (out.new.items ≡ out.old.items ++ group_records rules_place place groups.now) }
+    ensures { OnOk result (out.new ≡ out.old ++ group_records rules_place place groups.now) }
 {
     let mut rules_place = rules_place;
     let mut place = place;
@@ -117,9 +117,9 @@ pub(crate) fn put_records(
 }
 
 /// Puts the strings of a group.
-fn put_group_strings(out: &mut Vec<u8>, group: &Group) -> Result<(), Memory>
+fn put_group_strings(out: &mut Seq<u8>, group: &Group) -> Result<(), Memory>
     requires { IsSpellableGroup group.now }
-    ensures { OnOk result (out.new.items ≡ out.old.items ++ group_strings group.now) }
+    ensures { OnOk result (out.new ≡ out.old ++ group_strings group.now) }
 {
     put_name(out, group.name.as_slice())?;
     put_string(out, group.on_match.as_slice())?;
@@ -127,9 +127,9 @@ fn put_group_strings(out: &mut Vec<u8>, group: &Group) -> Result<(), Memory>
 }
 
 /// Puts the strings of groups.
-pub(crate) fn put_strings(out: &mut Vec<u8>, groups: &[Group]) -> Result<(), Memory>
+pub(crate) fn put_strings(out: &mut Seq<u8>, groups: &[Group]) -> Result<(), Memory>
     requires { All IsSpellableGroup groups.now }
-    ensures { OnOk result (out.new.items ≡ out.old.items ++ flat_map group_strings groups.now) }
+    ensures { OnOk result (out.new ≡ out.old ++ flat_map group_strings groups.now) }
 {
     for group in groups {
         put_group_strings(out, group)?;
@@ -139,13 +139,13 @@ pub(crate) fn put_strings(out: &mut Vec<u8>, groups: &[Group]) -> Result<(), Mem
 
 /// Puts the key arrays of groups, where the strings of key records begin at a place.
 pub(crate) fn put_rule_records(
-    out: &mut Vec<u8>,
+    out: &mut Seq<u8>,
     place: u32,
     groups: &[Group],
 ) -> Result<(), Memory>
     requires spellable { All IsSpellableGroup groups.now }
     requires fits { place + length (flat_map rule_strings (flat_map rules_of groups.now)) < 2 ^ 32 }
-    ensures { OnOk result (out.new.items ≡ out.old.items ++ rule_records place (flat_map rules_of groups.now)) }
+    ensures { OnOk result (out.new ≡ out.old ++ rule_records place (flat_map rules_of groups.now)) }
 {
     let mut place = place;
     for group in groups {
@@ -155,9 +155,9 @@ pub(crate) fn put_rule_records(
 }
 
 /// Puts the strings of the key records of groups.
-pub(crate) fn put_rule_strings(out: &mut Vec<u8>, groups: &[Group]) -> Result<(), Memory>
+pub(crate) fn put_rule_strings(out: &mut Seq<u8>, groups: &[Group]) -> Result<(), Memory>
     requires { All IsSpellableGroup groups.now }
-    ensures { OnOk result (out.new.items ≡ out.old.items ++ flat_map rule_strings (flat_map rules_of groups.now)) }
+    ensures { OnOk result (out.new ≡ out.old ++ flat_map rule_strings (flat_map rules_of groups.now)) }
 {
     for group in groups {
         rules::put_strings(out, group.rules.as_slice())?;

@@ -1,6 +1,6 @@
 //! The bytes of a compiled keyboard file, written from its tables.
 //!
-//! It stands on `kmn_base` and `rule_model`. The layer above calls `write`, whose bytes are the file of the tables and
+//! It stands on `kmn_base`, `item_codec` and `rule_model`. The layer above calls `write`, whose bytes are the file of the tables and
 //! the picture.
 #![tactic(auto)]
 

@@ -7,7 +7,7 @@ ghost use Rattle.rule_model.specs.File.{string};
 ghost use Rattle.rule_model.specs.FileUnits.{name_units};
 
 use crate::units::{char_unit_count, put_char, put_units, size_of_units};
-use kmn_base::Memory;
+use kmn_base::{Memory, Seq};
 use std::str;
 
 fn text_of(name: &[u8]) -> &str
@@ -36,9 +36,9 @@ fn name_unit_count(name: &[u8]) -> u64
 
 /// Puts the units of a name at the end.
 #[tactic(auto, unfolding(rule_model::specs::FileUnits::name_units))]
-fn put_name_units(out: &mut Vec<u8>, name: &[u8]) -> Result<(), Memory>
+fn put_name_units(out: &mut Seq<u8>, name: &[u8]) -> Result<(), Memory>
     requires { IsUtf8 name.now }
-    ensures { OnOk result (out.new.items ≡ out.old.items ++ unit_bytes (name_units name.now)) }
+    ensures { OnOk result (out.new ≡ out.old ++ unit_bytes (name_units name.now)) }
 {
     for c in text_of(name).chars() {
         put_char(out, c)?;
@@ -57,9 +57,9 @@ pub(crate) fn name_size(name: &[u8]) -> u64
 }
 
 /// Puts the string of a name at the end.
-pub(crate) fn put_name(out: &mut Vec<u8>, name: &[u8]) -> Result<(), Memory>
+pub(crate) fn put_name(out: &mut Seq<u8>, name: &[u8]) -> Result<(), Memory>
     requires { IsUtf8 name.now }
-    ensures { OnOk result (out.new.items ≡ out.old.items ++ string (name_units name.now)) }
+    ensures { OnOk result (out.new ≡ out.old ++ string (name_units name.now)) }
 {
     if name.is_empty() {
         return Ok(());

@@ -7,7 +7,7 @@ ghost use Rattle.kmx_writer.specs.Spellings.{IsSpellableRule};
 
 use crate::spelled::{put_string, string_size};
 use crate::units::{offset_of, put_half, put_words};
-use kmn_base::{Memory, RuleKey};
+use kmn_base::{Memory, RuleKey, Seq};
 use rule_model::Rule;
 
 /// The first field of a key record.
@@ -54,8 +54,8 @@ pub(crate) fn all_strings_size(rules: &[Rule]) -> u64
 }
 
 /// Puts a key record with the offsets of its strings.
-fn put_fields(out: &mut Vec<u8>, rule: &Rule, context: u32, output: u32) -> Result<(), Memory>
-    ensures { OnOk result (out.new.items ≡ out.old.items ++ rule_fields rule.now context output) }
+fn put_fields(out: &mut Seq<u8>, rule: &Rule, context: u32, output: u32) -> Result<(), Memory>
+    ensures { OnOk result (out.new ≡ out.old ++ rule_fields rule.now context output) }
 {
     put_half(out, key_code(rule.key))?;
     put_half(out, 0)?;
@@ -64,11 +64,11 @@ fn put_fields(out: &mut Vec<u8>, rule: &Rule, context: u32, output: u32) -> Resu
 
 /// Puts a key record whose strings begin at a place, and answers the place behind them.
 #[tactic(auto, using(crate::proofs::Strings::offset_of_string))]
-fn put_record(out: &mut Vec<u8>, place: u32, rule: &Rule) -> Result<u32, Memory>
+fn put_record(out: &mut Seq<u8>, place: u32, rule: &Rule) -> Result<u32, Memory>
     requires spellable { IsSpellableRule rule.now }
     requires fits { place + length (rule_strings rule.now) < 2 ^ 32 }
     ensures next { IfOk result (λ next. next ≡ place + length (rule_strings rule.now)) }
-    ensures bytes { OnOk result (out.new.items ≡ out.old.items ++ rule_record place rule.now) }
+    ensures bytes { OnOk result (out.new ≡ out.old ++ rule_record place rule.now) }
 {
     let context_bytes = string_size(rule.context.as_slice()) as u32;
     let output_bytes = string_size(rule.output.as_slice()) as u32;
@@ -79,11 +79,11 @@ fn put_record(out: &mut Vec<u8>, place: u32, rule: &Rule) -> Result<u32, Memory>
 }
 
 /// Puts key records whose strings begin at a place, and answers the place behind them.
-pub(crate) fn put_records(out: &mut Vec<u8>, place: u32, rules: &[Rule]) -> Result<u32, Memory>
+pub(crate) fn put_records(out: &mut Seq<u8>, place: u32, rules: &[Rule]) -> Result<u32, Memory>
     requires spellable { All IsSpellableRule rules.now }
     requires fits { place + length (flat_map rule_strings rules.now) < 2 ^ 32 }
     ensures next { IfOk result (λ next. next ≡ place + length (flat_map rule_strings rules.now)) }
-    ensures bytes { OnOk result (out.new.items ≡ out.old.items ++ rule_records place rules.now) }
+    ensures bytes { OnOk result (out.new ≡ out.old ++ rule_records place rules.now) }
 {
     let mut place = place;
     for rule in rules {
@@ -93,18 +93,18 @@ pub(crate) fn put_records(out: &mut Vec<u8>, place: u32, rules: &[Rule]) -> Resu
 }
 
 /// Puts the strings of a key record.
-fn put_rule_strings(out: &mut Vec<u8>, rule: &Rule) -> Result<(), Memory>
+fn put_rule_strings(out: &mut Seq<u8>, rule: &Rule) -> Result<(), Memory>
     requires { IsSpellableRule rule.now }
-    ensures { OnOk result (out.new.items ≡ out.old.items ++ rule_strings rule.now) }
+    ensures { OnOk result (out.new ≡ out.old ++ rule_strings rule.now) }
 {
     put_string(out, rule.context.as_slice())?;
     put_string(out, rule.output.as_slice())
 }
 
 /// Puts the strings of key records.
-pub(crate) fn put_strings(out: &mut Vec<u8>, rules: &[Rule]) -> Result<(), Memory>
+pub(crate) fn put_strings(out: &mut Seq<u8>, rules: &[Rule]) -> Result<(), Memory>
     requires { All IsSpellableRule rules.now }
-    ensures { OnOk result (out.new.items ≡ out.old.items ++ flat_map rule_strings rules.now) }
+    ensures { OnOk result (out.new ≡ out.old ++ flat_map rule_strings rules.now) }
 {
     for rule in rules {
         put_rule_strings(out, rule)?;

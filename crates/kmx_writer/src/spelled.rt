@@ -7,8 +7,9 @@ ghost use Rattle.kmn_base.specs.Spelling.{IsSpellable, unit_bytes};
 ghost use Rattle.rule_model.specs.File.{string};
 ghost use Rattle.rule_model.specs.FileUnits.{unit_item_of_element, unit_item_of_pattern, unit_item_of_output, item_units};
 
-use crate::units::{put_item, put_units, size_of_units, unit_count};
-use kmn_base::{Element, Memory, UnitItem};
+use crate::units::{put_units, size_of_units, unit_count};
+use item_codec::spell;
+use kmn_base::{Element, Memory, Seq, UnitItem};
 use rule_model::{Out, Pat};
 
 /// What stands in a string as an item of it.
@@ -96,12 +97,12 @@ fn item_unit_count<T: Spelled>(items: &[T]) -> u64
 
 /// Puts the units of items at the end.
 #[tactic(auto, unfolding(rule_model::specs::FileUnits::item_units))]
-fn put_items<T: Spelled>(out: &mut Vec<u8>, items: &[T]) -> Result<(), Memory>
+fn put_items<T: Spelled>(out: &mut Seq<u8>, items: &[T]) -> Result<(), Memory>
     requires { All (λ item. IsSpellable (T.spelled item)) items.now }
-    ensures { OnOk result (out.new.items ≡ out.old.items ++ unit_bytes (item_units (map T.spelled items.now))) }
+    ensures { OnOk result (out.new ≡ out.old ++ unit_bytes (item_units (map T.spelled items.now))) }
 {
     for item in items {
-        put_item(out, item.unit_item())?;
+        spell(out, item.unit_item())?;
     }
     Ok(())
 }
@@ -117,9 +118,9 @@ pub(crate) fn string_size<T: Spelled>(items: &[T]) -> u64
 }
 
 /// Puts the string of these items at the end.
-pub(crate) fn put_string<T: Spelled>(out: &mut Vec<u8>, items: &[T]) -> Result<(), Memory>
+pub(crate) fn put_string<T: Spelled>(out: &mut Seq<u8>, items: &[T]) -> Result<(), Memory>
     requires { All (λ item. IsSpellable (T.spelled item)) items.now }
-    ensures { OnOk result (out.new.items ≡ out.old.items ++ string (item_units (map T.spelled items.now))) }
+    ensures { OnOk result (out.new ≡ out.old ++ string (item_units (map T.spelled items.now))) }
 {
     if items.is_empty() {
         return Ok(());

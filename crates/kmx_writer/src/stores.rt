@@ -8,7 +8,7 @@ ghost use Rattle.rule_model.specs.Writable.{IsWritableStore};
 use crate::names::{name_size, put_name};
 use crate::spelled::{put_string, string_size};
 use crate::units::{offset_of, put_words};
-use kmn_base::Memory;
+use kmn_base::{Memory, Seq};
 use rule_model::Store;
 
 /// How many bytes the strings of a store take.
@@ -35,11 +35,11 @@ pub(crate) fn all_strings_size(stores: &[Store]) -> u64
 
 /// Puts the record of a store whose strings begin at a place, and answers the place behind them.
 #[tactic(auto, using(crate::proofs::Strings::offset_of_string))]
-fn put_record(out: &mut Vec<u8>, place: u32, store: &Store) -> Result<u32, Memory>
+fn put_record(out: &mut Seq<u8>, place: u32, store: &Store) -> Result<u32, Memory>
     requires writable { IsWritableStore store.now }
     requires fits { place + length (store_strings store.now) < 2 ^ 32 }
     ensures next { IfOk result (λ next. next ≡ place + length (store_strings store.now)) }
-    ensures bytes { OnOk result (out.new.items ≡ out.old.items ++ store_record place store.now) }
+    ensures bytes { OnOk result (out.new ≡ out.old ++ store_record place store.now) }
 {
     let name_bytes = name_size(store.name.as_slice()) as u32;
     let element_bytes = string_size(store.elements.as_slice()) as u32;
@@ -50,10 +50,10 @@ fn put_record(out: &mut Vec<u8>, place: u32, store: &Store) -> Result<u32, Memor
 }
 
 /// Puts the store array, where the strings of stores begin at a place.
-pub(crate) fn put_records(out: &mut Vec<u8>, place: u32, stores: &[Store]) -> Result<(), Memory>
+pub(crate) fn put_records(out: &mut Seq<u8>, place: u32, stores: &[Store]) -> Result<(), Memory>
     requires writable { All IsWritableStore stores.now }
     requires fits { place + length (flat_map store_strings stores.now) < 2 ^ 32 }
-    ensures { OnOk result (out.new.items ≡ out.old.items ++ store_records place stores.now) }
+    ensures { OnOk result (out.new ≡ out.old ++ store_records place stores.now) }
 {
     let mut place = place;
     for store in stores {
@@ -63,9 +63,9 @@ pub(crate) fn put_records(out: &mut Vec<u8>, place: u32, stores: &[Store]) -> Re
 }
 
 /// Puts the strings of stores.
-pub(crate) fn put_strings(out: &mut Vec<u8>, stores: &[Store]) -> Result<(), Memory>
+pub(crate) fn put_strings(out: &mut Seq<u8>, stores: &[Store]) -> Result<(), Memory>
     requires { All IsWritableStore stores.now }
-    ensures { OnOk result (out.new.items ≡ out.old.items ++ flat_map store_strings stores.now) }
+    ensures { OnOk result (out.new ≡ out.old ++ flat_map store_strings stores.now) }
 {
     for store in stores {
         put_name(out, store.name.as_slice())?;

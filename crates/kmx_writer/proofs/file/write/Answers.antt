@@ -1,4 +1,4 @@
-use Rattle.std.proofs.Common.{arith, ◌∙◌}
+use Rattle.std.proofs.Common.{arith}
 use Rattle.kmx_writer.proofs.Whole.{spellable, excess_of_file, no_excess, is_file}
 use Rattle.kmx_writer.proofs.file.write.Goals as goal
 
@@ -17,7 +17,7 @@ file-requires-clause-spellable c = spellable c.args.tables.now c.requires
 
 pub returns-in-Ok-clause-file : goal.returns-in-Ok-clause-file
 returns-in-Ok-clause-file c =
-    is_file c.args.tables.now c.args.picture.now _ c.requires (omega arith) (omega (arith, c.places_of-places.ensures.picture)) (c.from_vec.ensures ∙ c.in-Ok.ensures)
+    is_file c.args.tables.now c.args.picture.now _ c.requires (omega arith) (omega (arith, c.places_of-places.ensures.picture)) c.in-Ok.ensures
 
 pub returns-in-Ok-clause-within : goal.returns-in-Ok-clause-within
 returns-in-Ok-clause-within c = no_excess c.args.tables.now c.args.picture.now (omega arith) (omega (arith, c.places_of-places.ensures.picture))

@@ -17,5 +17,5 @@ loop-group-preserved c =
     let first = c.as_slice.result.now in
     let others = flat_map rules_of (drop (c.loop-group.group-index + 1) c.args.groups.now) in
     let here = rules_from_group c.args.groups.now c.loop-group.group-index c.group-item.result c.loop-group-test.true c.group-item.is in
-    puts_on c.loop-group.out.items c.put_records.new.out.items c.loop-group.place c.in_ok-place.place _ first others _ _
+    puts_on c.loop-group.out c.put_records.new.out c.loop-group.place c.in_ok-place.place _ first others _ _
     (here ∙ ap (λ (rules : List Rule). rules ++ others) (sym c.as_slice.ensures)) c.in_ok-place.ensures.next c.in_ok-place.ensures.bytes c.loop-group.invariant

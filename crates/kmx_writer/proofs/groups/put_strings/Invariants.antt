@@ -4,4 +4,4 @@ use Rattle.rule_model.specs.File.{group_strings}
 use Rattle.kmx_writer.proofs.groups.put_strings.Given as goal
 
 abbrev pub invariant-loop-group : goal.invariant-loop-group
-invariant-loop-group l = l.out.items ++ flat_map group_strings (drop l.group-index l.groups) ≡ l.fn.out.items ++ flat_map group_strings l.groups
+invariant-loop-group l = l.out ++ flat_map group_strings (drop l.group-index l.groups) ≡ l.fn.out ++ flat_map group_strings l.groups

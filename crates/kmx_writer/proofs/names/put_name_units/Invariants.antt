@@ -7,4 +7,4 @@ use Rattle.kmx_writer.proofs.names.put_name_units.Given as goal
 
 abbrev pub invariant-loop-c : goal.invariant-loop-c
 invariant-loop-c l =
-    IsUtf8 (chars_rest l.c-iterator) × (l.out.items ++ unit_bytes (text_units (chars_rest l.c-iterator)) ≡ l.fn.out.items ++ unit_bytes (text_units l.fn.name))
+    IsUtf8 (chars_rest l.c-iterator) × (l.out ++ unit_bytes (text_units (chars_rest l.c-iterator)) ≡ l.fn.out ++ unit_bytes (text_units l.fn.name))

@@ -6,4 +6,4 @@ use Rattle.kmx_writer.proofs.rules.put_records.Given as goal
 abbrev pub invariant-loop-rule : goal.invariant-loop-rule
 invariant-loop-rule l =
     (l.place + length (flat_map rule_strings (drop l.rule-index l.rules)) ≡ l.fn.place + length (flat_map rule_strings l.rules))
-    × (l.out.items ++ rule_records l.place (drop l.rule-index l.rules) ≡ l.fn.out.items ++ rule_records l.fn.place l.rules)
+    × (l.out ++ rule_records l.place (drop l.rule-index l.rules) ≡ l.fn.out ++ rule_records l.fn.place l.rules)

@@ -4,4 +4,4 @@ use Rattle.rule_model.specs.File.{rule_strings}
 use Rattle.kmx_writer.proofs.rules.put_strings.Given as goal
 
 abbrev pub invariant-loop-rule : goal.invariant-loop-rule
-invariant-loop-rule l = l.out.items ++ flat_map rule_strings (drop l.rule-index l.rules) ≡ l.fn.out.items ++ flat_map rule_strings l.rules
+invariant-loop-rule l = l.out ++ flat_map rule_strings (drop l.rule-index l.rules) ≡ l.fn.out ++ flat_map rule_strings l.rules

@@ -4,4 +4,4 @@ use Rattle.rule_model.specs.File.{store_strings}
 use Rattle.kmx_writer.proofs.stores.put_strings.Given as goal
 
 abbrev pub invariant-loop-store : goal.invariant-loop-store
-invariant-loop-store l = l.out.items ++ flat_map store_strings (drop l.store-index l.stores) ≡ l.fn.out.items ++ flat_map store_strings l.stores
+invariant-loop-store l = l.out ++ flat_map store_strings (drop l.store-index l.stores) ≡ l.fn.out ++ flat_map store_strings l.stores

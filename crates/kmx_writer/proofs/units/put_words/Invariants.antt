@@ -3,4 +3,4 @@ use Rattle.rule_model.specs.File.{words}
 use Rattle.kmx_writer.proofs.units.put_words.Given as goal
 
 abbrev pub invariant-loop-number : goal.invariant-loop-number
-invariant-loop-number l = l.out.items ++ words (drop l.number-index l.numbers) ≡ l.fn.out.items ++ words l.numbers
+invariant-loop-number l = l.out ++ words (drop l.number-index l.numbers) ≡ l.fn.out ++ words l.numbers

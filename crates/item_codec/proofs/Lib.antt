@@ -1,0 +1,3 @@
+pub mod FirstItems
+pub mod Results
+pub mod Operands
