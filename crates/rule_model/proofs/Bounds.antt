@@ -81,13 +81,13 @@ length-text_becomes : (left right : List ℕ) (state : State) → length (whole_
 length-text_becomes left right state =
     length-append (characters (read_again state.left left)) right ∙ ap (λ (cs : List ℕ). length cs + length right) (reading_again_gives_the_text state.left left)
 
-abbrev EditorAddsOne : List ℕ → List ℕ → ℕ → Type 0
+abbrev pub EditorAddsOne : List ℕ → List ℕ → ℕ → Type 0
 EditorAddsOne left right code = length (editor_left code left right) + length (editor_right code left right) ≤ length left + length right + 1
 
 at_code : (left right : List ℕ) (n code : ℕ) → eqb code n ≡ true → EditorAddsOne left right n → EditorAddsOne left right code
 at_code left right n code e h = subst (λ (m : ℕ). EditorAddsOne left right m) (sym (eqb-true code n e)) h
 
-editor_adds_one : (code : ℕ) (left right : List ℕ) → EditorAddsOne left right code
+pub editor_adds_one : (code : ℕ) (left right : List ℕ) → EditorAddsOne left right code
 editor_adds_one code left right = elim (cases_Bool (eqb code 13)) [
   | inl enter ↦ at_code left right 13 code enter (simp length-append (omega arith))
   | inr e13 ↦ elim (cases_Bool (eqb code 9)) [

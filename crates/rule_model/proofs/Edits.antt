@@ -11,7 +11,7 @@ use Rattle.rule_model.specs.Event.{State, by_editor, after_press, happening}
 use Rattle.rule_model.specs.StepLaws.{deleted_text, EditGivesTheText, EditIsShort, PressEditsTheText}
 
 -- two texts that begin with the same character have it and what is behind it alike
-prefix-same : (c d : ℕ) (cs ds : List ℕ) → eqb c d ≡ true → common_prefix (c ∷ cs) (d ∷ ds) ≡ suc (common_prefix cs ds)
+pub prefix-same : (c d : ℕ) (cs ds : List ℕ) → eqb c d ≡ true → common_prefix (c ∷ cs) (d ∷ ds) ≡ suc (common_prefix cs ds)
 prefix-same c d cs ds e = cond-true (eqb c d) (1 + common_prefix cs ds) 0 e ∙ omega arith
 
 prefix-other : (c d : ℕ) (cs ds : List ℕ) → eqb c d ≡ false → common_prefix (c ∷ cs) (d ∷ ds) ≡ 0

@@ -14,7 +14,9 @@ pub mod FileStands
 pub mod FileStrings
 pub mod FileWritable
 pub mod FirstForm
+pub mod Insertions
 pub mod Kept
+pub mod LeftLists
 pub mod PlainContexts
 pub mod PlainCounts
 pub mod PlainKeyboard

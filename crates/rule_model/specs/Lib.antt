@@ -1,4 +1,5 @@
 pub mod Act
+pub mod CharacterForm
 pub mod Choose
 pub mod Compiles
 pub mod Content
@@ -13,8 +14,10 @@ pub mod KeyEvent
 pub mod Keyboard
 pub mod Lines
 pub mod Match
+pub mod Means
 pub mod Naming
 pub mod Numbers
+pub mod Ordered
 pub mod Plain
 pub mod PlainStroke
 pub mod Src

@@ -183,6 +183,11 @@ abbrev pub PressAddsWhatItPuts : Type 0
 PressAddsWhatItPuts = (kb : Keyboard) (press : KeyPress) (left : List Item) (current : List (List Element)) (saved : List (Option (List Element)))
     → let s = after_key kb press (begin_event left current saved) in length (characters s.left) ≤ length (characters left) + s.put
 
+-- a press inserts at most as many characters as it puts items
+abbrev pub PressInsertsAtMostWhatItPuts : Type 0
+PressInsertsAtMostWhatItPuts = (kb : Keyboard) (press : KeyPress) (left : List Item) (current : List (List Element)) (saved : List (Option (List Element)))
+    → let s = after_key kb press (begin_event left current saved) in length (inserted left s.left) ≤ s.put
+
 -- an event that is not refused keeps the whole text within 1,000,000 characters
 abbrev pub EventKeepsTextInBounds : Type 0
 EventKeepsTextInBounds = (kb : Keyboard) (state : State) (event : Event) → event_refusal state event ≡ None

@@ -1,17 +1,18 @@
 -- The tables that bytes have, each field read at its place. What stands outside the bytes is read as 0, and a string
 -- that no zero unit ends goes to the last whole unit.
-use Rattle.std.specs.Prelude.{ℕ, zero, suc, ◌+◌, ◌-◌, Bool, not, ◌&&◌, nat_eq, nat_le, if◌then◌else◌, List, [], ◌∷◌, length, take, drop, map, Option, Some, None, option_map}
+use Rattle.std.specs.Prelude.{ℕ, zero, suc, ◌+◌, ◌-◌, Bool, not, nat_eq, nat_le, if◌then◌else◌, List, [], ◌∷◌, length, take, drop, map, Option, Some, None}
 use Rattle.std.specs.List.{filter_map}
 use Rattle.std.specs.Int.{w16, w32, from_le_bytes}
 use Rattle.std.specs.Str.{encode_utf8_all}
-use Rattle.std.specs.Char.Utf16.{utf16_lossy_chars, surrogate_pair_char}
+use Rattle.std.specs.Char.Utf16.{utf16_lossy_chars}
 use Rattle.kmn_base.specs.declared.items.Element.{Element}
 use Rattle.kmn_base.specs.declared.items.Element.TheVariants as element
 use Rattle.kmn_base.specs.declared.keys.RuleKey.{RuleKey}
 use Rattle.kmn_base.specs.declared.keys.RuleKey.TheVariants as key
 use Rattle.kmn_base.specs.declared.units.UnitItem.{UnitItem}
 use Rattle.kmn_base.specs.declared.units.UnitItem.TheVariants as spelled
-use Rattle.kmn_base.specs.Spelling.{whole_units, operand_count, is_high_surrogate, is_low_surrogate}
+use Rattle.kmn_base.specs.Spelling.{unit_bytes, whole_units}
+use Rattle.item_codec.specs.Walk.{items_given, results_of}
 use Rattle.rule_model.specs.declared.tables.Pat.{Pat}
 use Rattle.rule_model.specs.declared.tables.Pat.TheVariants as pattern
 use Rattle.rule_model.specs.declared.tables.Out.{Out}
@@ -38,86 +39,9 @@ before_zero (unit ∷ units) = if nat_eq unit 0 then [] else unit ∷ before_zer
 unfoldable pub string_at : List ℕ → ℕ → List ℕ
 string_at bytes offset = if nat_eq offset 0 then [] else before_zero (whole_units (drop offset bytes))
 
--- the item of a code without operands
-abbrev pub bare_item : ℕ → Option UnitItem
-bare_item code =
-    if nat_eq code 0x03 then Some spelled.Context
-    else if nat_eq code 0x04 then Some spelled.Nul
-    else if nat_eq code 0x06 then Some spelled.Stop
-    else if nat_eq code 0x07 then Some spelled.Beep
-    else None
-
--- the item of a code with one operand
-abbrev pub item_of_one : ℕ → ℕ → Option UnitItem
-item_of_one code operand =
-    if nat_eq code 0x01 then Some (spelled.Any operand)
-    else if nat_eq code 0x05 then Some (spelled.Enter operand)
-    else if nat_eq code 0x08 then Some (spelled.Dead operand)
-    else if nat_eq code 0x11 then Some (spelled.ContextAt operand)
-    else if nat_eq code 0x12 then Some (spelled.NotAny operand)
-    else if nat_eq code 0x15 then Some (spelled.Save operand)
-    else if nat_eq code 0x16 then Some (spelled.Reset operand)
-    else None
-
--- the item of a code with two operands
-abbrev pub item_of_two : ℕ → ℕ → ℕ → Option UnitItem
-item_of_two code first second =
-    if nat_eq code 0x02 then Some (spelled.Index first second)
-    else if nat_eq code 0x13 then Some (spelled.Set first second)
-    else None
-
--- the item of a code with three operands, of which a virtual key has 0x10 as the last
-abbrev pub item_of_three : ℕ → ℕ → ℕ → ℕ → Option UnitItem
-item_of_three code first second third =
-    if nat_eq code 0x0A && nat_eq third 0x10 then Some (spelled.Key first second)
-    else if nat_eq code 0x14 then Some (spelled.Test first second third)
-    else None
-
--- the item of a code with these operands
-abbrev pub coded_item : ℕ → List ℕ → Option UnitItem
-coded_item code [] = bare_item code
-coded_item code (first ∷ []) = item_of_one code first
-coded_item code (first ∷ second ∷ []) = item_of_two code first second
-coded_item code (first ∷ second ∷ third ∷ []) = item_of_three code first second third
-coded_item code (first ∷ second ∷ third ∷ fourth ∷ units) = None
-
--- the first operands of an item whose code has so many, and what is behind them
-abbrev pub item_with_operands : ℕ → List ℕ → Option ℕ → Option (UnitItem × List ℕ)
-item_with_operands code units None = None
-item_with_operands code units (Some count) = option_map (λ item. (item, drop count units)) (coded_item code (take count units))
-
--- the item behind a sentinel, and the units behind the item
-abbrev pub item_behind_sentinel : List ℕ → Option (UnitItem × List ℕ)
-item_behind_sentinel [] = None
-item_behind_sentinel (code ∷ units) = item_with_operands code units (operand_count code)
-
--- the character of a surrogate pair, and the units behind it
-abbrev pub paired_item : ℕ → List ℕ → Option (UnitItem × List ℕ)
-paired_item high [] = None
-paired_item high (low ∷ units) = if is_low_surrogate low then Some (spelled.Char (surrogate_pair_char high low), units) else None
-
--- the item that the units begin with, and the units behind it; None where they begin with no item
-unfoldable pub first_item : List ℕ → Option (UnitItem × List ℕ)
-first_item [] = None
-first_item (unit ∷ units) =
-    if nat_eq unit 0xFFFF then item_behind_sentinel units
-    else if is_high_surrogate unit then paired_item unit units
-    else if is_low_surrogate unit then None
-    else Some (spelled.Char unit, units)
-
--- an item, and the items of the units behind it
-abbrev pub read_on : (List ℕ → List UnitItem) → Option (UnitItem × List ℕ) → List UnitItem
-read_on behind None = []
-read_on behind (Some first) = first.0 ∷ behind first.1
-
--- the items that the units spell, at most so many, up to the first place at which none stands
-abbrev pub first_items : ℕ → List ℕ → List UnitItem
-first_items zero units = []
-first_items (suc count) units = read_on (first_items count) (first_item units)
-
--- the items that the units spell; there are no more of them than units
+-- the items that the units spell, up to the first place at which none stands
 unfoldable pub items_of : List ℕ → List UnitItem
-items_of units = first_items (length units) units
+items_of units = items_given (results_of (unit_bytes units))
 
 -- the element of a store that is spelled so
 abbrev pub element_of_unit_item : UnitItem → Option Element

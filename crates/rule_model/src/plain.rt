@@ -1,7 +1,7 @@
 //! What the tables of a compiled file do with an event, computed as their meaning says it.
 //!
-//! It is slow and clear: the first record that holds goes first, the whole text is copied where it changes, and what
-//! an event looks up is found anew at each event.
+//! It is clear and not fast: the first record that holds goes first, found by trying each. A `Player` has what events
+//! look up, and `after_key` presses a key on what an event acts on; `plain_event` does whole events on plain states.
 
 mod acting;
 mod defaults;
@@ -15,7 +15,11 @@ mod own_keys;
 mod player;
 #[cfg(test)]
 mod tests;
-mod texts;
+pub mod texts;
 mod values;
 
+pub use entering::after_key;
 pub use events::plain_event;
+pub use player::Player;
+pub use texts::common_prefix;
+pub use values::copies;

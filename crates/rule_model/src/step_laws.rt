@@ -1,6 +1,6 @@
 //! Laws of a keyboard's steps, each the contract of a function with an empty body. They hold for every keyboard.
 
-ghost use Rattle.rule_model.specs.StepLaws.{BeforeIsTransitive, BestGoesBeforeOthers, BestIsBest, BestIsNone, DefaultKeepsSound, EachEventHasItsStep, EditGivesTheText, EditIsShort, EventKeepsSound, EventKeepsTextInBounds, FirstIsFirst, FirstIsNone, GroupKeepsSound, GroupsKeepSound, ItemKeepsSound, NoMoreStepsThanEvents, NoneBeforeItself, OneGoesBefore, OneIsBest, OnlyKeysAct, OutputKeepsSound, PressAddsWhatItPuts, PressEditsTheText, PressIsWithinBudget, PressKeepsSound, RefusalFollowsTheSteps, StepsAreNumbered, StepsAreSound, StepsAreWithinBudget, StepsKeepTextInBounds};
+ghost use Rattle.rule_model.specs.StepLaws.{BeforeIsTransitive, BestGoesBeforeOthers, BestIsBest, BestIsNone, DefaultKeepsSound, EachEventHasItsStep, EditGivesTheText, EditIsShort, EventKeepsSound, EventKeepsTextInBounds, FirstIsFirst, FirstIsNone, GroupKeepsSound, GroupsKeepSound, ItemKeepsSound, NoMoreStepsThanEvents, NoneBeforeItself, OneGoesBefore, OneIsBest, OnlyKeysAct, OutputKeepsSound, PressAddsWhatItPuts, PressEditsTheText, PressInsertsAtMostWhatItPuts, PressIsWithinBudget, PressKeepsSound, RefusalFollowsTheSteps, StepsAreNumbered, StepsAreSound, StepsAreWithinBudget, StepsKeepTextInBounds};
 ghost use Rattle.rule_model.specs.Choose.{goes_before};
 ghost use Rattle.std.specs.Cmp.{IsStrictWeakOrder};
 
@@ -65,11 +65,12 @@ pub fn events_keep_sound()
 {}
 
 /// The edit that a key event reports makes the new text of the old one, and repeats nothing that both begin with.
-#[tactic(auto, using(crate::proofs::Edits::edit_gives_the_text, crate::proofs::Edits::edit_is_short))]
+#[tactic(auto, using(crate::proofs::Edits::edit_gives_the_text, crate::proofs::Edits::edit_is_short, crate::proofs::Insertions::press_inserts_at_most_what_it_puts))]
 pub fn edits_give_the_text()
     ensures text { EditGivesTheText }
     ensures short { EditIsShort }
     ensures press { PressEditsTheText }
+    ensures inserted { PressInsertsAtMostWhatItPuts }
 {}
 
 /// The whole text of a trace has at most 1,000,000 characters: a press adds at most what it puts, and is refused in time.

@@ -7,7 +7,6 @@ ghost use Rattle.rule_model.specs.Tab.{tab, elements_of};
 
 use crate::plain::elements::{item_of, place_caught};
 use crate::plain::player::{Player, value_at};
-use crate::plain::texts::put;
 use crate::plain::values::set_value;
 use crate::{Acting, Caught};
 use kmn_base::limits::EVENT_PUTS;
@@ -25,7 +24,7 @@ pub fn put_item(alloc: Global, item: Item, acting: &mut Acting) -> Result<(), Me
         acting.stopped = true;
         return Ok(());
     }
-    acting.left = put(alloc, &acting.left, item)?;
+    acting.left.put(alloc, item)?;
     acting.put += 1;
     Ok(())
 }

@@ -9,8 +9,7 @@ ghost use Rattle.rule_model.specs.Tab.{tab};
 use crate::Acting;
 use crate::plain::acting::put_item;
 use crate::plain::player::Player;
-use crate::plain::texts::without_last_character;
-use kmn_base::{Item, KeyPress, Memory, Seq};
+use kmn_base::{Item, KeyPress, Memory};
 use std::alloc::Global;
 use virtual_keys::{char_of, named_chars};
 
@@ -37,15 +36,14 @@ fn has_character(items: &[Item]) -> bool
 }
 
 /// A press that gives no character deletes back, or is passed on.
-fn delete_or_pass(alloc: Global, press: KeyPress, acting: &mut Acting) -> Result<(), Memory>
-    ensures { OnOk result (acting.new ≡ delete_or_pass press acting.old) }
+fn delete_or_pass(press: KeyPress, acting: &mut Acting)
+    ensures { acting.new ≡ delete_or_pass press acting.old }
 {
     if press.code == BACKSPACE && is_plain_press(press) && has_character(acting.left.as_slice()) {
-        acting.left = Seq::from_slice(alloc, without_last_character(acting.left.as_slice()))?;
+        acting.left.take_character();
     } else {
         acting.pass = true;
     }
-    Ok(())
 }
 
 /// A press that is no key of the dictionary puts the character that it gives.
@@ -54,7 +52,10 @@ fn put_press(alloc: Global, press: KeyPress, acting: &mut Acting) -> Result<(), 
 {
     match char_of(press) {
         Some(c) => put_item(alloc, Item::Char(c), acting),
-        None => delete_or_pass(alloc, press, acting),
+        None => {
+            delete_or_pass(press, acting);
+            Ok(())
+        }
     }
 }
 

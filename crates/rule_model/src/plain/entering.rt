@@ -14,7 +14,6 @@ use crate::plain::defaults::by_default;
 use crate::plain::elements::item_caught;
 use crate::plain::matching::chosen_in;
 use crate::plain::player::Player;
-use crate::plain::texts::without_last;
 use crate::{Acting, Caught, Group, Out, Rule};
 use kmn_base::limits::EVENT_ENTRIES;
 use kmn_base::{Item, KeyPress, Memory, Seq};
@@ -117,15 +116,14 @@ fn nothing(alloc: Global) -> Caught
 
 /// Takes what a record has matched.
 #[tactic(auto, using(crate::proofs::PlainLists::length_filter_map))]
-fn take(alloc: Global, caught: &Caught, acting: &mut Acting) -> Result<(), Memory>
-    ensures { OnOk result (acting.new ≡ record acting.old {
+fn take(caught: &Caught, acting: &mut Acting)
+    ensures { acting.new ≡ record acting.old {
       left = without_last (length (items_caught caught.now)) acting.old.left;
-    }) }
+    } }
 {
     let catches = caught.catches.as_slice();
     let count = catches.iter().filter(|catch| catch.item.is_some()).count();
-    acting.left = Seq::from_slice(alloc, without_last(count, acting.left.as_slice()))?;
-    Ok(())
+    acting.left.take(count);
 }
 
 /// A chosen record: its items are taken, its output acts, then the group's match output.
@@ -141,7 +139,7 @@ fn do_chosen(
         (tab_group (stores_of stroke.now) group.now) (tab_rule (stores_of stroke.now) group.now.using_keys rule.now, caught.now) acting.old) }
 {
     let alloc = stroke.player.alloc();
-    take(alloc, caught, acting)?;
+    take(caught, acting);
     act(stroke, caught, rule.output.as_slice(), acting)?;
     act(stroke, &nothing(alloc), group.on_match.as_slice(), acting)
 }

@@ -11,7 +11,7 @@ use crate::plain::entering::after_key;
 use crate::plain::player::Player;
 use crate::plain::texts::{characters, common_prefix, read_again};
 use crate::plain::values::{copies, picked, set_value, spread};
-use crate::{Acting, PlainState, Tables};
+use crate::{Acting, LeftList, PlainState, Tables};
 use kmn_base::{Element, Event, Item, KeyPress, Memory, Outcome, Seq};
 use std::alloc::Global;
 
@@ -21,17 +21,10 @@ fn begin_event(player: &Player, state: &PlainState) -> Result<Acting, Memory>
     ensures { IfOk result (λ acting. acting ≡ begin_event state.now.left
         (of_options (tab player.now).stores state.now.current) (of_options (tab player.now).stores state.now.saved)) }
 {
-    Ok(Acting {
-        left: state.left.copy(player.alloc())?,
-        current: picked(player, state.current.as_slice())?,
-        saved: picked(player, state.saved.as_slice())?,
-        pass: false,
-        stopped: false,
-        beeps: 0,
-        entered: 0,
-        put: 0,
-        saves: 0,
-    })
+    let left = LeftList::from_slice(player.alloc(), state.left.as_slice())?;
+    let current = picked(player, state.current.as_slice())?;
+    let saved = picked(player, state.saved.as_slice())?;
+    Ok(Acting::begin(left, current, saved))
 }
 
 /// The outcome of a press, from the list before and what it left.
@@ -43,14 +36,7 @@ fn outcome_of(alloc: Global, old: &[Item], acting: &Acting) -> Result<Outcome, M
     let before = characters(alloc, old)?;
     let after = characters(alloc, acting.left.as_slice())?;
     let deleted = before.len() - common_prefix(before.as_slice(), after.as_slice());
-    Ok(Outcome {
-        delete: deleted as u32,
-        pass: acting.pass,
-        beeps: acting.beeps,
-        entered: acting.entered,
-        put: acting.put,
-        saved: acting.saves,
-    })
+    Ok(acting.outcome(deleted as u32))
 }
 
 /// The state that acting left, with this outcome.
@@ -63,7 +49,7 @@ fn acted(
     ensures { IfOk result (λ after. after ≡ acted player.now acting.now last state.now) }
 {
     Ok(PlainState {
-        left: acting.left.copy(player.alloc())?,
+        left: Seq::from_slice(player.alloc(), acting.left.as_slice())?,
         right: state.right.copy(player.alloc())?,
         current: spread(player, state.current.as_slice(), acting.current.as_slice())?,
         saved: spread(player, state.saved.as_slice(), acting.saved.as_slice())?,
@@ -84,7 +70,7 @@ fn text_becomes(
     }) }
 {
     Ok(PlainState {
-        left: read_again(alloc, state.left.as_slice(), left)?,
+        left: Seq::from_vec(read_again(alloc, state.left.as_slice(), left)?),
         right: Seq::from_slice(alloc, right)?,
         current: copies(alloc, state.current.as_slice())?,
         saved: copies(alloc, state.saved.as_slice())?,

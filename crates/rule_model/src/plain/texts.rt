@@ -1,11 +1,10 @@
-ghost use Rattle.std.specs.Prelude.{◌≡◌, ◌++◌, ◌-◌, IfOk, OnOk, map, drop, take, length, nat_eq};
-ghost use Rattle.std.specs.List.{common_prefix_len};
-ghost use Rattle.kmn_base.specs.Lists.{characters, is_mark, without_last, window, put, still_stands, read_again};
-ghost use Rattle.rule_model.specs.Enter.{without_end_marks, without_last_character};
+ghost use Rattle.std.specs.Prelude.{◌≡◌, IfOk, map};
+ghost use Rattle.std.specs.List.{suffix_len};
+ghost use Rattle.kmn_base.specs.Lists.{characters, is_mark, without_last, window, still_stands, read_again};
 ghost use Rattle.rule_model.specs.KeyEvent.{common_prefix};
 
 use kmn_base::limits::WINDOW_ITEMS;
-use kmn_base::{Item, Memory, Seq};
+use kmn_base::{Item, Memory};
 use std::alloc::Global;
 
 /// The characters of items, without the marks.
@@ -22,7 +21,7 @@ pub fn characters(alloc: Global, items: &[Item]) -> Result<Vec<char>, Memory>
 }
 
 /// Characters as items.
-fn as_items(alloc: Global, text: &[char]) -> Result<Vec<Item>, Memory>
+pub fn as_items(alloc: Global, text: &[char]) -> Result<Vec<Item>, Memory>
     ensures { IfOk result (λ items. items.items ≡ map Item.Char text.now) }
 {
     let mut items = Vec::new(alloc);
@@ -40,26 +39,14 @@ pub fn without_last(count: usize, items: &[Item]) -> &[Item]
 }
 
 /// The last items, to which marks are confined.
-fn window(items: &[Item]) -> &[Item]
+pub fn window(items: &[Item]) -> &[Item]
     ensures { result.now ≡ window items.now }
 {
     &items[items.len().saturating_sub(WINDOW_ITEMS)..]
 }
 
-/// The list with an item at its end, and without the marks that are then before the window.
-pub fn put(alloc: Global, left: &Seq<Item>, item: Item) -> Result<Seq<Item>, Memory>
-    ensures { IfOk result (λ after. after ≡ put left.now item) }
-{
-    let mut all = Vec::from_slice(alloc, left.as_slice())?;
-    all.push(item)?;
-    let before = characters(alloc, without_last(WINDOW_ITEMS, all.as_slice()))?;
-    let mut after = as_items(alloc, before.as_slice())?;
-    after.extend_from_slice(window(all.as_slice()))?;
-    Ok(Seq::from_vec(after))
-}
-
 /// Whether an item is a mark.
-fn is_mark(item: Item) -> bool
+pub fn is_mark(item: Item) -> bool
     ensures { result ≡ is_mark item }
 {
     match item {
@@ -68,22 +55,15 @@ fn is_mark(item: Item) -> bool
     }
 }
 
-/// The items without the marks at their end.
-fn without_end_marks(items: &[Item]) -> &[Item]
-    ensures { result.now ≡ without_end_marks items.now }
+/// How many marks stand at the end of items.
+pub fn end_marks(items: &[Item]) -> usize
+    ensures { result ≡ suffix_len is_mark items.now }
 {
     let mut count = items.len();
     while count > 0 && is_mark(items[count - 1]) {
         count -= 1;
     }
-    &items[..count]
-}
-
-/// The items without the last character and the marks around it.
-pub fn without_last_character(items: &[Item]) -> &[Item]
-    ensures { result.now ≡ without_last_character items.now }
-{
-    without_end_marks(without_last(1, without_end_marks(items)))
+    items.len() - count
 }
 
 /// Whether the last items still stand at the end of a text, and it is known what stands before them.
@@ -95,17 +75,17 @@ fn still_stands(kept: &[Item], last: &[char], text: &[char]) -> bool
 }
 
 /// The text read again, with the marks that keep their places.
-pub fn read_again(alloc: Global, items: &[Item], text: &[char]) -> Result<Seq<Item>, Memory>
-    ensures { IfOk result (λ left. left ≡ read_again items.now text.now) }
+pub fn read_again(alloc: Global, items: &[Item], text: &[char]) -> Result<Vec<Item>, Memory>
+    ensures { IfOk result (λ left. left.items ≡ read_again items.now text.now) }
 {
     let kept = window(items);
     let last = characters(alloc, kept)?;
     if !still_stands(kept, last.as_slice(), text) {
-        return Ok(Seq::from_vec(as_items(alloc, text)?));
+        return as_items(alloc, text);
     }
     let mut left = as_items(alloc, &text[..text.len() - last.len()])?;
     left.extend_from_slice(kept)?;
-    Ok(Seq::from_vec(left))
+    Ok(left)
 }
 
 /// How many characters two texts begin with alike.
