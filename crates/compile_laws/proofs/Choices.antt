@@ -108,7 +108,7 @@ best_rule-within names P caught [] h = λ x e. absurd (none-some x e)
 best_rule-within names P caught (r ∷ rs) h = with_within names P caught r (caught r) (best_rule names caught rs) h.0 refl (best_rule-within names P caught rs h.1)
 
 -- the order of records is one, and between rules of different lines it is that of the rules
-records_order : IsStrictWeakOrder stands_before
+pub records_order : IsStrictWeakOrder stands_before
 records_order =
     ranks_by (then_total (then_total (back_total (on_total (λ (x : Rule). length x.context) nat_cmp_total)) (on_total (λ (x : Rule). x.line) nat_cmp_total)) (on_total (λ (x : Rule). x.place) nat_cmp_total)) (λ x. x)
 

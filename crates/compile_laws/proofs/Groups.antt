@@ -48,7 +48,7 @@ some_output f (out ∷ outs) = refl
 abbrev with_table : Program → GroupDef → List Rule → Group
 with_table p g table = record (file_group (numbers_of p) g) { rules = table }
 
-ordered_group : (p : Program) (g : GroupDef) (h : Group) → IsOrderedGroup (file_group (numbers_of p) g) h → h ≡ with_table p g h.rules
+pub ordered_group : (p : Program) (g : GroupDef) (h : Group) → IsOrderedGroup (file_group (numbers_of p) g) h → h ≡ with_table p g h.rules
 ordered_group p g h o = λ i. record { name = o.name i; using_keys = o.using_keys i; rules = h.rules; on_match = o.on_match i; on_nomatch = o.on_nomatch i }
 
 module _ (p : Program) (t : Tables) (l : Linked p t) (d : (tab t).dictionary ≡ (src p).dictionary) (press : KeyPress) (e f : Ref → Acting → Acting) (same : SameEntry p e f) where

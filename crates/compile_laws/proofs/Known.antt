@@ -74,7 +74,7 @@ fewer_lines r (other ∷ rs) h =
     cond_both (is_plain other) (other ∷ filter is_plain rs) (filter is_plain rs) (λ xs. list_any (λ (other : RuleDef). nat_eq other.line r.line) xs ≡ false)
     (λ _. or_from (nat_eq other.line r.line) _ each.0 rest) (λ _. rest)
 
-plain_lines : (rs : List RuleDef) → have_own_lines rs ≡ true → have_own_lines (filter is_plain rs) ≡ true
+pub plain_lines : (rs : List RuleDef) → have_own_lines rs ≡ true → have_own_lines (filter is_plain rs) ≡ true
 plain_lines [] h = refl
 plain_lines (r ∷ rs) h =
     let each = and_parts (not (list_any (λ (other : RuleDef). nat_eq other.line r.line) rs)) (have_own_lines rs) h in

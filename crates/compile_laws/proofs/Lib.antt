@@ -14,4 +14,5 @@ pub mod Dictionary
 pub mod Stores
 pub mod Whole
 pub mod Options
+pub mod Ordered
 pub mod Examples

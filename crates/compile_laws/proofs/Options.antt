@@ -210,7 +210,7 @@ module _ (p : Program) where
       let v = and_parts (list_all (λ r. list_all (has_values p) (rule_items r)) g.rules) _ valued in
       (group_known p g k.0 v.0, groups_known gs k.1 v.1)
 
-ordered_zip : (xs ys : List Group) → AreOrderedGroups xs ys → AllZip IsOrderedGroup xs ys
+pub ordered_zip : (xs ys : List Group) → AreOrderedGroups xs ys → AllZip IsOrderedGroup xs ys
 ordered_zip [] [] h = tt
 ordered_zip [] (y ∷ ys) h = absurd (omega (arith, h.count))
 ordered_zip (x ∷ xs) [] h = absurd (omega (arith, h.count))

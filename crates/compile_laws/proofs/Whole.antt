@@ -19,7 +19,9 @@ use Rattle.rule_model.specs.Compiles.{Compiles}
 use Rattle.rule_model.specs.WellNamed.{IsWellNamed, is_known_start}
 use Rattle.rule_model.specs.Src.{src, start_named, is_unicode}
 use Rattle.rule_model.specs.Tab.{tab}
-use Rattle.compile_laws.specs.Law.{MeaningIsKept}
+use Rattle.rule_model.specs.Trace.{Steps, trace}
+use Rattle.rule_model.specs.Transcript.{transcript, transcript_of, events_of}
+use Rattle.compile_laws.specs.Law.{MeaningIsKept, TranscriptIsKept}
 use Rattle.compile_laws.proofs.Keyboards.{src_start, tab_start, after_key-enters, trace-steps}
 use Rattle.compile_laws.proofs.Traces.{steps_from-same}
 use Rattle.compile_laws.proofs.Stores.{linked, first_state-same}
@@ -54,3 +56,9 @@ meaning_kept p t ok c events =
     ∙ (ap (steps_from (src p) 1 events) (first_state-same p t ok c)
     ∙ (steps_from-same (src p) (tab t) (event-same p t ok c) 1 events (first_state (tab t))
     ∙ sym (trace-steps (tab t) events)))
+
+pub transcript_kept : TranscriptIsKept
+unfolding transcript
+transcript_kept p t ok c entries =
+    ap (λ (first : State). transcript_of first (trace (src p) (events_of entries)) entries) (first_state-same p t ok c)
+    ∙ ap (λ (steps : Steps). transcript_of (first_state (tab t)) steps entries) (meaning_kept p t ok c (events_of entries))
