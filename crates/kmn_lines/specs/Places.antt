@@ -1,0 +1,24 @@
+-- Where pieces and lines stand in their source.
+use Rattle.std.specs.Prelude.{ℕ, ◌+◌, ◌<◌, ◌≤◌, List, length, IfSome}
+use Rattle.kmn_lines.specs.declared.reading.Reading.{Reading}
+use Rattle.kmn_lines.specs.declared.reading.Piece.{Piece}
+use Rattle.kmn_lines.specs.declared.logical.Logical.{Logical}
+
+-- the places that a reading knows lie between two others
+pub record IsBetween (from to : ℕ) (r : Reading) : Type 0 where
+  pub slash : IfSome r.slash (λ at. (from ≤ at) × (at ≤ to))
+  pub stop : IfSome r.stop (λ at. (from ≤ at) × (at ≤ to))
+
+-- a physical line stands behind a place, has a byte, and ends within a length
+pub record IsPieceWithin (from size : ℕ) (p : Piece) : Type 0 where
+  pub begins : from ≤ p.from
+  pub forward : p.from ≤ p.to
+  pub ends : p.to ≤ p.next
+  pub long : p.from < p.next
+  pub within : p.next ≤ size
+
+-- a logical line lies in the source, and its number is no greater than its place allows
+pub record IsPlaced (source : List ℕ) (l : Logical) : Type 0 where
+  pub forward : l.from ≤ l.to
+  pub within : l.to ≤ length source
+  pub counted : l.first_line ≤ l.from + 1

@@ -1,0 +1,46 @@
+//! Laws of the definitions in `specs/`, each the contract of a function with an empty body.
+
+ghost use Rattle.kmn_lines.specs.Laws.{TokensCoverParts, WordsArePlain, PartsStandInOrder, PhysicalLinesMakeTheSource, LinesMakeTheSource, LinesAreNumbered, TokensAreText};
+
+/// The tokens of a line stand in its parts in rising order and do not overlap, each has a byte and bears the number of
+/// its part, and every byte of a part that is in no token is a blank.
+#[tactic(auto, using(crate::proofs::Covering::tokens_cover_parts))]
+pub fn tokens_cover_parts()
+    ensures { TokensCoverParts }
+{}
+
+/// A word has no blank, no quote and none of the bytes that are tokens by themselves, so no `!=` either.
+#[tactic(auto, using(crate::proofs::Covering::words_are_plain))]
+pub fn words_are_plain()
+    ensures { WordsArePlain }
+{}
+
+/// The parts of a line stand in it in rising order and do not overlap.
+#[tactic(auto, using(crate::proofs::Whole::parts_stand_in_order))]
+pub fn parts_stand_in_order()
+    ensures { PartsStandInOrder }
+{}
+
+/// The physical lines with their line ends, put together behind a first U+FEFF, are the source.
+#[tactic(auto, using(crate::proofs::Whole::physical_lines_make_the_source))]
+pub fn physical_lines_make_the_source()
+    ensures { PhysicalLinesMakeTheSource }
+{}
+
+/// The logical lines with their line ends, put together behind a first U+FEFF, are the source.
+#[tactic(auto, using(crate::proofs::Whole::lines_make_the_source))]
+pub fn lines_make_the_source()
+    ensures { LinesMakeTheSource }
+{}
+
+/// The number of a logical line is one more than the number of line ends before it.
+#[tactic(auto, using(crate::proofs::Numbered::lines_are_numbered))]
+pub fn lines_are_numbered()
+    ensures { LinesAreNumbered }
+{}
+
+/// The tokens of the lines of a UTF-8 source are UTF-8.
+#[tactic(auto, using(crate::proofs::TextLines::tokens_are_text))]
+pub fn tokens_are_text()
+    ensures { TokensAreText }
+{}

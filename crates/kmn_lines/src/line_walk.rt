@@ -1,0 +1,67 @@
+//! The logical lines of a source, one by one.
+
+ghost use Rattle.std.specs.Prelude.{◌≡◌, ◌+◌, ◌≤◌, length, Some};
+
+use crate::logical::Logical;
+use crate::piece::piece_at;
+use crate::reading::Piece;
+
+/// The logical lines of a source.
+#[derive(Clone, Copy)]
+pub struct Lines<'a> {
+    pub(crate) bytes: &'a [u8],
+    /// Where the next physical line begins.
+    pub(crate) at: usize,
+    /// Its number.
+    pub(crate) line: u32,
+    ghost few: { length bytes.now ≤ 4194304 },
+    ghost within: { at ≤ length bytes.now },
+    ghost counted: { line ≤ at + 1 },
+}
+
+impl<'a> Lines<'a> {
+    ghost use Rattle.kmn_lines.specs.Lines.{extended};
+
+    /// A logical line that a physical line begins or goes on with.
+    fn extended(begun: Option<Logical>, piece: Piece) -> Logical
+        requires from { piece.from ≤ 4194304 }
+        requires to { piece.next ≤ 4194304 }
+        ensures { result ≡ extended begun piece }
+    {
+        let to = piece.next as u32;
+        match begun {
+            None => Logical {
+                first_line: piece.line,
+                from: piece.from as u32,
+                to,
+            },
+            Some(logical) => Logical { to, ..logical },
+        }
+    }
+}
+
+impl Iterator for Lines<'_> {
+    type Item = Logical;
+
+    ghost use Rattle.std.specs.Iterator.{YieldsFirst, item_count};
+    ghost use Rattle.kmn_lines.specs.Walks.{lines_left};
+
+    ghost next_gives = { YieldsFirst lines_left };
+
+    ghost remaining = { item_count lines_left };
+
+    fn next(&mut self) -> Option<Logical> {
+        let mut begun = None;
+        while self.at < self.bytes.len() {
+            let piece = piece_at(self.bytes, self.line, self.at);
+            self.at = piece.next;
+            self.line += 1;
+            let logical = Lines::extended(begun, piece);
+            if !piece.joined {
+                return Some(logical);
+            }
+            begun = Some(logical);
+        }
+        begun
+    }
+}

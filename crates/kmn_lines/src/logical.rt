@@ -1,0 +1,17 @@
+/// A logical line: one physical line, or several that backslashes join. `from` and `to` are byte places of the source.
+#[derive(Clone, Copy, Debug, PartialEq, Eq)]
+pub struct Logical {
+    /// The number of its first physical line, from 1.
+    pub first_line: u32,
+    pub from: u32,
+    pub to: u32,
+}
+
+/// A physical piece of a logical line, without comment and backslash. `from` and `to` are byte places of the source.
+#[derive(Clone, Copy, Debug, PartialEq, Eq)]
+pub struct Part {
+    /// The number of the physical line in which it lies, from 1.
+    pub line: u32,
+    pub from: u32,
+    pub to: u32,
+}

@@ -1,0 +1,80 @@
+//! The parts of a logical line, one by one.
+
+ghost use Rattle.std.specs.Prelude.{◌≡◌, ◌+◌, ◌^◌, ◌<◌, ◌≤◌, length};
+
+use crate::bytes::{before, behind, is_all_blank};
+use crate::logical::Part;
+use crate::piece::piece_at;
+use crate::prefix::{dropped, is_skipped};
+use crate::reading::Piece;
+
+/// The parts of a logical line.
+#[derive(Clone, Copy)]
+pub struct Parts<'a> {
+    /// The source up to the end of the logical line.
+    pub(crate) bytes: &'a [u8],
+    /// Where the next physical line begins.
+    pub(crate) at: usize,
+    /// Its number.
+    pub(crate) line: u32,
+    /// Whether a text that is not blank has come, before which alone a prefix may stand.
+    pub(crate) begun: bool,
+    ghost few: { length bytes.now ≤ 4194304 },
+    ghost within: { at ≤ length bytes.now },
+    ghost counted: { line ≤ at + 1 },
+}
+
+impl Parts<'_> {
+    ghost use Rattle.kmn_lines.specs.Lines.{part_behind, piece_text};
+
+    /// A physical line as a part, without some first bytes.
+    fn part_behind(count: usize, piece: Piece) -> Part
+        requires from { piece.from + count < 2 ^ 32 }
+        requires to { piece.to < 2 ^ 32 }
+        ensures { result ≡ part_behind count piece }
+    {
+        Part {
+            line: piece.line,
+            from: (piece.from + count) as u32,
+            to: piece.to as u32,
+        }
+    }
+
+    /// The text of a physical line.
+    fn text<'b>(bytes: &'b [u8], piece: &Piece) -> &'b [u8]
+        ensures is { result.now ≡ piece_text bytes.now piece.now }
+        ensures within { length result.now ≤ length bytes.now }
+    {
+        behind(before(bytes, piece.to), piece.from)
+    }
+}
+
+impl Iterator for Parts<'_> {
+    type Item = Part;
+
+    ghost use Rattle.std.specs.Iterator.{YieldsFirst, item_count};
+    ghost use Rattle.kmn_lines.specs.Walks.{parts_left};
+
+    ghost next_gives = { YieldsFirst parts_left };
+
+    ghost remaining = { item_count parts_left };
+
+    fn next(&mut self) -> Option<Part> {
+        if self.at == self.bytes.len() {
+            return None;
+        }
+        let piece = piece_at(self.bytes, self.line, self.at);
+        self.at = piece.next;
+        self.line += 1;
+        if self.begun {
+            return Some(Parts::part_behind(0, piece));
+        }
+        let text = Parts::text(self.bytes, &piece);
+        if is_skipped(text) {
+            self.at = self.bytes.len();
+            return None;
+        }
+        self.begun = !is_all_blank(text);
+        Some(Parts::part_behind(dropped(text), piece))
+    }
+}

@@ -1,0 +1,65 @@
+//! The words before the text of a logical line that are not read, or with which it is not read.
+
+ghost use Rattle.std.specs.Prelude.{◌≡◌, ◌+◌, ◌≤◌, length};
+ghost use Rattle.kmn_lines.specs.Lines.{blanks, same_word, begins_with, begins_other, is_skipped, dropped};
+
+use crate::bytes::{before, behind, is_blank};
+
+/// How many blanks a text begins with.
+fn blanks(text: &[u8]) -> usize
+    ensures is { result ≡ blanks text.now }
+    ensures within { result ≤ length text.now }
+{
+    let mut count = 0;
+    while count < text.len() && is_blank(text[count]) {
+        count += 1;
+    }
+    count
+}
+
+/// Whether two words are the same, without ASCII case.
+#[tactic(auto, unfolding(crate::specs::Lines::same_word))]
+fn same_word(text: &[u8], word: &[u8]) -> bool
+    ensures { result ≡ same_word text.now word.now }
+{
+    text.eq_ignore_ascii_case(word)
+}
+
+/// Whether a text begins with a word, without ASCII case.
+fn begins_with(text: &[u8], word: &[u8]) -> bool
+    ensures { result ≡ begins_with text.now word.now }
+{
+    same_word(before(text, word.len()), word)
+}
+
+/// Whether these words are skipped.
+fn begins_other(words: &[u8]) -> bool
+    ensures { result ≡ begins_other words.now }
+{
+    begins_with(words, b"$keymanweb:") || begins_with(words, b"$kmfl:")
+}
+
+/// Whether a line with this text is skipped.
+#[tactic(auto, unfolding(crate::specs::Lines::is_skipped))]
+pub(crate) fn is_skipped(text: &[u8]) -> bool
+    ensures { result ≡ is_skipped text.now }
+{
+    begins_other(behind(text, blanks(text)))
+}
+
+/// How many bytes of a text are dropped before it is read.
+#[tactic(auto, unfolding(crate::specs::Lines::dropped))]
+pub(crate) fn dropped(text: &[u8]) -> usize
+    ensures is { result ≡ dropped text.now }
+    ensures few { result ≤ length text.now + 12 }
+{
+    let count = blanks(text);
+    let words = behind(text, count);
+    if begins_with(words, b"$keyman:") {
+        count + 8
+    } else if begins_with(words, b"$keymanonly:") {
+        count + 12
+    } else {
+        0
+    }
+}

@@ -1,0 +1,34 @@
+-- What the steps of a scan answer.
+use Rattle.std.specs.Prelude.{◌≡◌, ℕ, ◌+◌, ◌<◌, ◌≤◌, List, ◌++◌, length, drop, Option, None, Some, Result, Ok, Err}
+use Rattle.kmn_base.specs.declared.codes.Code.{Code}
+use Rattle.kmn_base.specs.declared.refusals.CompileError.{CompileError}
+use Rattle.kmn_base.specs.declared.refusals.CompileError.TheVariants.{Refused, Memory}
+use Rattle.kmn_lines.specs.declared.token.Token.{Token}
+use Rattle.kmn_lines.specs.Tokens.{refusal, scanned, first_fault}
+use Rattle.kmn_tokens.specs.declared.stop.Stop.{Stop}
+use Rattle.kmn_tokens.specs.declared.stop.Stop.TheVariants.{Broken, NoMemory}
+
+-- the error of a line that has stopped
+abbrev pub error_at : ℕ → Stop → CompileError
+error_at line (Broken code) = Refused (refusal line code)
+error_at line NoMemory = Memory
+
+-- the value where there is no fault, else the fault
+abbrev pub Gives : {A : Type 0} → Option Code → A → Result A Code → Type 0
+Gives fault value (Ok x) = (fault ≡ None) × (x ≡ value)
+Gives fault value (Err code) = fault ≡ Some code
+
+-- the tokens are appended where there is no fault, else the fault is answered; want of memory is free
+abbrev pub Appends : List Token → List Token → Option Code → List Token → Result (Unit {0}) Stop → Type 0
+Appends old new fault tokens (Ok x) = (fault ≡ None) × (new ≡ old ++ tokens)
+Appends old new fault tokens (Err (Broken code)) = fault ≡ Some code
+Appends old new fault tokens (Err NoMemory) = Unit {0}
+
+-- a step of some bytes from a place on: what it appends and what is left make up the whole, and it has no fault
+abbrev pub Steps : List Token → List Token → ℕ → ℕ → List ℕ → Result ℕ Stop → Type 0
+Steps old new line at bytes (Ok size) =
+    (0 < size) × (size ≤ length bytes)
+    × (new ++ scanned line 0 (at + size) (drop size bytes) ≡ old ++ scanned line 0 at bytes)
+    × (first_fault 0 (drop size bytes) ≡ first_fault 0 bytes)
+Steps old new line at bytes (Err (Broken code)) = first_fault 0 bytes ≡ Some code
+Steps old new line at bytes (Err NoMemory) = Unit {0}

@@ -1,0 +1,53 @@
+//! Numbers as `U+` and hexadecimal digits.
+
+ghost use Rattle.std.specs.Prelude.{◌≡◌, ◌≤◌};
+ghost use Rattle.kmn_lines.specs.Tokens.{hex_value, all_digits, value_fault, digits_fault};
+ghost use Rattle.kmn_tokens.specs.Scanning.{Gives};
+
+use crate::sizes::hex_digit;
+use kmn_base::Code;
+
+/// The number that digits write, capped past all characters.
+fn hex_value(digits: &[u8]) -> u32
+    ensures is { result ≡ hex_value 0 digits.now }
+    ensures within { result ≤ 0x11_0000 }
+{
+    let mut value = 0;
+    for digit in digits {
+        value = (value * 16 + hex_digit(*digit).unwrap_or(0)).min(0x11_0000);
+    }
+    value
+}
+
+/// Whether each byte is a hexadecimal digit.
+fn all_digits(digits: &[u8]) -> bool
+    ensures { result ≡ all_digits digits.now }
+{
+    for digit in digits {
+        if hex_digit(*digit).is_none() {
+            return false;
+        }
+    }
+    true
+}
+
+/// The character of a number.
+fn char_of(value: u32) -> Result<char, Code>
+    ensures { Gives (value_fault value) value result }
+{
+    if value == 0 || value == 0xFFFF {
+        return Err(Code::L02);
+    }
+    char::from_u32(value).ok_or(Code::L04)
+}
+
+/// The character of 4 to 6 hexadecimal digits.
+pub(crate) fn number(digits: &[u8]) -> Result<char, Code>
+    ensures { Gives (digits_fault digits.now) (hex_value 0 digits.now) result }
+{
+    if 4 <= digits.len() && digits.len() <= 6 && all_digits(digits) {
+        char_of(hex_value(digits))
+    } else {
+        Err(Code::L04)
+    }
+}

@@ -1,0 +1,159 @@
+//! Sources with their tokens, line by line: kind, number of the physical line, text; or the refusal of the line. In the
+//! table stands ¶ for LF, ¬ for a tab, † for U+FEFF, · for U+00A0,
+//! ° for U+0000 and ‡ for U+FFFF.
+
+ghost use Rattle.std.specs.Prelude.{◌≤◌, length};
+ghost use Rattle.kmn_lines.specs.Places.{IsPlaced};
+
+use crate::{Token, TokenKind, tokens};
+use kmn_base::Seq;
+use kmn_lines::bytes::{before, behind};
+use kmn_lines::{Logical, lines};
+use std::alloc::{AllocError, Global};
+use std::test::Fail;
+
+const SOURCES: &str = r#"
+store(v) 'ab' => [Word 1 store|Open 1 (|Word 1 v|Close 1 )|Quoted 1 'ab'|]
+[K_A] > U+0041 => [BracketOpen 1 [|Word 1 K_A|BracketClose 1 ]|Arrow 1 >|U 41 1 U+0041|]
+a+b=c,d!=e!f => [Word 1 a|Plus 1 +|Word 1 b|Equal 1 =|Word 1 c|Comma 1 ,|Word 1 d|Unequal 1 !=|Word 1 e!f|]
+! !! !== a! !!= => [Word 1 !|Word 1 !!|Unequal 1 !=|Equal 1 =|Word 1 a!|Word 1 !|Unequal 1 !=|]
+'a"b' "c'd" => [Quoted 1 'a"b'|Quoted 1 "c'd"|]
+ab'c'd'' => [Word 1 ab|Quoted 1 'c'|Word 1 d|Quoted 1 ''|]
+a¬b => [Word 1 a|Word 1 b|]
+a·b => [Word 1 a·b|]
+u+1F600 U+10FFFF U+D7FF U+E000 => [U 1F600 1 u+1F600|U 10FFFF 1 U+10FFFF|U D7FF 1 U+D7FF|U E000 1 U+E000|]
+U+0041( U+00e9'x' => [U 41 1 U+0041|Open 1 (|U E9 1 U+00e9|Quoted 1 'x'|]
+U+ x U+G aU+0041 => [Word 1 U|Plus 1 +|Word 1 x|Word 1 U|Plus 1 +|Word 1 G|Word 1 aU|Plus 1 +|Word 1 0041|]
+D65 x41 d65 101 => [Word 1 D65|Word 1 x41|Word 1 d65|Word 1 101|]
+U+D800 => refused L04 line 1
+U+DFFF => refused L04 line 1
+U+110000 => refused L04 line 1
+U+FFFFFF => refused L04 line 1
+U+0 => refused L04 line 1
+U+000 => refused L04 line 1
+U+41 => refused L04 line 1
+U+0000000 => refused L04 line 1
+U+000041 => [U 41 1 U+000041|]
+U+0041x => refused L04 line 1
+U+0041U+0042 => refused L04 line 1
+U+0041° => refused L02 line 1
+U+0000 => refused L02 line 1
+U+000000 => refused L02 line 1
+U+FFFF => refused L02 line 1
+U+00ffff => refused L02 line 1
+U+FFFE => [U FFFE 1 U+FFFE|]
+'a => refused L03 line 1
+a 'b¶'c' => refused L03 line 1[Quoted 2 'c'|]
+'a \¶'b' => refused L03 line 1[Quoted 2 'b'|]
+'a U+D800 => refused L03 line 1
+"a' => refused L03 line 1
+'° => refused L02 line 1
+'°' => refused L02 line 1
+'a' ‡ => refused L02 line 1
+a‡b => refused L02 line 1
+U+D800 'a => refused L04 line 1
+'a' U+FFFF U+D800 => refused L02 line 1
+U+D800 U+FFFF => refused L04 line 1
+x¶y \¶'b => [Word 1 x|]refused L03 line 2
+'a¶U+0 => refused L03 line 1refused L04 line 2
+c 'a => []
+$keymanweb: 'a => []
+$keyman:c x => [Word 1 c|Word 1 x|]
+outs( c ) => [Word 1 outs|Open 1 (|]
+abc d => [Word 1 abc|Word 1 d|]
++ 'a' > \¶'b' c x \¶+ 'c' > 'd' => [Plus 1 +|Quoted 1 'a'|Arrow 1 >|Quoted 2 'b'|][Plus 3 +|Quoted 3 'c'|Arrow 3 >|Quoted 3 'd'|]
++ 'a' > \ 'b' => [Plus 1 +|Quoted 1 'a'|Arrow 1 >|Word 1 \|Quoted 1 'b'|]
+†U+0041 => [U 41 1 U+0041|]
+††a => [Word 1 †a|]
+"#;
+
+/// The text that a text of the table stands for.
+fn source_of(alloc: Global, text: &str) -> Result<String, AllocError> {
+    let mut source = String::new(alloc);
+    for c in text.chars() {
+        let meant = match c {
+            '¶' => '\n',
+            '¬' => '\t',
+            '†' => '\u{FEFF}',
+            '·' => '\u{A0}',
+            '°' => '\0',
+            '‡' => '\u{FFFF}',
+            _ => c,
+        };
+        source.push(meant)?;
+    }
+    Ok(source)
+}
+
+fn show_token(
+    alloc: Global,
+    out: &mut Vec<u8>,
+    source: &str,
+    token: Token,
+) -> Result<(), AllocError> {
+    let kind = match token.kind {
+        TokenKind::Number(c) => format!(in alloc; "U {:X} {} ", c as u32, token.line)?,
+        kind => format!(in alloc; "{:?} {} ", kind, token.line)?,
+    };
+    out.extend_from_slice(kind.as_bytes())?;
+    let text = before(source.as_bytes(), token.to as usize);
+    out.extend_from_slice(behind(text, token.from as usize))?;
+    out.extend_from_slice(b"|")
+}
+
+fn show_tokens(
+    alloc: Global,
+    out: &mut Vec<u8>,
+    source: &str,
+    found: &Seq<Token>,
+) -> Result<(), AllocError> {
+    out.extend_from_slice(b"[")?;
+    for token in found.as_slice() {
+        show_token(alloc, out, source, *token)?;
+    }
+    out.extend_from_slice(b"]")
+}
+
+/// The tokens of a line, or its refusal.
+fn show_line(
+    alloc: Global,
+    out: &mut Vec<u8>,
+    source: &str,
+    logical: Logical,
+) -> Result<(), AllocError>
+    requires few { length source.now ≤ 4194304 }
+    requires placed { IsPlaced source.now logical }
+{
+    match tokens(alloc, source, logical) {
+        Ok(found) => show_tokens(alloc, out, source, &found),
+        Err(error) => {
+            let refusal = format!(in alloc; "{error}")?;
+            out.extend_from_slice(refusal.as_bytes())
+        }
+    }
+}
+
+/// The tokens or refusals of the lines of a source.
+fn shown(alloc: Global, source: &str) -> Result<Vec<u8>, AllocError>
+    requires { length source.now ≤ 4194304 }
+{
+    let mut out = Vec::new(alloc);
+    for logical in lines(source) {
+        show_line(alloc, &mut out, source, logical)?;
+    }
+    Ok(out)
+}
+
+#[test]
+fn lines_have_tokens(rt: HostRuntime) -> Result<(), Fail> {
+    for row in SOURCES.lines() {
+        if let Some((text, wanted)) = row.split_once(" => ") {
+            let source = source_of(rt.alloc(), text)?;
+            let wanted = source_of(rt.alloc(), wanted)?;
+            assert!(rt; source.len() < 100);
+            let found = shown(rt.alloc(), source.as_str())?;
+            assert_eq!(rt; found.as_slice(), wanted.as_bytes(), "{row}");
+        }
+    }
+    Ok(())
+}
