@@ -1,0 +1,63 @@
+-- What a line's sections have of its tokens, what a walk over lines has left, and where a rule goes.
+use Rattle.std.proofs.Common.{◌≡◌, ℕ, ◌+◌, ◌≤◌, Bool, true, false, if◌then◌else◌, nat_lt, List, [], ◌∷◌, ◌++◌, length, Err, refl, sym, ap, cond, not, ◌∙◌, arith}
+use Rattle.std.specs.Prelude.{IsUtf8}
+use Rattle.std.specs.Str.{is_utf8}
+use Rattle.std.proofs.lemmas.Bool.Decides.{nat_tests}
+use Rattle.std.proofs.lemmas.Str.{is_utf8-from_IsUtf8, IsUtf8-from_is_utf8}
+use Rattle.kmn_base.specs.declared.codes.Code.TheVariants.{L01, L05}
+use Rattle.kmn_base.specs.declared.limits.TheConstants.{TEXT_BYTES}
+use Rattle.kmn_lines.specs.Tokens.{refusal}
+use Rattle.std.specs.List.{All, AllByRecursion, position_or_len}
+use Rattle.std.proofs.lemmas.List.Elements.{All-head, All-tail}
+use Rattle.kmn_lines.specs.declared.token.Token.{Token}
+use Rattle.rule_model.specs.declared.program.RuleDef.{RuleDef}
+use Rattle.rule_model.specs.declared.program.GroupDef.{GroupDef}
+use Rattle.kmn_parser.specs.declared.statement.Sign.{Sign}
+use Rattle.kmn_parser.specs.Told.{told}
+use Rattle.kmn_parser.specs.Line.{is_sign, place_of}
+use Rattle.kmn_parser.specs.Source.{with_rule, read_text, parsed}
+
+-- a sign stands at the same place among the tokens with their texts
+pub place_told : (source : List ℕ) (wanted : Sign) (tokens : List Token) → place_of wanted (told source tokens) ≡ position_or_len (λ (token : Token). is_sign wanted token.kind) tokens
+place_told source wanted [] = refl
+place_told source wanted (token ∷ tokens) = ap (λ n. cond (not (is_sign wanted token.kind)) (1 + n) 0) (place_told source wanted tokens)
+
+-- what holds of all, element by element
+pub by_recursion : {X : Type 0} (P : X → Type 0) (xs : List X) → All P xs → AllByRecursion P xs
+by_recursion P [] all = tt
+by_recursion P (x ∷ xs) all = (All-head P x xs all, by_recursion P xs (All-tail P x xs all))
+
+-- a rule goes to the last group
+pub rule_goes_last : (groups : List GroupDef) (group : GroupDef) (rule : RuleDef)
+    → with_rule (groups ++ group ∷ []) rule ≡ groups ++ record group { rules = group.rules ++ rule ∷ [] } ∷ []
+rule_goes_last [] group rule = refl
+rule_goes_last (first ∷ []) group rule = refl
+rule_goes_last (first ∷ next ∷ groups) group rule = ap (λ gs. first ∷ gs) (rule_goes_last (next ∷ groups) group rule)
+
+two_tests : {X : Type 0} (long text : Bool) (a b c : X) → long ≡ false → text ≡ true → (if long then a else (if not text then b else c)) ≡ c
+two_tests true text a b c e f = cc
+two_tests false true a b c e f = refl
+two_tests false false a b c e f = cc
+
+second_fails : {X : Type 0} (long text : Bool) (a b c : X) → long ≡ false → ¬ (text ≡ true) → (if long then a else (if not text then b else c)) ≡ b
+second_fails true text a b c e f = cc
+second_fails false true a b c e f = absurd (f refl)
+second_fails false false a b c e f = refl
+
+not_less : (m n : ℕ) → n ≤ m → nat_lt m n ≡ false
+not_less m n le = grind (arith, nat_tests)
+
+-- a source that is short enough and in UTF-8 is read as text
+pub parsed_text : (source text : List ℕ) → length source ≤ TEXT_BYTES → text ≡ source → IsUtf8 source → parsed source ≡ read_text text
+unfolding parsed
+parsed_text source text short same utf8 =
+    two_tests (nat_lt TEXT_BYTES (length source)) (is_utf8 source) (Err (refusal 1 L05)) (Err (refusal 1 L01)) (read_text source)
+    (not_less TEXT_BYTES (length source) short) (is_utf8-from_IsUtf8 source utf8)
+    ∙ ap read_text (sym same)
+
+-- one that is short enough and not in UTF-8 is refused as such
+pub parsed_other : (source : List ℕ) → length source ≤ TEXT_BYTES → ¬ (IsUtf8 source) → parsed source ≡ Err (refusal 1 L01)
+unfolding parsed
+parsed_other source short other =
+    second_fails (nat_lt TEXT_BYTES (length source)) (is_utf8 source) (Err (refusal 1 L05)) (Err (refusal 1 L01)) (read_text source)
+    (not_less TEXT_BYTES (length source) short) (λ e. other (IsUtf8-from_is_utf8 source e))

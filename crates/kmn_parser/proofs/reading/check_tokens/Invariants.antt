@@ -1,0 +1,13 @@
+use Rattle.std.proofs.Common.{◌≡◌}
+use Rattle.std.specs.List.{AllByRecursion}
+use Rattle.kmn_lines.specs.Lines.{logicals}
+use Rattle.kmn_lines.specs.Places.{IsPlaced}
+use Rattle.kmn_lines.specs.Tokens.{tokens_refusal}
+use Rattle.kmn_lines.specs.Walks.{lines_left}
+use Rattle.kmn_parser.proofs.reading.check_tokens.Given as goal
+
+abbrev pub invariant-loop-logical : goal.invariant-loop-logical
+invariant-loop-logical l = record {
+  placed : AllByRecursion (IsPlaced l.source) (lines_left l.logical-iterator);
+  rest : tokens_refusal l.source (lines_left l.logical-iterator) ≡ tokens_refusal l.source (logicals l.source);
+}

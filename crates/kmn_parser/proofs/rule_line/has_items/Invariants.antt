@@ -1,0 +1,7 @@
+use Rattle.std.proofs.Common.{◌≡◌, drop}
+use Rattle.kmn_parser.specs.Line.{has_items}
+use Rattle.kmn_parser.specs.Told.{told}
+use Rattle.kmn_parser.proofs.rule_line.has_items.Given as goal
+
+abbrev pub invariant-loop-token : goal.invariant-loop-token
+invariant-loop-token l = has_items (told l.source (drop l.token-index l.tokens)) ≡ has_items (told l.source l.tokens)

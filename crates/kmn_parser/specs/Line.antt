@@ -1,0 +1,256 @@
+-- The statement of a logical line's tokens, or the first fault in it.
+use Rattle.std.specs.Prelude.{ℕ, ◌+◌, ◌-◌, ◌==◌, nat_lt, Bool, true, false, not, ◌&&◌, ◌||◌, if◌then◌else◌, List, [], ◌∷◌, length, take, drop, codes, Option, None, Some, is_some, unwrap_or, option_map, Result, Ok, Err}
+use Rattle.std.specs.List.{list_any, position_or_len}
+use Rattle.kmn_base.specs.declared.codes.Code.{Code}
+use Rattle.kmn_base.specs.declared.codes.Code.TheVariants as code
+use Rattle.kmn_lines.specs.Bytes.{or_else}
+use Rattle.kmn_lines.specs.declared.token.TokenKind.{TokenKind}
+use Rattle.kmn_lines.specs.declared.token.TokenKind.TheVariants as kind
+use Rattle.virtual_keys.specs.Dictionary.{same_name}
+use Rattle.virtual_keys.specs.Keys.{number_named}
+use Rattle.rule_model.specs.declared.program.SrcItem.{SrcItem}
+use Rattle.rule_model.specs.declared.program.StoreDef.{StoreDef}
+use Rattle.rule_model.specs.declared.program.RuleDef.{RuleDef}
+use Rattle.rule_model.specs.declared.program.RuleKind.{RuleKind}
+use Rattle.rule_model.specs.declared.program.RuleKind.TheVariants.{Plain, OnMatch, OnNoMatch}
+use Rattle.kmn_parser.specs.declared.syntax.Fault.{Fault}
+use Rattle.kmn_parser.specs.declared.syntax.Slot.TheVariants as slot
+use Rattle.kmn_parser.specs.declared.syntax.Where.TheVariants as section
+use Rattle.kmn_parser.specs.declared.statement.Sign.{Sign}
+use Rattle.kmn_parser.specs.declared.statement.Sign.TheVariants as sign
+use Rattle.kmn_parser.specs.declared.statement.Statement.{Statement}
+use Rattle.kmn_parser.specs.declared.statement.Statement.TheVariants as statement
+use Rattle.kmn_parser.specs.Told.{LineToken, fault, text_at, begins_open, is_quoted, is_word, is_number, and_then}
+use Rattle.kmn_parser.specs.Words.{is_system_name, bare_name}
+use Rattle.kmn_parser.specs.Slots.{unless, broken}
+use Rattle.kmn_parser.specs.Item.{unseen, is_item_word, read_items, read_key}
+
+-- the signs that part a statement
+abbrev pub is_sign : Sign → TokenKind → Bool
+is_sign sign.Arrow kind.Arrow = true
+is_sign sign.Plus kind.Plus = true
+is_sign sign.Close kind.Close = true
+is_sign wanted other = false
+
+-- the place of the first token that is a sign, or the number of the tokens
+abbrev pub place_of : Sign → List LineToken → ℕ
+place_of wanted tokens = position_or_len (λ (token : LineToken). is_sign wanted token.kind) tokens
+
+-- whether tokens begin with a word, in any ASCII case
+abbrev pub begins_word : List ℕ → List LineToken → Bool
+begins_word word [] = false
+begins_word word (token ∷ tokens) = is_word token.kind && same_name word token.text
+
+abbrev pub is_none_left : List LineToken → Bool
+is_none_left tokens = length tokens == 0
+
+-- the fault, or what is read where there is none
+abbrev pub checked : {A : Type 0} → Option Fault → Result A Fault → Result A Fault
+checked (Some found) read = Err found
+checked None read = read
+
+-- a code at the line's first token, else a fault behind it
+abbrev pub first_of : Option Code → Option Fault → Option Fault
+first_of (Some head) later = Some (fault 0 head)
+first_of None later = later
+
+-- the tokens behind the first )
+abbrev pub behind_close : List LineToken → List LineToken
+behind_close tokens = drop (place_of sign.Close tokens + 1) tokens
+
+-- the id in a file of each system store of a source; 0xFFFF is read and dropped, 0xFFFE is left out by the checker
+unfoldable pub system_stores : List (List ℕ × ℕ)
+system_stores =
+    (codes "bitmap", 1) ∷ (codes "copyright", 2) ∷ (codes "hotkey", 3) ∷ (codes "message", 6) ∷ (codes "name", 7) ∷
+    (codes "version", 8) ∷ (codes "mnemoniclayout", 17) ∷ (codes "visualkeyboard", 24) ∷ (codes "layoutfile", 35) ∷
+    (codes "keyboardversion", 36) ∷ (codes "targets", 38) ∷ (codes "casedkeys", 0xFFFE) ∷ (codes "includecodes", 0xFFFE) ∷
+    (codes "capsalwaysoff", 0xFFFE) ∷ (codes "capsononly", 0xFFFE) ∷ (codes "shiftfreescaps", 0xFFFE) ∷
+    (codes "ethnologuecode", 0xFFFF) ∷ (codes "windowslanguages", 0xFFFF) ∷ (codes "language", 0xFFFF) ∷
+    (codes "layout", 0xFFFF) ∷ (codes "languagename", 0xFFFF) ∷ (codes "displaymap", 0xFFFF) ∷ (codes "kmw_rtl", 0xFFFF) ∷
+    (codes "kmw_helpfile", 0xFFFF) ∷ (codes "kmw_helptext", 0xFFFF) ∷ (codes "kmw_embedjs", 0xFFFF) ∷
+    (codes "kmw_embedcss", 0xFFFF) ∷ []
+
+-- the id of a store by its name: 0 for one without &, None for a system store that there isn't
+abbrev pub store_system : List ℕ → Option ℕ
+store_system name = if is_system_name name then number_named system_stores (bare_name name) else Some 0
+
+-- store: a known name and ); that the line breaks off at the name goes before that it isn't known
+abbrev pub store_form : ℕ → List LineToken → Option Fault
+store_form last tokens =
+    or_else (broken last 2 (slot.Name ∷ []) (drop 2 tokens))
+    (or_else (option_map (fault 2) (unless (is_none_left (drop 3 tokens) || is_some (store_system (text_at 2 tokens))) code.S12))
+    (broken last 3 (slot.Close ∷ []) (drop 3 tokens)))
+
+-- store: a ( behind the word, then the form
+unfoldable pub store_fault : ℕ → List LineToken → Option Fault
+store_fault last tokens = first_of (unless (begins_open (drop 1 tokens)) code.S01) (store_form last tokens)
+
+-- a store of a name, with its items; only an ordinary one keeps the name
+abbrev pub store_def : ℕ → List ℕ → List SrcItem → StoreDef
+store_def line name items =
+    record { line = line; system = unwrap_or (store_system name) 0; name = if is_system_name name then [] else name; items = items }
+
+-- store ( name ) items, store ( &name ) items
+unfoldable pub read_store : ℕ → ℕ → List LineToken → Result Statement Fault
+read_store line last tokens =
+    checked (store_fault last tokens)
+    (and_then (read_items section.Store unseen last 0 4 (drop 4 tokens))
+    (λ items. Ok (statement.Store (store_def line (text_at 2 tokens) items))))
+
+-- begin: one of two kinds
+abbrev pub begins_kind : List LineToken → Bool
+begins_kind tokens = begins_word (codes "Unicode") tokens || begins_word (codes "ANSI") tokens
+
+-- use ( .. ) and nothing behind it
+abbrev pub is_use : List LineToken → Bool
+is_use tokens = begins_word (codes "use") tokens && begins_open (drop 1 tokens) && is_none_left (behind_close (drop 2 tokens))
+
+-- begin, with its first > at a place: a form that lacks its > alone is another fault than a different form
+abbrev pub begin_head : ℕ → List LineToken → Option Code
+begin_head arrow tokens =
+    or_else (unless (begins_kind (drop 1 tokens) && is_use (drop (if arrow == 2 then 3 else 2) tokens)) code.S01)
+    (unless (arrow == 2) code.S04)
+
+unfoldable pub begin_fault : ℕ → List LineToken → Option Fault
+begin_fault last tokens =
+    first_of (begin_head (place_of sign.Arrow tokens) tokens) (broken last 5 (slot.Name ∷ slot.Close ∷ []) (drop 5 tokens))
+
+-- begin Unicode > use ( name ), begin ANSI > use ( name )
+unfoldable pub read_begin : ℕ → ℕ → List LineToken → Result Statement Fault
+read_begin line last tokens =
+    checked (begin_fault last tokens)
+    (Ok (statement.Begin (record { line = line; unicode = begins_word (codes "Unicode") (drop 1 tokens); group = text_at 5 tokens })))
+
+-- using keys and nothing behind it
+abbrev pub is_using_keys : List LineToken → Bool
+is_using_keys tokens = begins_word (codes "using") tokens && begins_word (codes "keys") (drop 1 tokens) && is_none_left (drop 2 tokens)
+
+-- group: a ( behind the word, and behind the first ) nothing or using keys
+abbrev pub group_head : List LineToken → List LineToken → Option Code
+group_head tokens tail = unless (begins_open (drop 1 tokens) && (is_none_left tail || is_using_keys tail)) code.S01
+
+unfoldable pub group_fault : ℕ → List LineToken → Option Fault
+group_fault last tokens =
+    first_of (group_head tokens (behind_close (drop 2 tokens))) (broken last 2 (slot.Name ∷ slot.Close ∷ []) (drop 2 tokens))
+
+-- group ( name ), group ( name ) using keys
+unfoldable pub read_group : ℕ → ℕ → List LineToken → Result Statement Fault
+read_group line last tokens =
+    checked (group_fault last tokens)
+    (Ok (statement.Group (record { line = line; name = text_at 2 tokens; using_keys = is_using_keys (behind_close (drop 2 tokens)); rules = [] })))
+
+-- no group stands before
+abbrev pub no_group : Option Bool → Option Code
+no_group group = unless (is_some group) code.S03
+
+-- two quotes with nothing between them, which stand for no item
+abbrev pub is_empty_quote : LineToken → Bool
+is_empty_quote token = is_quoted token.kind && (length token.text == 2)
+
+-- some token stands for an item
+abbrev pub has_items : List LineToken → Bool
+has_items tokens = list_any (λ token. not (is_empty_quote token)) tokens
+
+-- with the first > at a place: there is no >, or no item behind it
+abbrev pub no_output : ℕ → List LineToken → Option Code
+no_output arrow tokens = or_else (unless (nat_lt arrow (length tokens)) code.S04) (unless (has_items (drop (arrow + 1) tokens)) code.S06)
+
+-- match: the > stands right behind the word
+unfoldable pub match_fault : Option Bool → ℕ → List LineToken → Option Fault
+match_fault group arrow tokens =
+    first_of (or_else (no_group group) (no_output arrow tokens)) (option_map (fault 1) (unless (arrow == 1) code.S05))
+
+-- match > output, nomatch > output
+unfoldable pub read_match : RuleKind → Option Bool → ℕ → ℕ → List LineToken → Result Statement Fault
+read_match kind group line last tokens =
+    checked (match_fault group (place_of sign.Arrow tokens) tokens)
+    (and_then (read_items section.Output unseen last 0 2 (drop 2 tokens))
+    (λ output. Ok (statement.Rule (record { line = line; kind = kind; context = []; key = None; output = output }))))
+
+-- what a line of another statement may begin with though it has no >: a quoted token, a number, + or an item's word
+abbrev pub begins_rule : List LineToken → Bool
+begins_rule [] = false
+begins_rule (token ∷ tokens) =
+    is_quoted token.kind || is_number token.kind || is_sign sign.Plus token.kind || (is_word token.kind && is_item_word token.text)
+
+abbrev pub uses_keys : Option Bool → Bool
+uses_keys group = unwrap_or group false
+
+-- the codes of a rule that stand at its first token; the first > and the first + before it stand at these places
+unfoldable pub rule_head : Option Bool → ℕ → ℕ → List LineToken → Option Code
+rule_head group arrow plus tokens =
+    or_else (unless (nat_lt arrow (length tokens) || begins_rule tokens) code.S01)
+    (or_else (no_group group)
+    (or_else (no_output arrow tokens) (unless (not (uses_keys group) || nat_lt plus arrow) code.S08)))
+
+-- the key, which stands between + and >, in a group with keys alone
+unfoldable pub rule_key : Option Bool → ℕ → ℕ → ℕ → List LineToken → Result (Option SrcItem) Fault
+rule_key group last arrow plus tokens =
+    if not (nat_lt plus arrow) then Ok None
+    else (if uses_keys group
+    then and_then (read_key last (plus + 1) (drop (plus + 1) (take arrow tokens))) (λ key. Ok (Some key))
+    else Err (fault plus code.S07))
+
+-- the items of a rule, section by section
+unfoldable pub rule_body : Option Bool → ℕ → ℕ → ℕ → ℕ → List LineToken → Result RuleDef Fault
+rule_body group line last arrow plus tokens =
+    and_then (read_items section.Context unseen last 0 0 (take plus tokens)) (λ context.
+    and_then (rule_key group last arrow plus tokens) (λ key.
+    and_then (read_items section.Output unseen last 0 (arrow + 1) (drop (arrow + 1) tokens)) (λ output.
+    Ok (record { line = line; kind = Plain; context = context; key = key; output = output }))))
+
+-- the order of the codes of a source's form
+abbrev pub code_number : Code → ℕ
+code_number code.L02 = 2
+code_number code.L03 = 3
+code_number code.L04 = 4
+code_number code.S01 = 11
+code_number code.S02 = 12
+code_number code.S03 = 13
+code_number code.S04 = 14
+code_number code.S05 = 15
+code_number code.S06 = 16
+code_number code.S07 = 17
+code_number code.S08 = 18
+code_number code.S09 = 19
+code_number code.S10 = 20
+code_number code.S11 = 21
+code_number code.S12 = 22
+code_number other = 1
+
+-- the earlier of a code at the first token and a fault: at the first token too the lesser code goes first
+abbrev pub earlier : Code → Fault → Fault
+earlier head found = if (found.at == 0) && nat_lt (code_number found.code) (code_number head) then found else fault 0 head
+
+-- what is read, unless a code at the first token comes first
+abbrev pub earliest : Option Code → Result RuleDef Fault → Result Statement Fault
+earliest None (Ok rule) = Ok (statement.Rule rule)
+earliest None (Err found) = Err found
+earliest (Some head) (Ok rule) = Err (fault 0 head)
+earliest (Some head) (Err found) = Err (earlier head found)
+
+-- a rule with the first > at a place, and the first + before it at another, which is the first where there is none
+abbrev pub rule_at : Option Bool → ℕ → ℕ → ℕ → ℕ → List LineToken → Result Statement Fault
+rule_at group line last arrow plus tokens =
+    earliest (rule_head group arrow plus tokens) (rule_body group line last arrow plus tokens)
+
+-- context + key > output, or context > output in a group without keys
+unfoldable pub read_rule : Option Bool → ℕ → ℕ → List LineToken → Result Statement Fault
+read_rule group line last tokens =
+    let arrow = place_of sign.Arrow tokens in
+    rule_at group line last arrow (place_of sign.Plus (take arrow tokens)) tokens
+
+-- a line's tokens, of which there is one, by the first word
+abbrev pub read_tokens : Option Bool → ℕ → ℕ → List LineToken → Result Statement Fault
+read_tokens group line last tokens =
+    if begins_word (codes "store") tokens then read_store line last tokens
+    else (if begins_word (codes "begin") tokens then read_begin line last tokens
+    else (if begins_word (codes "group") tokens then read_group line last tokens
+    else (if begins_word (codes "match") tokens then read_match OnMatch group line last tokens
+    else (if begins_word (codes "nomatch") tokens then read_match OnNoMatch group line last tokens
+    else read_rule group line last tokens))))
+
+-- the statement of a line's tokens; None says that no group stands before, else it is known whether the group uses keys
+abbrev pub read_line : Option Bool → ℕ → List LineToken → Result Statement Fault
+read_line group line tokens =
+    if is_none_left tokens then Ok statement.Nothing else read_tokens group line (length tokens - 1) tokens

@@ -1,0 +1,321 @@
+//! Rules, and what a group does after a match or where nothing matches.
+
+ghost use Rattle.std.specs.Prelude.{◌≡◌, ◌+◌, ◌<◌, ◌≤◌, ◌^◌, length};
+ghost use Rattle.kmn_parser.specs.Told.{told, told_token, Reads};
+ghost use Rattle.kmn_parser.specs.Line.{no_group, is_empty_quote, has_items, no_output, match_fault, read_match, begins_rule, uses_keys, rule_head, rule_key, rule_body, code_number, earlier, rule_at, read_rule};
+
+use crate::items::{is_item_word, read_items, read_key};
+use crate::signs::place_of;
+use crate::statement::{Sign, Statement};
+use crate::syntax::{Fault, Trouble, Where};
+use crate::text::{behind, front, text_in};
+use kmn_base::{Code, Seq};
+use kmn_lines::{Token, TokenKind};
+use rule_model::{RuleDef, RuleKind, SrcItem};
+use std::alloc::Global;
+
+/// The places of a rule's first `>`, and of its first `+` before it; the end of what was searched where there is none.
+#[derive(Clone, Copy)]
+struct Signs {
+    arrow: usize,
+    plus: usize,
+}
+
+/// The code of a statement that wants a group before it.
+fn no_group(group: Option<bool>) -> Option<Code>
+    ensures { result ≡ no_group group }
+{
+    match group {
+        Some(_) => None,
+        None => Some(Code::S03),
+    }
+}
+
+/// Whether a token is two quotes with nothing between them.
+fn is_empty_quote(source: &[u8], token: Token) -> bool
+    ensures { result ≡ is_empty_quote (told_token source.now token) }
+{
+    token.kind == TokenKind::Quoted && text_in(source, token).len() == 2
+}
+
+/// Whether some token stands for an item.
+fn has_items(source: &[u8], tokens: &[Token]) -> bool
+    ensures { result ≡ has_items (told source.now tokens.now) }
+{
+    for token in tokens {
+        if !is_empty_quote(source, *token) {
+            return true;
+        }
+    }
+    false
+}
+
+/// The code of a statement without an output, with the first `>` at a place.
+#[tactic(auto, using(crate::proofs::ToldLemmas::drop_told, crate::proofs::ToldLemmas::length_told))]
+fn no_output(source: &[u8], arrow: usize, tokens: &[Token]) -> Option<Code>
+    ensures { result ≡ no_output arrow (told source.now tokens.now) }
+{
+    if tokens.len() <= arrow {
+        Some(Code::S04)
+    } else if has_items(source, behind(tokens, arrow + 1)) {
+        None
+    } else {
+        Some(Code::S06)
+    }
+}
+
+/// The first fault of a match or nomatch statement before its output.
+#[tactic(auto, unfolding(crate::specs::Line::match_fault))]
+fn match_fault(source: &[u8], group: Option<bool>, arrow: usize, tokens: &[Token]) -> Option<Fault>
+    ensures { result ≡ match_fault group arrow (told source.now tokens.now) }
+{
+    if let Some(code) = no_group(group) {
+        return Some(Fault { at: 0, code });
+    }
+    if let Some(code) = no_output(source, arrow, tokens) {
+        return Some(Fault { at: 0, code });
+    }
+    if arrow == 1 {
+        None
+    } else {
+        Some(Fault {
+            at: 1,
+            code: Code::S05,
+        })
+    }
+}
+
+/// Reads a match or nomatch statement.
+#[tactic(auto, unfolding(crate::specs::Line::read_match), using(crate::proofs::ToldLemmas::drop_told, crate::proofs::ToldLemmas::length_told))]
+pub(crate) fn read_match(
+    alloc: Global,
+    source: &[u8],
+    kind: RuleKind,
+    group: Option<bool>,
+    line: u32,
+    last: usize,
+    tokens: &[Token],
+) -> Result<Statement, Trouble>
+    requires { length tokens.now < 2 ^ 59 }
+    ensures { Reads (read_match kind group line last (told source.now tokens.now)) result }
+{
+    let arrow = place_of(source, Sign::Arrow, tokens);
+    if let Some(fault) = match_fault(source, group, arrow, tokens) {
+        return Err(Trouble::Broken(fault));
+    }
+    match read_items(alloc, source, Where::Output, last, 2, behind(tokens, 2)) {
+        Ok(output) => Ok(Statement::Rule(RuleDef {
+            line,
+            kind,
+            context: Seq::new(alloc),
+            key: None,
+            output,
+        })),
+        Err(trouble) => Err(trouble),
+    }
+}
+
+/// Whether tokens begin as a rule can that has no `>`.
+fn begins_rule(source: &[u8], tokens: &[Token]) -> bool
+    ensures { result ≡ begins_rule (told source.now tokens.now) }
+{
+    match tokens {
+        [token, ..] => match token.kind {
+            TokenKind::Quoted | TokenKind::Number(_) | TokenKind::Plus => true,
+            TokenKind::Word => is_item_word(text_in(source, *token)),
+            _ => false,
+        },
+        [] => false,
+    }
+}
+
+/// Whether the group before uses keys.
+fn uses_keys(group: Option<bool>) -> bool
+    ensures { result ≡ uses_keys group }
+{
+    group.unwrap_or(false)
+}
+
+/// The least code of a rule that stands at its first token.
+#[tactic(auto, unfolding(crate::specs::Line::rule_head), using(crate::proofs::ToldLemmas::length_told))]
+fn rule_head(source: &[u8], group: Option<bool>, signs: Signs, tokens: &[Token]) -> Option<Code>
+    ensures { result ≡ rule_head group signs.arrow signs.plus (told source.now tokens.now) }
+{
+    if tokens.len() <= signs.arrow && !begins_rule(source, tokens) {
+        return Some(Code::S01);
+    }
+    if let Some(code) = no_group(group) {
+        return Some(code);
+    }
+    if let Some(code) = no_output(source, signs.arrow, tokens) {
+        return Some(code);
+    }
+    if uses_keys(group) && signs.arrow <= signs.plus {
+        Some(Code::S08)
+    } else {
+        None
+    }
+}
+
+/// The key of a rule, which stands between `+` and `>`.
+#[tactic(auto, unfolding(crate::specs::Line::rule_key), using(crate::proofs::ToldLemmas::drop_told, crate::proofs::ToldLemmas::take_told))]
+fn rule_key(
+    alloc: Global,
+    source: &[u8],
+    group: Option<bool>,
+    last: usize,
+    signs: Signs,
+    tokens: &[Token],
+) -> Result<Option<SrcItem>, Trouble>
+    requires few { length tokens.now < 2 ^ 59 }
+    requires within { signs.arrow ≤ length tokens.now }
+    ensures { Reads (rule_key group last signs.arrow signs.plus (told source.now tokens.now)) result }
+{
+    if signs.arrow <= signs.plus {
+        return Ok(None);
+    }
+    if !uses_keys(group) {
+        return Err(Trouble::Broken(Fault {
+            at: signs.plus,
+            code: Code::S07,
+        }));
+    }
+    let key = behind(front(tokens, signs.arrow), signs.plus + 1);
+    match read_key(alloc, source, last, signs.plus + 1, key) {
+        Ok(item) => Ok(Some(item)),
+        Err(trouble) => Err(trouble),
+    }
+}
+
+/// Reads the items of a rule, section by section.
+#[tactic(auto, unfolding(crate::specs::Line::rule_body), using(crate::proofs::ToldLemmas::drop_told, crate::proofs::ToldLemmas::take_told))]
+fn rule_body(
+    alloc: Global,
+    source: &[u8],
+    group: Option<bool>,
+    line: u32,
+    last: usize,
+    signs: Signs,
+    tokens: &[Token],
+) -> Result<RuleDef, Trouble>
+    requires few { length tokens.now < 2 ^ 59 }
+    requires within { signs.arrow ≤ length tokens.now }
+    ensures { Reads (rule_body group line last signs.arrow signs.plus (told source.now tokens.now)) result }
+{
+    let before = front(tokens, signs.plus);
+    let context = match read_items(alloc, source, Where::Context, last, 0, before) {
+        Ok(context) => context,
+        Err(trouble) => return Err(trouble),
+    };
+    let key = match rule_key(alloc, source, group, last, signs, tokens) {
+        Ok(key) => key,
+        Err(trouble) => return Err(trouble),
+    };
+    let place = signs.arrow + 1;
+    match read_items(
+        alloc,
+        source,
+        Where::Output,
+        last,
+        place,
+        behind(tokens, place),
+    ) {
+        Ok(output) => Ok(RuleDef {
+            line,
+            kind: RuleKind::Plain,
+            context,
+            key,
+            output,
+        }),
+        Err(trouble) => Err(trouble),
+    }
+}
+
+/// The place of a code in the order of the codes of a source's form.
+fn code_number(code: Code) -> u8
+    ensures { result ≡ code_number code }
+{
+    match code {
+        Code::L02 => 2,
+        Code::L03 => 3,
+        Code::L04 => 4,
+        Code::S01 => 11,
+        Code::S02 => 12,
+        Code::S03 => 13,
+        Code::S04 => 14,
+        Code::S05 => 15,
+        Code::S06 => 16,
+        Code::S07 => 17,
+        Code::S08 => 18,
+        Code::S09 => 19,
+        Code::S10 => 20,
+        Code::S11 => 21,
+        Code::S12 => 22,
+        _ => 1,
+    }
+}
+
+/// The earlier of a code at the first token and a fault.
+fn earlier(head: Code, found: Fault) -> Fault
+    ensures { result ≡ earlier head found }
+{
+    if found.at == 0 && code_number(found.code) < code_number(head) {
+        found
+    } else {
+        Fault { at: 0, code: head }
+    }
+}
+
+/// Reads a rule whose signs stand at their places.
+fn rule_at(
+    alloc: Global,
+    source: &[u8],
+    group: Option<bool>,
+    line: u32,
+    last: usize,
+    signs: Signs,
+    tokens: &[Token],
+) -> Result<Statement, Trouble>
+    requires few { length tokens.now < 2 ^ 59 }
+    requires within { signs.arrow ≤ length tokens.now }
+    ensures { Reads (rule_at group line last signs.arrow signs.plus (told source.now tokens.now)) result }
+{
+    let head = rule_head(source, group, signs, tokens);
+    match rule_body(alloc, source, group, line, last, signs, tokens) {
+        Ok(rule) => match head {
+            None => Ok(Statement::Rule(rule)),
+            Some(code) => Err(Trouble::Broken(Fault { at: 0, code })),
+        },
+        Err(Trouble::Broken(found)) => match head {
+            None => Err(Trouble::Broken(found)),
+            Some(code) => Err(Trouble::Broken(earlier(code, found))),
+        },
+        Err(Trouble::NoMemory) => Err(Trouble::NoMemory),
+    }
+}
+
+/// Reads a rule.
+#[tactic(auto, unfolding(crate::specs::Line::read_rule), using(crate::proofs::ToldLemmas::take_told))]
+pub(crate) fn read_rule(
+    alloc: Global,
+    source: &[u8],
+    group: Option<bool>,
+    line: u32,
+    last: usize,
+    tokens: &[Token],
+) -> Result<Statement, Trouble>
+    requires { length tokens.now < 2 ^ 59 }
+    ensures { Reads (read_rule group line last (told source.now tokens.now)) result }
+{
+    let arrow = place_of(source, Sign::Arrow, tokens);
+    let plus = place_of(source, Sign::Plus, front(tokens, arrow));
+    rule_at(
+        alloc,
+        source,
+        group,
+        line,
+        last,
+        Signs { arrow, plus },
+        tokens,
+    )
+}
