@@ -1,0 +1,6 @@
+pub mod Sound
+pub mod Source
+pub mod InOrder
+pub mod Records
+pub mod Refusing
+pub mod Worked
