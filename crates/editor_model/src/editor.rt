@@ -1,0 +1,209 @@
+ghost use Rattle.std.specs.Prelude.{◌≡◌, ◌+◌, ◌-◌, ◌≤◌, ◌<◌, [], ◌∷◌, ◌++◌, length, take, drop, OnOk, IfOk};
+ghost use Rattle.kmn_base.specs.Lists.{without_last};
+ghost use Rattle.rule_model.specs.Enter.{is_plain_press};
+ghost use Rattle.editor_model.specs.Text.{left_after, right_after};
+
+use kmn_base::{KeyPress, Memory};
+use std::alloc::Global;
+use std::marker::Model;
+
+// The keys that an editor handles by itself.
+const TAB: u16 = 9;
+
+const ENTER: u16 = 13;
+
+const END: u16 = 35;
+
+const HOME: u16 = 36;
+
+const LEFT: u16 = 37;
+
+const RIGHT: u16 = 39;
+
+const DELETE: u16 = 46;
+
+/// A text with a caret in it, and room at the caret.
+#[derive(Drop)]
+pub struct Editor {
+    cells: Vec<char>,
+    start: usize,
+    end: usize,
+}
+
+impl Model for Editor {
+    ghost use Rattle.std.specs.Prelude.{◌-◌, ◌≤◌, length, take, drop};
+    ghost use Rattle.editor_model.specs.Text.{EditorText};
+
+    ghost Value = { EditorText };
+
+    ghost view = { λ editor.
+        record { left = take editor.start editor.cells.items; right = drop editor.end editor.cells.items; spare = editor.end - editor.start } };
+
+    ghost invariant = { λ editor. (editor.start ≤ editor.end) × (editor.end ≤ length editor.cells.items) };
+}
+
+impl Editor {
+    ghost use Rattle.editor_model.specs.Text.{EditorText};
+
+    /// An empty text without spare room.
+    pub fn new(alloc: Global) -> Editor
+        ensures { result ≡ record { left = []; right = []; spare = 0 } }
+    {
+        Editor {
+            cells: Vec::new(alloc),
+            start: 0,
+            end: 0,
+        }
+    }
+
+    /// The same text with the same spare room.
+    pub fn copy(&self, alloc: Global) -> Result<Editor, Memory>
+        ensures { IfOk result (λ copy. copy ≡ self.now) }
+    {
+        Ok(Editor {
+            cells: Vec::from_slice(alloc, self.cells.as_slice())?,
+            start: self.start,
+            end: self.end,
+        })
+    }
+
+    /// The text before the caret.
+    pub fn left(&self) -> &[char]
+        ensures { result.now ≡ self.now.left }
+    {
+        &self.cells[..self.start]
+    }
+
+    /// The text after the caret.
+    pub fn right(&self) -> &[char]
+        ensures { result.now ≡ self.now.right }
+    {
+        &self.cells[self.end..]
+    }
+
+    /// Makes room for so many characters. It takes at least as much as the text is long, so that room made again and
+    /// again costs no copy each time.
+    pub fn reserve(&mut self, alloc: Global, n: usize) -> Result<(), Memory>
+        ensures left { self.new.left ≡ self.old.left }
+        ensures right { self.new.right ≡ self.old.right }
+        ensures room { OnOk result (n ≤ self.new.spare) }
+    {
+        if n <= self.end - self.start {
+            return Ok(());
+        }
+        let room = n.max(self.cells.len());
+        let (cells, end) = with_room(alloc, self.left(), room, self.right())?;
+        self.cells = cells;
+        self.end = end;
+        Ok(())
+    }
+
+    /// Deletes characters before the caret, then inserts others there.
+    pub fn apply(&mut self, delete: u32, insert: &[char])
+        requires characters { delete ≤ length self.old.left }
+        requires room { length insert.now ≤ self.old.spare }
+        ensures left { self.new.left ≡ without_last delete self.old.left ++ insert.now }
+        ensures right { self.new.right ≡ self.old.right }
+        ensures room { self.old.spare ≤ self.new.spare + length insert.now }
+    {
+        let at = self.start - delete as usize;
+        write_at(&mut self.cells, at, insert);
+        self.start = at + insert.len();
+    }
+
+    /// Does what an application does with a key that was passed on to it.
+    pub fn passed(&mut self, press: KeyPress)
+        requires { 1 ≤ self.old.spare }
+        ensures left { self.new.left ≡ left_after press self.old.left self.old.right }
+        ensures right { self.new.right ≡ right_after press self.old.left self.old.right }
+        ensures room { self.old.spare ≤ self.new.spare + 1 }
+    {
+        if !is_plain(press) {
+            return;
+        }
+        match press.code {
+            ENTER => self.apply(0, &['\n']),
+            TAB => self.apply(0, &['\t']),
+            LEFT => self.back(self.left().len().min(1)),
+            RIGHT => self.forth(self.right().len().min(1)),
+            HOME => self.back(self.left().len()),
+            END => self.forth(self.right().len()),
+            DELETE => self.delete_after(),
+            _ => (),
+        }
+    }
+
+    /// Moves the caret towards the start of the text.
+    #[tactic(auto, using(crate::proofs::Moves::left_after_back, crate::proofs::Moves::right_after_back))]
+    fn back(&mut self, n: usize)
+        requires { n ≤ length self.old.left }
+        ensures left { self.new.left ≡ without_last n self.old.left }
+        ensures right { self.new.right ≡ drop (length self.old.left - n) self.old.left ++ self.old.right }
+        ensures room { self.new.spare ≡ self.old.spare }
+    {
+        let start = self.start - n;
+        let end = self.end - n;
+        self.cells.copy_within(start..self.start, end);
+        self.start = start;
+        self.end = end;
+    }
+
+    /// Moves the caret towards the end of the text.
+    #[tactic(auto, using(crate::proofs::Moves::left_after_forth, crate::proofs::Moves::right_after_forth))]
+    fn forth(&mut self, n: usize)
+        requires { n ≤ length self.old.right }
+        ensures left { self.new.left ≡ self.old.left ++ take n self.old.right }
+        ensures right { self.new.right ≡ drop n self.old.right }
+        ensures room { self.new.spare ≡ self.old.spare }
+    {
+        let end = self.end + n;
+        self.cells.copy_within(self.end..end, self.start);
+        self.start += n;
+        self.end = end;
+    }
+
+    /// Deletes the character after the caret, if any.
+    #[tactic(auto, using(crate::proofs::Moves::right_after_delete))]
+    fn delete_after(&mut self)
+        ensures left { self.new.left ≡ self.old.left }
+        ensures right { self.new.right ≡ drop 1 self.old.right }
+        ensures room { self.old.spare ≤ self.new.spare }
+    {
+        if self.end < self.cells.len() {
+            self.end += 1;
+        }
+    }
+}
+
+/// Whether neither control nor alt is held.
+fn is_plain(press: KeyPress) -> bool
+    ensures { result ≡ is_plain_press press }
+{
+    press.mods % 16 == 0
+}
+
+/// Two texts with room between them, and the place behind the room.
+fn with_room(
+    alloc: Global,
+    left: &[char],
+    room: usize,
+    right: &[char],
+) -> Result<(Vec<char>, usize), Memory>
+    ensures { IfOk result (λ made. (take (length left.now) made.0.items ≡ left.now) × (made.1 ≡ length left.now + room) × (made.1 ≤ length made.0.items) × (drop made.1 made.0.items ≡ right.now)) }
+{
+    let Some(end) = left.len().checked_add(room) else {
+        return Err(Memory);
+    };
+    let mut cells = Vec::from_slice(alloc, left)?;
+    cells.resize(end, '\0')?;
+    cells.extend_from_slice(right)?;
+    Ok((cells, end))
+}
+
+/// Writes characters over those from a place on.
+fn write_at(cells: &mut Vec<char>, at: usize, text: &[char])
+    requires { at + length text.now ≤ length cells.old.items }
+    ensures { cells.new.items ≡ take at cells.old.items ++ text.now ++ drop (at + length text.now) cells.old.items }
+{
+    cells[at..at + text.len()].copy_from_slice(text);
+}

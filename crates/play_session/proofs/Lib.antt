@@ -1,0 +1,2 @@
+mod Presses
+mod Contexts

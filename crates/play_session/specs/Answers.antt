@@ -1,0 +1,20 @@
+-- What a session answers to an event.
+use Rattle.std.specs.Prelude.{Option, Some, None}
+use Rattle.kmn_base.specs.declared.events.Event.{Event}
+use Rattle.kmn_base.specs.declared.codes.Code.{Code}
+use Rattle.kmn_base.specs.declared.codes.Code.TheVariants.{E1, E2}
+use Rattle.rule_model.specs.Act.{one_more}
+use Rattle.play_session.specs.declared.session.Step.{Step}
+use Rattle.play_session.specs.declared.session.StepError.{StepError}
+use Rattle.play_session.specs.declared.session.StepError.TheVariants.{Place, Length, Memory}
+use Rattle.play_session.specs.Session.{SessionState, happened}
+
+-- the step that an event is
+abbrev pub step_of : SessionState → Event → Step
+step_of session event = record { number = one_more session.number; outcome = (happened session event).outcome }
+
+-- the refusal that an error tells; want of memory tells none
+abbrev pub code_of : StepError → Option Code
+code_of Place = Some E1
+code_of Length = Some E2
+code_of Memory = None

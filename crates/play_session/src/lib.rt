@@ -1,0 +1,14 @@
+//! A text that is typed in with a keyboard: one event at a time, each a step of the keyboard's meaning.
+//!
+//! It stands on `rule_engine`, which presses keys on the tables of a file, and on `editor_model`, which has the text with
+//! its caret. The layer above uses `Session`, which contracts see as a `SessionState`: the tables, the state that it
+//! stands for, the number of the last step and what that step inserted. After `start` that is `first_session` of the
+//! file's tables, and `step` answers `step_of` and leaves `after_step`, or refuses the event as its meaning does.
+#![tactic(auto)]
+
+mod playing;
+mod session;
+#[cfg(test)]
+mod tests;
+
+pub use session::{Session, Step, StepError};

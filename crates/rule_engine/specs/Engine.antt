@@ -1,0 +1,62 @@
+-- What an engine is, and what a press and a new text make of it.
+use Rattle.std.specs.Prelude.{◌≡◌, ℕ, List, [], length, Option}
+use Rattle.kmn_base.specs.declared.items.Item.{Item}
+use Rattle.kmn_base.specs.declared.items.Element.{Element}
+use Rattle.kmn_base.specs.declared.keys.KeyPress.{KeyPress}
+use Rattle.kmn_base.specs.declared.events.Outcome.{Outcome}
+use Rattle.kmn_base.specs.Lists.{IsSound, read_again}
+use Rattle.rule_model.specs.declared.acting.Acting.{Acting}
+use Rattle.rule_model.specs.declared.tables.Tables.{Tables}
+use Rattle.rule_model.specs.KeyEvent.{begin_event, after_key, outcome_of, inserted}
+use Rattle.rule_model.specs.Tab.{tab}
+use Rattle.rule_model.specs.Trace.{options_of, first_state}
+
+-- an engine: its tables, the list before the caret, of each option store, in order, the current value and the saved one,
+-- and what the last press inserted
+pub record EngineState : Type 0 where
+  pub tables : Tables
+  pub left : List Item
+  pub current : List (List Element)
+  pub saved : List (Option (List Element))
+  pub inserted : List ℕ
+
+-- its marks stand in the window, and it has a current and a saved value for each option
+pub record IsEngine (engine : EngineState) : Type 0 where
+  pub sound : IsSound engine.left
+  pub current : length engine.current ≡ length (options_of (tab engine.tables).stores)
+  pub saved : length engine.saved ≡ length (options_of (tab engine.tables).stores)
+
+-- before the first event: an empty text, each option with its elements, none saved, and nothing inserted
+abbrev pub first_engine : Tables → EngineState
+first_engine tables =
+    record {
+      tables = tables;
+      left = [];
+      current = (first_state (tab tables)).current;
+      saved = (first_state (tab tables)).saved;
+      inserted = [];
+    }
+
+-- what a press leaves, where the text before the caret is read again first
+abbrev pub pressed : List ℕ → KeyPress → EngineState → Acting
+pressed text press engine = after_key (tab engine.tables) press (begin_event (read_again engine.left text) engine.current engine.saved)
+
+-- the outcome of the press
+abbrev pub press_outcome : List ℕ → KeyPress → EngineState → Outcome
+press_outcome text press engine = outcome_of (read_again engine.left text) (pressed text press engine)
+
+-- the engine after the press
+abbrev pub press_leaves : List ℕ → KeyPress → EngineState → EngineState
+press_leaves text press engine =
+    let s = pressed text press engine in
+    record {
+      tables = engine.tables;
+      left = s.left;
+      current = s.current;
+      saved = s.saved;
+      inserted = inserted (read_again engine.left text) s.left;
+    }
+
+-- the engine after the text was read again
+abbrev pub synced : List ℕ → EngineState → EngineState
+synced text engine = record engine { left = read_again engine.left text }
