@@ -1,12 +1,11 @@
 -- How the answers for the lines of a text are joined.
-use Rattle.std.proofs.Common.{◌≡◌, ◌≢◌, ℕ, ◌+◌, ◌≤◌, List, [], ◌∷◌, ◌++◌, length, Option, Some, None, Result, Ok, Err, refl, ap, append_assoc, arith, option_map}
+use Rattle.std.proofs.Common.{◌≡◌, ℕ, ◌+◌, ◌≤◌, List, [], ◌∷◌, ◌++◌, length, Option, Some, None, Result, Ok, Err, refl, ap, append_assoc, arith}
 use Rattle.std.proofs.lemmas.Grind.{common_steps}
 use Rattle.std.specs.List.{onto_first}
 use Rattle.kmn_base.specs.declared.refusals.Refusal.{Refusal}
 use Rattle.keyman_tool.specs.declared.forms.FormError.{FormError}
 use Rattle.keyman_tool.specs.declared.forms.FormError.TheVariants as form
 use Rattle.keyman_tool.specs.Forms.{Reads, Appends}
-use Rattle.keyman_tool.specs.SourceForm.{line_rules, rule_at, rule_characters}
 use Rattle.keyman_tool.specs.Stated.{before_later, and_later}
 use Rattle.keyman_tool.specs.TextLines.{text_lines}
 
@@ -33,9 +32,5 @@ length_onto_first byte (line ∷ lines) = omega arith
 pub few_lines : (text : List ℕ) → length (text_lines text) ≤ length text
 few_lines [] = omega arith
 few_lines (byte ∷ bytes) = grind (arith, common_steps, few_lines bytes, length_onto_first byte (text_lines bytes))
-
--- a line from the third on is to be a rule
-pub later_line : (number : ℕ) (line : List ℕ) → number ≢ 1 → number ≢ 2 → line_rules number line ≡ option_map (rule_at number) (rule_characters line)
-later_line number line first second = grind (arith, common_steps)
 
 pub ruleset line_steps = (before_later_none, before_later_more, few_lines)

@@ -74,12 +74,12 @@ nothing_left [] before after wanted h none = h.appended ∙ ap (λ list. before 
 nothing_left (x ∷ rest) before after wanted h none = absurd (omega arith)
 
 -- the rest is printed, or where something failed a first part of it
-pub prints_rest : {E : Type 0} (rest start before after whole : List ℕ) (result : Result (Unit {0}) E) → AppendsBut rest start before whole → Prints before after rest result → Prints start after whole result
+pub prints_rest : {A E : Type 0} (rest start before after whole : List ℕ) (result : Result A E) → AppendsBut rest start before whole → Prints before after rest result → Prints start after whole result
 prints_rest rest start before after whole (Ok x) h prints = appended_all rest start before after whole h prints
 prints_rest rest start before after whole (Err error) h begun =
     begun_within rest [] start before after whole (subst (λ (list : List ℕ). AppendsBut list start before whole) (sym (append-nil rest)) h) begun
 
 -- after a first line more is printed, or where something failed a first part of it
-pub prints_behind : {E : Type 0} (line more before middle after : List ℕ) (result : Result (Unit {0}) E) → middle ≡ before ++ line → Prints middle after more result → Prints before after (line ++ more) result
+pub prints_behind : {A E : Type 0} (line more before middle after : List ℕ) (result : Result A E) → middle ≡ before ++ line → Prints middle after more result → Prints before after (line ++ more) result
 prints_behind line more before middle after (Ok x) is prints = prints ∙ ap (λ front. front ++ more) is ∙ append_assoc before line more
 prints_behind line more before middle after (Err error) is begun = begun_behind before middle after line more is begun

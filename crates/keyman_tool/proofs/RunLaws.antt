@@ -1,62 +1,78 @@
 -- A run in steps: what holds of a step, and of the steps before it, holds of the run.
-use Rattle.std.proofs.Common.{◌≡◌, ◌⊎◌, inl, inr, ℕ, List, [], ◌∷◌, ◌++◌, map, Option, Some, Result, Ok, Err, refl, sym, subst}
-use Rattle.kmn_base.specs.declared.refusals.Refusal.{Refusal}
+use Rattle.std.proofs.Common.{◌≡◌, ◌⊎◌, inl, inr, ℕ, false, List, [], ◌∷◌, ◌++◌, map, Option, Some, Result, Ok, Err, refl, sym, subst}
 use Rattle.kmn_outside.specs.Outside.{Files, Rose, SameFiles, Writes}
 use Rattle.kmn_outside.specs.declared.traits.Call.{Call}
-use Rattle.kmn_outside.specs.declared.traits.WriteError.{WriteError}
-use Rattle.kmn_outside.specs.declared.traits.WriteError.TheVariants as write
+use Rattle.rule_model.specs.declared.tables.Tables.{Tables}
+use Rattle.keyman_tool.specs.declared.preparing.Stop.{Stop}
+use Rattle.keyman_tool.specs.declared.preparing.Stop.TheVariants as stop
+use Rattle.keyman_tool.specs.declared.reason.Reason.{Reason}
 use Rattle.keyman_tool.specs.declared.status.Status.{Status}
 use Rattle.keyman_tool.specs.declared.status.Status.TheVariants as status
-use Rattle.keyman_tool.specs.Asked.{Ask, asked, write_of, AsksInOrder, AsksAll}
-use Rattle.keyman_tool.specs.Inputs.{Job}
-use Rattle.keyman_tool.specs.Run.{Ending, Effect, test_ending, Leaves, AsksBy}
-use Rattle.keyman_tool.specs.Steps.{SinkCounts, write_status}
-use Rattle.keyman_tool.proofs.PrintingLaws.{whole_begun}
-use Rattle.keyman_tool.proofs.AskedLaws.{asked_one, asks_none, asks_front, asks_behind, asks_all_behind}
+use Rattle.keyman_tool.specs.Asked.{Ask, write_of, AsksAll, AsksFirst, AsksUntil, AsksStopped, AsksBy}
+use Rattle.keyman_tool.specs.Run.{Ending, Effect, Leaves}
+use Rattle.keyman_tool.specs.Steps.{SinkCounts}
+use Rattle.keyman_tool.proofs.AskedLaws.{all_one, first_front, until_front}
 
 -- what the step behind a quiet one leaves
-pub leaves_behind : (name : List ℕ) (stated : Option (Result Job Refusal)) (job : Job) (before middle after : Files) (faults faults_middle faults_after : ℕ)
+pub leaves_behind : {J : Type 0} (end_of : Option (Result J Reason) → Ending) (stated : Option (Result J Reason)) (job : J) (before middle after : Files) (faults faults_middle faults_after : ℕ)
     (sink_rose : Type 0) (printed printed_after : List ℕ) (s : Status)
     → stated ≡ Some (Ok job) → SameFiles before middle → faults_middle ≡ faults
-    → Leaves (test_ending name (Some (Ok job))) (Rose faults_middle faults_after) sink_rose
+    → Leaves (end_of (Some (Ok job))) (Rose faults_middle faults_after) sink_rose
     (record { files = middle; files_after = after; printed = printed; printed_after = printed_after }) s
-    → Leaves (test_ending name stated) (Rose faults faults_after) sink_rose
+    → Leaves (end_of stated) (Rose faults faults_after) sink_rose
     (record { files = before; files_after = after; printed = printed; printed_after = printed_after }) s
-leaves_behind name stated job before middle after faults faults_middle faults_after sink_rose printed printed_after s states same counts leaves =
+leaves_behind {J} end_of stated job before middle after faults faults_middle faults_after sink_rose printed printed_after s states same counts leaves =
     let files : middle ≡ before = λ i other. same other i in
-    subst (λ (o : Option (Result Job Refusal)). Leaves (test_ending name o) (Rose faults faults_after) sink_rose
+    subst (λ (o : Option (Result J Reason)). Leaves (end_of o) (Rose faults faults_after) sink_rose
     (record { files = before; files_after = after; printed = printed; printed_after = printed_after }) s) (sym states)
-    (subst (λ (n : ℕ). Leaves (test_ending name (Some (Ok job))) (Rose n faults_after) sink_rose
+    (subst (λ (n : ℕ). Leaves (end_of (Some (Ok job))) (Rose n faults_after) sink_rose
     (record { files = before; files_after = after; printed = printed; printed_after = printed_after }) s) counts
-    (subst (λ (f : Files). Leaves (test_ending name (Some (Ok job))) (Rose faults_middle faults_after) sink_rose
+    (subst (λ (f : Files). Leaves (end_of (Some (Ok job))) (Rose faults_middle faults_after) sink_rose
     (record { files = f; files_after = after; printed = printed; printed_after = printed_after }) s) files leaves))
 
--- a write that didn't succeed asked for its name, or wanted memory before
-pub write_asks : (files files_after : Files) (before after : List Call) (name bytes : List ℕ) (error : WriteError)
-    → Writes files files_after before after name bytes (Err error) → AsksBy (write_of name ∷ []) before after (write_status error)
-write_asks files files_after before after name bytes write.Failed writes = whole_begun (map asked before) (map asked after) (write_of name ∷ []) (asked_one before after name _ _ writes.1)
-write_asks files files_after before after name bytes write.Memory writes = asks_none (write_of name ∷ []) before after writes.1
+-- what was printed behind the write of a file that was answered
+pub asks_printed : (ask : Ask) (before after : List Call) (good : Status) (sink sink_after : ℕ) (s : Status)
+    → AsksAll (ask ∷ []) before after → SinkCounts good sink sink_after s → AsksBy (Rose sink sink_after) (ask ∷ []) before after s
+asks_printed ask before after good sink sink_after status.Done all counts = all
+asks_printed ask before after good sink sink_after status.Refused all counts = all_one ask before after all
+asks_printed ask before after good sink sink_after status.WriteFault all counts = inr (counts, all_one ask before after all)
+asks_printed ask before after good sink sink_after status.Memory all counts = all_one ask before after all
+asks_printed ask before after good sink sink_after status.Words all counts = absurd counts
+asks_printed ask before after good sink sink_after status.ReadFault all counts = absurd counts
+asks_printed ask before after good sink sink_after status.ExpectFailed all counts = absurd counts
 
--- calls that were made before those of the last step
-pub asked_behind : (wanted more : List Ask) (before middle after : List Call) (s : Status) → AsksAll wanted before middle → AsksBy more middle after s → AsksBy (wanted ++ more) before after s
-asked_behind wanted more before middle after status.Done all asks = asks_all_behind wanted more before middle after all asks
-asked_behind wanted more before middle after status.Refused all asks = asks_behind wanted more before middle after all asks
-asked_behind wanted more before middle after status.Words all asks = asks_behind wanted more before middle after all asks
-asked_behind wanted more before middle after status.ReadFault all asks = asks_behind wanted more before middle after all asks
-asked_behind wanted more before middle after status.WriteFault all asks = asks_behind wanted more before middle after all asks
-asked_behind wanted more before middle after status.Memory all asks = asks_behind wanted more before middle after all asks
-asked_behind wanted more before middle after status.ExpectFailed all asks = asks_all_behind wanted more before middle after all asks
+-- where work stopped, a part of the calls was made
+stopped_first : (wanted : List Ask) (before after : List Call) (s : Stop) (why : Reason) → s ≡ stop.Refused why → AsksStopped wanted before after s → AsksFirst wanted before after
+stopped_first wanted before after (stop.Refused other) why is asks = asks
+stopped_first wanted before after stop.ReadFault why is asks = absurd (cc)
+stopped_first wanted before after stop.Memory why is asks = absurd (cc)
 
 -- where a refusal is printed, the calls before it were the first
-pub asked_refused : (wanted more : List Ask) (before after : List Call) (sink sink_after : ℕ) (s : Status)
-    → SinkCounts status.Refused sink sink_after s → AsksInOrder wanted before after → AsksBy (wanted ++ more) before after s
-asked_refused wanted more before after sink sink_after status.Done counts asks = absurd (cc)
-asked_refused wanted more before after sink sink_after status.Refused counts asks = asks_front wanted more before after asks
-asked_refused wanted more before after sink sink_after status.Words counts asks = asks_front wanted more before after asks
-asked_refused wanted more before after sink sink_after status.ReadFault counts asks = asks_front wanted more before after asks
-asked_refused wanted more before after sink sink_after status.WriteFault counts asks = asks_front wanted more before after asks
-asked_refused wanted more before after sink sink_after status.Memory counts asks = asks_front wanted more before after asks
-asked_refused wanted more before after sink sink_after status.ExpectFailed counts asks = absurd (cc)
+pub asks_refused : (wanted more : List Ask) (before after : List Call) (stopped : Stop) (why : Reason) (sink sink_after : ℕ) (s : Status)
+    → SinkCounts status.Refused sink sink_after s → stopped ≡ stop.Refused why → AsksStopped wanted before after stopped → AsksBy (Rose sink sink_after) (wanted ++ more) before after s
+asks_refused wanted more before after stopped why sink sink_after s counts is asks =
+    by_status s counts (first_front wanted more before before after (stopped_first wanted before after stopped why is asks))
+  where
+    by_status : (s : Status) → SinkCounts status.Refused sink sink_after s → AsksFirst (wanted ++ more) before after → AsksBy (Rose sink sink_after) (wanted ++ more) before after s
+    by_status status.Done counts first = absurd (cc)
+    by_status status.Refused counts first = first
+    by_status status.WriteFault counts first = inr (counts, first)
+    by_status status.Memory counts first = first
+    by_status status.Words counts first = absurd counts
+    by_status status.ReadFault counts first = absurd counts
+    by_status status.ExpectFailed counts first = absurd counts
+
+-- a read failed
+pub asks_read_fault : (wanted more : List Ask) (before after : List Call) (stopped : Stop) → stopped ≡ stop.ReadFault → AsksStopped wanted before after stopped → AsksUntil false (wanted ++ more) before after
+asks_read_fault wanted more before after stop.ReadFault is asks = until_front wanted more before before after false asks
+asks_read_fault wanted more before after (stop.Refused why) is asks = absurd (cc)
+asks_read_fault wanted more before after stop.Memory is asks = absurd (cc)
+
+-- memory was wanting
+pub asks_memory : (wanted more : List Ask) (before after : List Call) (stopped : Stop) → stopped ≡ stop.Memory → AsksStopped wanted before after stopped → AsksFirst (wanted ++ more) before after
+asks_memory wanted more before after stop.Memory is asks = first_front wanted more before before after asks
+asks_memory wanted more before after (stop.Refused why) is asks = absurd (cc)
+asks_memory wanted more before after stop.ReadFault is asks = absurd (cc)
 
 -- where no count of faults rose, a run ends as it is to end, or for want of memory
 pub ends_as_wanted : (ending : Ending) (folder_rose sink_rose : Type 0) (effect : Effect) (s : Status)

@@ -1,10 +1,13 @@
 -- The calls of a folder that a run makes.
-use Rattle.std.specs.Prelude.{◌≡◌, ℕ, Bool, true, false, List, [], ◌∷◌, ◌++◌, map, Option, Some, None, Result, Ok, Err}
+use Rattle.std.specs.Prelude.{◌≡◌, ◌⊎◌, ℕ, Bool, true, false, List, [], ◌∷◌, ◌++◌, map, Option, Some, None, Result, Ok, Err}
 use Rattle.kmn_outside.specs.Outside.{call_of}
 use Rattle.kmn_outside.specs.declared.traits.Call.{Call}
+use Rattle.keyman_tool.specs.declared.status.Status.{Status}
+use Rattle.keyman_tool.specs.declared.status.Status.TheVariants as status
+use Rattle.keyman_tool.specs.declared.preparing.Stop.{Stop}
+use Rattle.keyman_tool.specs.declared.preparing.Stop.TheVariants as stop
 use Rattle.keyman_tool.specs.Command.{Request}
-use Rattle.keyman_tool.specs.Command.Request.{Test}
-use Rattle.keyman_tool.specs.Printing.{IsBegun}
+use Rattle.keyman_tool.specs.Command.Request.{Compile, Test}
 
 -- a name that is asked for, and whether its file is to be written
 abbrev pub Ask : Type 0
@@ -16,28 +19,54 @@ read_of name = (name, false)
 abbrev pub write_of : List ℕ → Ask
 write_of name = (name, true)
 
--- what a call asked
-abbrev pub asked : Call → Ask
-asked call = (call.name, call.is_write)
-
--- the call that answers what is asked
+-- the call that answers what is asked, and the one that fails
 abbrev pub answered : Ask → Call
 answered ask = call_of ask.0 ask.1 false
 
--- these calls, or the first of them, were made in this order
-abbrev pub AsksInOrder : List Ask → List Call → List Call → Type 0
-AsksInOrder wanted before after = IsBegun (map asked before) (map asked after) wanted
+abbrev pub failed : Ask → Call
+failed ask = call_of ask.0 ask.1 true
 
 -- all of these calls were made in this order and answered
 abbrev pub AsksAll : List Ask → List Call → List Call → Type 0
 AsksAll wanted before after = after ≡ before ++ map answered wanted
 
--- all of these calls were made where the work succeeds, else the first of them
-abbrev pub Asks : {A E : Type 0} → List Ask → List Call → List Call → Result A E → Type 0
+-- a first part of these calls was made and answered, maybe none or all of them
+pub record AsksFirst (wanted : List Ask) (before after : List Call) : Type 0 where
+  pub front : List Ask
+  pub rest : List Ask
+  pub parts : wanted ≡ front ++ rest
+  pub made : after ≡ before ++ map answered front
+
+-- a first part of these calls was made; the last of them failed, which is a write or a read, and those before were answered
+pub record AsksUntil (is_write : Bool) (wanted : List Ask) (before after : List Call) : Type 0 where
+  pub front : List Ask
+  pub name : List ℕ
+  pub rest : List Ask
+  pub parts : wanted ≡ front ++ (name, is_write) ∷ rest
+  pub made : after ≡ before ++ (map answered front ++ failed (name, is_write) ∷ [])
+
+-- the calls of work that stopped
+abbrev pub AsksStopped : List Ask → List Call → List Call → Stop → Type 0
+AsksStopped wanted before after stop.ReadFault = AsksUntil false wanted before after
+AsksStopped wanted before after other = AsksFirst wanted before after
+
+-- the calls of work that is a part of a run: all where it succeeds, else by why it stops
+abbrev pub Asks : {A : Type 0} → List Ask → List Call → List Call → Result A Stop → Type 0
 Asks wanted before after (Ok x) = AsksAll wanted before after
-Asks wanted before after (Err error) = AsksInOrder wanted before after
+Asks wanted before after (Err s) = AsksStopped wanted before after s
+
+-- the calls of a run by its status, and the fact that the sink's count of faults rose: a run ends with a fault of reading
+-- exactly where its last call is a read that failed, and with a fault of writing exactly where its last call is a write that
+-- failed or the sink failed; all is asked where all is done
+abbrev pub AsksBy : Type 0 → List Ask → List Call → List Call → Status → Type 0
+AsksBy sink_rose wanted before after status.Done = AsksAll wanted before after
+AsksBy sink_rose wanted before after status.ExpectFailed = AsksAll wanted before after
+AsksBy sink_rose wanted before after status.ReadFault = AsksUntil false wanted before after
+AsksBy sink_rose wanted before after status.WriteFault = AsksUntil true wanted before after ⊎ (sink_rose × AsksFirst wanted before after)
+AsksBy sink_rose wanted before after _ = AsksFirst wanted before after
 
 -- what the words ask of the folder
 abbrev pub asks_of : Option Request → List Ask
 asks_of None = []
+asks_of (Some (Compile source file)) = read_of source ∷ write_of file ∷ []
 asks_of (Some (Test source file keys)) = read_of source ∷ read_of keys ∷ write_of file ∷ []

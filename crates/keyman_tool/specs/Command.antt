@@ -6,10 +6,12 @@ use Rattle.keyman_tool.specs.declared.command.Command.TheVariants as command
 
 -- a command with the names of its files
 pub data Request : Type 0 where
+  Compile : (source file : List ℕ) → Request
   Test : (source file keys : List ℕ) → Request
 
--- `test SOURCE FILE KEYS`; all other words ask for nothing
+-- `compile SOURCE FILE` or `test SOURCE FILE KEYS`; all other words ask for nothing
 abbrev pub request_of : List (List ℕ) → Option Request
+request_of (word ∷ source ∷ file ∷ []) = if bytes_eq word (codes "compile") then Some (Compile source file) else None
 request_of (word ∷ source ∷ file ∷ keys ∷ []) = if bytes_eq word (codes "test") then Some (Test source file keys) else None
 request_of _ = None
 
@@ -19,4 +21,5 @@ is_form words = is_some (request_of words)
 
 -- the request of a command as the program holds it
 abbrev pub requested : Command → Request
+requested (command.Compile source file) = Compile source.now file.now
 requested (command.Test source file keys) = Test source.now file.now keys.now

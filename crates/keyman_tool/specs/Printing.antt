@@ -13,6 +13,6 @@ pub record IsBegun {X : Type 0} (before after wanted : List X) : Type 0 where
   pub begun : AppendsBut rest before after wanted
 
 -- the bytes were printed, or where something failed a first part of them
-abbrev pub Prints : {E : Type 0} → List ℕ → List ℕ → List ℕ → Result (Unit {0}) E → Type 0
+abbrev pub Prints : {A E : Type 0} → List ℕ → List ℕ → List ℕ → Result A E → Type 0
 Prints before after bytes (Ok x) = after ≡ before ++ bytes
 Prints before after bytes (Err error) = IsBegun before after bytes

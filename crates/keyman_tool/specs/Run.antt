@@ -1,28 +1,27 @@
 -- How a run ends, and what it leaves.
-use Rattle.std.specs.Prelude.{◌≡◌, ◌⊎◌, ℕ, List, [], ◌++◌, Option, Some, None, option_map, IfSome, Result, Ok, Err}
-use Rattle.kmn_base.specs.declared.refusals.Refusal.{Refusal}
+use Rattle.std.specs.Prelude.{◌≡◌, ◌⊎◌, ℕ, List, [], ◌∷◌, ◌++◌, length, codes, Option, Some, None, option_map, IfSome, Result, Ok, Err}
+use Rattle.std.specs.List.{concat}
+use Rattle.std.specs.Fmt.{decimal}
+use Rattle.kmn_base.specs.declared.codes.Code.{Code}
 use Rattle.kmn_outside.specs.Outside.{Files, Rose, SameFiles, SameOthers}
-use Rattle.kmn_outside.specs.declared.traits.Call.{Call}
-use Rattle.rule_model.specs.File.{file_of}
-use Rattle.rule_model.specs.Lines.{refusal_line}
+use Rattle.rule_model.specs.File.{file_of, all_rules}
+use Rattle.rule_model.specs.Means.{Means}
+use Rattle.rule_model.specs.Ordered.{compiled_tables}
 use Rattle.rule_model.specs.Src.{src}
 use Rattle.rule_model.specs.Tab.{tab}
-use Rattle.rule_model.specs.TablesOf.{tables_of}
 use Rattle.rule_model.specs.Trace.{trace}
-use Rattle.rule_model.specs.Transcript.{transcript}
-use Rattle.rule_model.specs.Writable.{IsFile}
+use Rattle.rule_model.specs.Transcript.{events_of, transcript}
+use Rattle.rule_model.specs.Keyboard.{Keyboard}
 use Rattle.rule_model.specs.declared.program.Program.{Program}
-use Rattle.kmn_base.specs.declared.events.Event.{Event}
+use Rattle.rule_model.specs.declared.script.Entry.{Entry}
+use Rattle.rule_model.specs.declared.tables.Tables.{Tables}
+use Rattle.keyman_tool.specs.declared.reason.Reason.{Reason}
 use Rattle.keyman_tool.specs.declared.status.Status.{Status}
 use Rattle.keyman_tool.specs.declared.status.Status.TheVariants as status
-use Rattle.keyman_tool.specs.Asked.{Ask, AsksAll, AsksInOrder}
 use Rattle.keyman_tool.specs.Command.{Request, request_of}
-use Rattle.keyman_tool.specs.Command.Request.{Test}
-use Rattle.keyman_tool.specs.Inputs.{Job, Wish, files_wish}
-use Rattle.keyman_tool.specs.FirstTables.{first_tables}
-use Rattle.keyman_tool.specs.Player.{transcript as player_transcript}
-use Rattle.keyman_tool.specs.ScriptForm.{entries_from}
-use Rattle.keyman_tool.specs.SourceForm.{source_program}
+use Rattle.keyman_tool.specs.Command.Request.{Compile, Test}
+use Rattle.keyman_tool.specs.Inputs.{Job, job_of, file_program, file_tables, file_script}
+use Rattle.keyman_tool.specs.Reasons.{reason_line}
 use Rattle.keyman_tool.specs.Printing.{IsBegun}
 
 -- how a run ends where no call fails but the reading of a missing file: its status, the file that it writes by name and
@@ -36,28 +35,56 @@ pub record Ending : Type 0 where
 abbrev pub bare_ending : Status → Ending
 bare_ending status = record { status = status; file = None; printed = [] }
 
--- a test that is refused prints the refusal's line; else it writes the file of the program's tables, and prints what the
--- program means for the script
-abbrev pub meant_ending : List ℕ → Option (Result Wish Refusal) → Ending
-meant_ending name None = bare_ending status.ReadFault
-meant_ending name (Some (Err refusal)) = record { status = status.Refused; file = None; printed = refusal_line refusal }
-meant_ending name (Some (Ok wish)) =
+-- an end with the line of a reason
+abbrev pub refused_ending : Reason → Ending
+refused_ending why = record { status = status.Refused; file = None; printed = reason_line why }
+
+-- what is printed of a compiled file: its counts and its size
+unfoldable pub compiled_line : Tables → List ℕ
+compiled_line tables = concat (
+    codes "compiled stores=" ∷ decimal (length tables.stores)
+    ∷ codes " groups=" ∷ decimal (length tables.groups)
+    ∷ codes " rules=" ∷ decimal (length (all_rules tables))
+    ∷ codes " bytes=" ∷ decimal (length (file_of tables []))
+    ∷ codes "\n" ∷ [])
+
+-- a compilation writes the file of the tables and prints its line
+abbrev pub compile_ending : List ℕ → Option (Result Tables Reason) → Ending
+compile_ending name None = bare_ending status.ReadFault
+compile_ending name (Some (Err why)) = refused_ending why
+compile_ending name (Some (Ok tables)) = record { status = status.Done; file = Some (name, file_of tables []); printed = compiled_line tables }
+
+-- a play ends well, or with the refusal of an event
+abbrev pub play_status : Option (ℕ × Code) → Status
+play_status None = status.Done
+play_status (Some refused) = status.Refused
+
+-- a test writes the file of the tables, and prints what a keyboard does with the script
+abbrev pub played_ending : List ℕ → Tables → Keyboard → List Entry → Ending
+played_ending name tables kb entries =
     record {
-      status = status.Done;
-      file = Some (name, file_of (first_tables wish.program) []);
-      printed = transcript (src wish.program) (entries_from 1 wish.presses);
+      status = play_status (trace kb (events_of entries)).refused;
+      file = Some (name, file_of tables []);
+      printed = transcript kb entries;
     }
 
--- the same ending as the player makes it, from the tables of the program
-abbrev pub test_ending : List ℕ → Option (Result Job Refusal) → Ending
+-- a test that is refused prints the reason's line; else it prints what the program means
+abbrev pub meant_ending : List ℕ → Option (Result (Job Program) Reason) → Ending
+meant_ending name None = bare_ending status.ReadFault
+meant_ending name (Some (Err why)) = refused_ending why
+meant_ending name (Some (Ok job)) = played_ending name (compiled_tables job.keyboard) (src job.keyboard) job.entries
+
+-- the same ending by the tables of the program
+abbrev pub test_ending : List ℕ → Option (Result (Job Tables) Reason) → Ending
 test_ending name None = bare_ending status.ReadFault
-test_ending name (Some (Err refusal)) = record { status = status.Refused; file = None; printed = refusal_line refusal }
-test_ending name (Some (Ok job)) = record { status = status.Done; file = Some (name, file_of job.tables []); printed = player_transcript job.tables job.presses }
+test_ending name (Some (Err why)) = refused_ending why
+test_ending name (Some (Ok job)) = played_ending name job.keyboard (tab job.keyboard) job.entries
 
 -- how the run of a request ends
 abbrev pub request_ending : Files → Option Request → Ending
 request_ending files None = bare_ending status.Words
-request_ending files (Some (Test source file keys)) = meant_ending file (files_wish files source keys)
+request_ending files (Some (Compile source file)) = compile_ending file (file_tables files source)
+request_ending files (Some (Test source file keys)) = meant_ending file (job_of (file_program files source) (file_script files keys))
 
 -- how the run of words ends
 abbrev pub ending : Files → List (List ℕ) → Ending
@@ -116,19 +143,19 @@ FaultCounts folder folder_after sink sink_after status.WriteFault =
     (Rose folder folder_after × (sink_after ≡ sink)) ⊎ ((folder_after ≡ folder) × Rose sink sink_after)
 FaultCounts folder folder_after sink sink_after _ = (folder_after ≡ folder) × (sink_after ≡ sink)
 
--- the calls of the folder, by the status: all that are wanted where all is done, else the first of them
-abbrev pub AsksBy : List Ask → List Call → List Call → Status → Type 0
-AsksBy wanted before after status.Done = AsksAll wanted before after
-AsksBy wanted before after status.ExpectFailed = AsksAll wanted before after
-AsksBy wanted before after _ = AsksInOrder wanted before after
+-- where a file of a source was written, it means the program of the source
+abbrev pub SourceMeans : Files → Files → List ℕ → List ℕ → Type 0
+SourceMeans before after source file = (program : Program) → file_program before source ≡ Some (Ok program) → IfSome (after file) (λ bytes. Means bytes program)
 
--- a file means a program: it is a file, and its keyboard takes the same steps as the program's, whatever events come
-pub record Means (bytes : List ℕ) (program : Program) : Type 0 where
-  pub file : IsFile bytes
-  pub same_steps : (events : List Event) → trace (tab (tables_of bytes)) events ≡ trace (src program) events
+-- a run with this status wrote the file of its ending
+abbrev pub HasWritten : Option (List ℕ × List ℕ) → Status → Type 0
+HasWritten (Some file) status.Done = Unit {0}
+HasWritten (Some file) status.Refused = Unit {0}
+HasWritten (Some file) status.ExpectFailed = Unit {0}
+HasWritten file s = ⊥
 
 -- the file that a request wrote means the program of the source that it named
 abbrev pub FileMeans : Files → Files → Option Request → Type 0
 FileMeans before after None = Unit {0}
-FileMeans before after (Some (Test source file keys)) =
-    (program : Program) → option_map source_program (before source) ≡ Some (Ok program) → IfSome (after file) (λ bytes. Means bytes program)
+FileMeans before after (Some (Compile source file)) = SourceMeans before after source file
+FileMeans before after (Some (Test source file keys)) = SourceMeans before after source file

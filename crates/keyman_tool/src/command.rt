@@ -6,6 +6,10 @@ use kmn_base::Text;
 /// A command with the names of its files.
 #[derive(Drop)]
 pub enum Command<'a> {
+    Compile {
+        source: &'a [u8],
+        file: &'a [u8],
+    },
     Test {
         source: &'a [u8],
         file: &'a [u8],
@@ -18,9 +22,23 @@ pub fn command_of(words: &[Text]) -> Option<Command<'_>>
     ensures { option_map requested result ≡ request_of words.now }
 {
     match words {
+        [word, source, file] => compile_command(word.as_slice(), source, file),
         [word, source, file, keys] => test_command(word.as_slice(), source, file, keys),
         _ => None,
     }
+}
+
+/// The command `compile` with its files, None for another word.
+fn compile_command<'a>(word: &[u8], source: &'a Text, file: &'a Text) -> Option<Command<'a>>
+    ensures { option_map requested result ≡ request_of (word.now ∷ source.now ∷ file.now ∷ []) }
+{
+    if word != b"compile".as_slice() {
+        return None;
+    }
+    Some(Command::Compile {
+        source: source.as_slice(),
+        file: file.as_slice(),
+    })
 }
 
 /// The command `test` with its files, None for another word.

@@ -6,16 +6,14 @@
 #![tactic(auto)]
 
 mod command;
-mod compiling;
-mod first_tables;
 mod forms;
-mod player;
 mod playing;
 mod preparing;
 mod printing;
+mod reason;
 mod run;
-mod script_form;
-mod source_form;
+mod script_lines;
+mod script_words;
 mod status;
 #[cfg(test)]
 mod tests;

@@ -1,108 +1,166 @@
-ghost use Rattle.std.specs.Prelude.{◌≡◌, [], IsTrue, IfOk};
-ghost use Rattle.kmn_base.specs.Lists.{characters};
+ghost use Rattle.std.specs.Prelude.{◌≡◌, ◌-◌, ◌<◌, ◌^◌, [], IsTrue, IfOk};
 ghost use Rattle.kmn_outside.specs.Outside.{WriteCounts};
+ghost use Rattle.rule_model.specs.Tab.{tab};
+ghost use Rattle.rule_model.specs.TablesOf.{tables_of};
+ghost use Rattle.rule_model.specs.Trace.{trace};
+ghost use Rattle.rule_model.specs.Transcript.{events_of, transcript};
+ghost use Rattle.play_session.specs.Session.{is_key};
+ghost use Rattle.keyman_tool.specs.Playing.{end_of, line_of, entry_line, end_lines, Plays, PlaysEvent};
 ghost use Rattle.keyman_tool.specs.Printing.{Prints};
-ghost use Rattle.rule_model.specs.Lines.{text_line};
-ghost use Rattle.keyman_tool.specs.Player.{transcript, player_step, player_line, end_lines};
+ghost use Rattle.keyman_tool.specs.Steps.{IsPressing, is_press};
 
-use crate::forms::append;
-use crate::player::Player;
 use crate::printing::put_all;
-use crate::transcript::{end_line, text_line};
-use kmn_base::{Item, KeyPress, Memory, Seq, Text};
+use crate::transcript::{end_line, line_of, refused_event_line, text_line};
+use kmn_base::{Code, Event, Memory, Text};
 use kmn_outside::{Sink, WriteError};
-use rule_model::Tables;
+use kmx_verifier::Verified;
+use play_session::{Session, StepError};
+use rule_model::Entry;
 use std::alloc::Global;
 
-/// Presses keys on a keyboard of these tables and prints what each did, and the text in the end.
-pub fn play<S: Sink>(
+/// How a script ends: at its last line, or where an event is refused.
+#[derive(Clone, Copy, Debug, PartialEq, Eq)]
+pub enum PlayEnd {
+    Done,
+    Refused,
+}
+
+/// Presses the keys of a script on a keyboard and prints what each did, and in the end the text.
+pub fn play<'a, S: Sink>(
     alloc: Global,
-    tables: &Tables,
-    presses: &[KeyPress],
+    file: &'a Verified<'a>,
+    entries: &[Entry],
     out: &mut S,
-) -> Result<(), WriteError>
+) -> Result<PlayEnd, WriteError>
+    requires script { IsPressing entries.now }
+    requires no_store { (tables_of file.now).stores ≡ [] }
     ensures counts { WriteCounts (S.faults out.old) (S.faults out.new) result }
     ensures told { S.told out.new ≡ S.told out.old }
-    ensures prints { IsTrue (S.told out.old) → Prints (S.written out.old) (S.written out.new) (transcript tables.now presses.now) result }
+    ensures ends { IfOk result (λ end. end ≡ end_of (trace (tab (tables_of file.now)) (events_of entries.now)).refused) }
+    ensures prints { IsTrue (S.told out.old)
+        → Prints (S.written out.old) (S.written out.new) (transcript (tab (tables_of file.now)) entries.now) result }
 {
-    let mut player = Player::new(alloc);
-    for press in presses {
-        match play_press(alloc, tables, &mut player, *press, out) {
-            Ok(()) => {}
+    let mut session = match Session::start(alloc, file) {
+        Ok(session) => session,
+        Err(Memory) => return Err(WriteError::Memory),
+    };
+    let mut done = 0;
+    for entry in entries {
+        match play_entry(alloc, &mut session, done, entry, out) {
+            Ok(PlayEnd::Done) => done += 1,
+            Ok(PlayEnd::Refused) => return Ok(PlayEnd::Refused),
             Err(error) => return Err(error),
         }
     }
-    put_end(alloc, &player, out)
+    put_end(alloc, &session, done, out)
 }
 
-/// Presses a key and prints what it did.
-#[tactic(auto, using(crate::proofs::PrintingLaws::none_begun))]
-fn play_press<S: Sink>(
+/// Does an entry of a script and prints its line.
+fn play_entry<S: Sink>(
     alloc: Global,
-    tables: &Tables,
-    player: &mut Player,
-    press: KeyPress,
+    session: &mut Session,
+    done: u32,
+    entry: &Entry,
     out: &mut S,
-) -> Result<(), WriteError>
+) -> Result<PlayEnd, WriteError>
+    requires press { IsTrue (is_press entry.now) }
+    requires counted { (session.old.number ≡ done) × (done < 2 ^ 32 - 1) }
     ensures counts { WriteCounts (S.faults out.old) (S.faults out.new) result }
     ensures told { S.told out.new ≡ S.told out.old }
-    ensures steps { IfOk result (λ _. player.new ≡ player_step tables.now player.old press) }
-    ensures prints { IsTrue (S.told out.old) → Prints (S.written out.old) (S.written out.new) (player_line (player_step tables.now player.old press)) result }
+    ensures plays { IfOk result (Plays session.old session.new entry.now) }
+    ensures prints { IsTrue (S.told out.old) → Prints (S.written out.old) (S.written out.new) (entry_line session.old entry.now) result }
 {
-    match step_line(alloc, tables, player, press) {
-        Ok(line) => put_all(out, line.as_slice()),
+    match entry {
+        Entry::Act { event, .. } => play_event(alloc, session, done, event, out),
+        Entry::Expect { .. } => Ok(PlayEnd::Done),
+    }
+}
+
+/// Does an event and prints its line.
+#[tactic(auto, using(crate::proofs::PrintingLaws::none_begun))]
+fn play_event<S: Sink>(
+    alloc: Global,
+    session: &mut Session,
+    done: u32,
+    event: &Event,
+    out: &mut S,
+) -> Result<PlayEnd, WriteError>
+    requires press { IsTrue (is_key event.now) }
+    requires counted { (session.old.number ≡ done) × (done < 2 ^ 32 - 1) }
+    ensures counts { WriteCounts (S.faults out.old) (S.faults out.new) result }
+    ensures told { S.told out.new ≡ S.told out.old }
+    ensures plays { IfOk result (PlaysEvent session.old session.new event.now) }
+    ensures prints { IsTrue (S.told out.old) → Prints (S.written out.old) (S.written out.new) (line_of session.old event.now) result }
+{
+    match event_line(alloc, session, done, event) {
+        Ok((end, line)) => match put_all(out, line.as_slice()) {
+            Ok(()) => Ok(end),
+            Err(error) => Err(error),
+        },
         Err(Memory) => Err(WriteError::Memory),
     }
 }
 
-/// Presses a key, and answers the line of what it did.
-fn step_line(
+/// Does an event, and answers its line.
+fn event_line(
     alloc: Global,
-    tables: &Tables,
-    player: &mut Player,
-    press: KeyPress,
-) -> Result<Text, Memory>
-    ensures { IfOk result (λ line. (player.new ≡ player_step tables.now player.old press) × (line ≡ player_line player.new)) }
+    session: &mut Session,
+    done: u32,
+    event: &Event,
+) -> Result<(PlayEnd, Text), Memory>
+    requires press { IsTrue (is_key event.now) }
+    requires counted { (session.old.number ≡ done) × (done < 2 ^ 32 - 1) }
+    ensures plays { IfOk result (λ played. PlaysEvent session.old session.new event.now played.0) }
+    ensures line { IfOk result (λ played. played.1 ≡ line_of session.old event.now) }
 {
-    player.step(alloc, tables, press)?;
-    player.line(alloc)
+    match session.step(alloc, event) {
+        Ok(step) => {
+            let context = session.engine().context();
+            let line = line_of(
+                alloc,
+                step.number,
+                step.outcome,
+                session.inserted(),
+                context,
+            )?;
+            Ok((PlayEnd::Done, line))
+        }
+        Err(StepError::Memory) => Err(Memory),
+        Err(StepError::Place) => Ok((
+            PlayEnd::Refused,
+            refused_event_line(alloc, done + 1, Code::E1)?,
+        )),
+        Err(StepError::Length) => Ok((
+            PlayEnd::Refused,
+            refused_event_line(alloc, done + 1, Code::E2)?,
+        )),
+    }
 }
 
 /// Prints the text and how many events there were.
-fn put_end<S: Sink>(alloc: Global, player: &Player, out: &mut S) -> Result<(), WriteError>
+fn put_end<S: Sink>(
+    alloc: Global,
+    session: &Session,
+    done: u32,
+    out: &mut S,
+) -> Result<PlayEnd, WriteError>
+    requires { session.now.number ≡ done }
     ensures counts { WriteCounts (S.faults out.old) (S.faults out.new) result }
     ensures told { S.told out.new ≡ S.told out.old }
-    ensures prints { IsTrue (S.told out.old) → Prints (S.written out.old) (S.written out.new) (end_lines player.now) result }
+    ensures done { IfOk result (λ end. end ≡ PlayEnd.Done) }
+    ensures prints { IsTrue (S.told out.old) → Prints (S.written out.old) (S.written out.new) (end_lines session.now) result }
 {
-    let Ok(text) = whole_text(alloc, player) else {
+    let Ok(text) = text_line(alloc, session.editor().left(), session.editor().right()) else {
         return Err(WriteError::Memory);
     };
-    let Ok(end) = end_line(alloc, player.number, 0) else {
+    let Ok(end) = end_line(alloc, done, 0) else {
         return Err(WriteError::Memory);
     };
     match put_all(out, text.as_slice()) {
-        Ok(()) => put_all(out, end.as_slice()),
+        Ok(()) => match put_all(out, end.as_slice()) {
+            Ok(()) => Ok(PlayEnd::Done),
+            Err(error) => Err(error),
+        },
         Err(error) => Err(error),
     }
-}
-
-/// The line of the whole text, which ends at the caret.
-fn whole_text(alloc: Global, player: &Player) -> Result<Text, Memory>
-    ensures { IfOk result (λ line. line ≡ text_line (characters player.now.left) []) }
-{
-    let left = characters(alloc, player.left.as_slice())?;
-    text_line(alloc, left.as_slice(), &[])
-}
-
-/// The characters of items.
-fn characters(alloc: Global, items: &[Item]) -> Result<Seq<char>, Memory>
-    ensures { IfOk result (λ found. found ≡ characters items.now) }
-{
-    let mut found = Seq::new(alloc);
-    for item in items {
-        if let Item::Char(c) = item {
-            append(&mut found, *c)?;
-        }
-    }
-    Ok(found)
 }

@@ -1,34 +1,32 @@
 ghost use Rattle.std.specs.Prelude.{◌≡◌, ◌∷◌, [], IsTrue, IfOk, option_map};
 ghost use Rattle.kmn_outside.specs.Outside.{SameFiles};
 ghost use Rattle.keyman_tool.specs.Asked.{Asks, read_of};
-ghost use Rattle.keyman_tool.specs.FirstFile.{IsCompilable};
-ghost use Rattle.keyman_tool.specs.Inputs.{files_job};
-ghost use Rattle.keyman_tool.specs.ScriptForm.{script_presses};
-ghost use Rattle.keyman_tool.specs.SourceForm.{source_program};
-ghost use Rattle.keyman_tool.specs.Steps.{StopCounts, Answers, IsCompiled, prepared_job, form_stop, read_stop};
+ghost use Rattle.keyman_tool.specs.Inputs.{job_of, file_tables, file_script};
+ghost use Rattle.keyman_tool.specs.Steps.{StopCounts, Answers, AnswersLine, IsCompiled, IsPressing, IsPrepared, tables_in, prepared_job, form_stop, compile_stop, read_stop};
 
-use crate::compiling::{Compiled, compile};
 use crate::forms::{FormError, INPUT_BYTES};
-use crate::script_form::read_script;
-use crate::source_form::read_source;
-use kmn_base::{Code, KeyPress, Memory, Refusal, Seq};
+use crate::reason::Reason;
+use crate::script_lines::read_script;
+use kmn_base::limits::TEXT_BYTES;
+use kmn_base::{Code, CompileError, Refusal, Seq};
+use kmn_compiler::{Compiled, compile};
 use kmn_outside::{Folder, ReadError};
-use rule_model::Program;
+use rule_model::Entry;
 use std::alloc::Global;
 
 /// Why a run stops before it writes.
 #[derive(Clone, Copy, Debug, PartialEq, Eq)]
 pub enum Stop {
-    Refused(Refusal),
+    Refused(Reason),
     ReadFault,
     Memory,
 }
 
-/// A compiled keyboard, and the keys to press on it.
+/// A compiled keyboard, and the script to play on it.
 #[derive(Drop)]
 pub struct Prepared {
     pub compiled: Compiled,
-    pub presses: Seq<KeyPress>,
+    pub entries: Seq<Entry>,
 }
 
 /// Reads and compiles the source, then reads the script.
@@ -38,73 +36,81 @@ pub fn prepare<F: Folder>(
     keys: &[u8],
     folder: &mut F,
 ) -> Result<Prepared, Stop>
-    ensures compiled { IfOk result (λ prepared. IsCompiled prepared.compiled) }
+    ensures prepared { IfOk result IsPrepared }
     ensures counts { StopCounts (F.faults folder.old) (F.faults folder.new) result }
     ensures told { F.told folder.new ≡ F.told folder.old }
     ensures files { IsTrue (F.told folder.old) → SameFiles (F.files folder.old) (F.files folder.new) }
     ensures asked { IsTrue (F.told folder.old) → Asks (read_of source.now ∷ read_of keys.now ∷ []) (F.calls folder.old) (F.calls folder.new) result }
-    ensures states { IsTrue (F.told folder.old) → Answers prepared_job (files_job (F.files folder.old) source.now keys.now) result }
+    ensures states { IsTrue (F.told folder.old) → Answers prepared_job (job_of (file_tables (F.files folder.old) source.now) (file_script (F.files folder.old) keys.now)) result }
 {
-    let program = match read_program(alloc, source, folder) {
-        Ok(program) => program,
+    let compiled = match read_and_compile(alloc, source, folder) {
+        Ok(compiled) => compiled,
         Err(stop) => return Err(stop),
     };
-    let compiled = match compile(alloc, &program) {
-        Ok(compiled) => compiled,
-        Err(Memory) => return Err(Stop::Memory),
-    };
-    match read_presses(alloc, keys, folder) {
-        Ok(presses) => Ok(Prepared { compiled, presses }),
+    match read_entries(alloc, keys, folder) {
+        Ok(entries) => Ok(Prepared { compiled, entries }),
         Err(stop) => Err(stop),
     }
 }
 
-/// Reads the source of a name.
-fn read_program<F: Folder>(alloc: Global, name: &[u8], folder: &mut F) -> Result<Program, Stop>
-    ensures compilable { IfOk result IsCompilable }
+/// Reads and compiles the source of a name.
+pub fn read_and_compile<F: Folder>(
+    alloc: Global,
+    name: &[u8],
+    folder: &mut F,
+) -> Result<Compiled, Stop>
+    ensures compiled { IfOk result IsCompiled }
     ensures counts { StopCounts (F.faults folder.old) (F.faults folder.new) result }
     ensures told { F.told folder.new ≡ F.told folder.old }
     ensures files { IsTrue (F.told folder.old) → SameFiles (F.files folder.old) (F.files folder.new) }
     ensures asked { IsTrue (F.told folder.old) → Asks (read_of name.now ∷ []) (F.calls folder.old) (F.calls folder.new) result }
-    ensures states { IsTrue (F.told folder.old) → Answers (λ program. program) (option_map source_program (F.files folder.old name.now)) result }
+    ensures states { IsTrue (F.told folder.old) → Answers tables_in (file_tables (F.files folder.old) name.now) result }
 {
-    match folder.read(alloc, name, INPUT_BYTES) {
-        Ok(source) => match read_source(alloc, source.as_slice()) {
-            Ok(program) => Ok(program),
-            Err(error) => Err(form_stop(error)),
+    match folder.read(alloc, name, TEXT_BYTES) {
+        Ok(source) => match compile(alloc, source.as_slice(), &[]) {
+            Ok(compiled) => Ok(compiled),
+            Err(error) => Err(compile_stop(error)),
         },
-        Err(error) => Err(read_stop(error, Code::N01)),
+        Err(error) => Err(read_stop(error, Code::L05)),
     }
 }
 
 /// Reads the script of a name.
-fn read_presses<F: Folder>(
-    alloc: Global,
-    name: &[u8],
-    folder: &mut F,
-) -> Result<Seq<KeyPress>, Stop>
+fn read_entries<F: Folder>(alloc: Global, name: &[u8], folder: &mut F) -> Result<Seq<Entry>, Stop>
+    ensures presses { IfOk result IsPressing }
     ensures counts { StopCounts (F.faults folder.old) (F.faults folder.new) result }
     ensures told { F.told folder.new ≡ F.told folder.old }
     ensures files { IsTrue (F.told folder.old) → SameFiles (F.files folder.old) (F.files folder.new) }
     ensures asked { IsTrue (F.told folder.old) → Asks (read_of name.now ∷ []) (F.calls folder.old) (F.calls folder.new) result }
-    ensures states { IsTrue (F.told folder.old) → Answers (λ presses. presses) (option_map script_presses (F.files folder.old name.now)) result }
+    ensures states { IsTrue (F.told folder.old) → AnswersLine (file_script (F.files folder.old) name.now) result }
 {
     match folder.read(alloc, name, INPUT_BYTES) {
         Ok(script) => match read_script(alloc, script.as_slice()) {
-            Ok(presses) => Ok(presses),
+            Ok(entries) => Ok(entries),
             Err(error) => Err(form_stop(error)),
         },
         Err(error) => Err(read_stop(error, Code::N02)),
     }
 }
 
-/// Why a run stops where the text of an input was not read.
+/// Why a run stops where the text of a script was not read.
 fn form_stop(error: FormError) -> Stop
     ensures { result ≡ form_stop error }
 {
     match error {
-        FormError::Refused(refusal) => Stop::Refused(refusal),
+        FormError::Refused(refusal) => Stop::Refused(Reason::Line(refusal)),
         FormError::Memory => Stop::Memory,
+    }
+}
+
+/// Why a run stops where a source was not compiled.
+fn compile_stop(error: CompileError) -> Stop
+    ensures { result ≡ compile_stop error }
+{
+    match error {
+        CompileError::Refused(refusal) => Stop::Refused(Reason::Line(refusal)),
+        CompileError::TooLarge { code, size } => Stop::Refused(Reason::Size { code, size }),
+        CompileError::Memory => Stop::Memory,
     }
 }
 
@@ -114,7 +120,7 @@ fn read_stop(error: ReadError, code: Code) -> Stop
 {
     match error {
         ReadError::Failed => Stop::ReadFault,
-        ReadError::Over(_) => Stop::Refused(Refusal { line: 1, code }),
+        ReadError::Over(_) => Stop::Refused(Reason::Line(Refusal { line: 1, code })),
         ReadError::Memory => Stop::Memory,
     }
 }

@@ -1,4 +1,4 @@
-//! Runs of the one command over a folder and a sink in memory.
+//! Runs of the commands over a folder and a sink in memory.
 ghost use Rattle.std.specs.Prelude.{◌≡◌, IfOk};
 
 use crate::run::run;
@@ -9,15 +9,125 @@ use std::alloc::Global;
 use std::process::Abort;
 use std::test::Fail;
 
-const SOURCE: &[u8] = b"begin Unicode > use(main)\ngroup(main) using keys\n+ 'a' > 'b'\n";
+/// Runs, each in five lines: the words, the source, the script, the number of the put that fails (0 for none) with the exit
+/// status and the size of the file that is written (0 where none is), and what is printed. `~` stands for a line end, `^` for
+/// a carriage return, and `@` for the two lines `begin Unicode > use(main)` and `group(main) using keys`.
+const RUNS: &str = "\
+test a.kmn a.kmx a.keys
+@+ 'a' > 'b'~
+[K_A]~
+0 0 122
+1 del=0 ins=0062 pass=0 beep=0 ent=1 ctx=0062~text 0062|-~end events=1 failed=0~
+test a.kmn a.kmx a.keys
+@+ 'a' > 'b'~
+[SHIFT K_B] [K_F5]
+0 0 122
+1 del=0 ins=0042 pass=0 beep=0 ent=1 ctx=0042~2 del=0 ins=- pass=1 beep=0 ent=1 ctx=0042~text 0042|-~end events=2 failed=0~
+test a.kmn a.kmx a.keys
+@+ 'c' > 'x'~'a' + 'c' > 'y'~
+[K_A] [K_C]~
+0 0 150
+1 del=0 ins=0061 pass=0 beep=0 ent=1 ctx=0061~2 del=1 ins=0079 pass=0 beep=0 ent=1 ctx=0079~text 0079|-~end events=2 failed=0~
+test a.kmn a.kmx a.keys
+@'a' + 'b' > 'ab'~
+[K_A] [K_B]
+0 0 128
+1 del=0 ins=0061 pass=0 beep=0 ent=1 ctx=0061~2 del=0 ins=0062 pass=0 beep=0 ent=1 ctx=0061.0062~text 0061.0062|-~end events=2 failed=0~
+test a.kmn a.kmx a.keys
+@+ 's' > U+1F600~U+1F600 + 'a' > U+10FFFF~
+[K_S] [K_A]
+0 0 156
+1 del=0 ins=1F600 pass=0 beep=0 ent=1 ctx=1F600~2 del=1 ins=10FFFF pass=0 beep=0 ent=1 ctx=10FFFF~text 10FFFF|-~end events=2 failed=0~
+test a.kmn a.kmx a.keys
+\u{FEFF}begin Unicode > use(main)^~group(main) using keys^~+ 'a' > 'b'^~
+[K_A]
+0 0 122
+1 del=0 ins=0062 pass=0 beep=0 ent=1 ctx=0062~text 0062|-~end events=1 failed=0~
+test a.kmn a.kmx a.keys
+@+ 'a' > \\~'b' c x \\~+ 'c' > 'd'~
+[K_C]
+0 0 146
+1 del=0 ins=0064 pass=0 beep=0 ent=1 ctx=0064~text 0064|-~end events=1 failed=0~
+test a.kmn a.kmx a.keys
+@+ 'a' > 'b'~
 
-const FIRST_LINE: &[u8] = b"1 del=0 ins=0062 pass=0 beep=0 ent=1 ctx=0062\n";
+0 0 122
+text -|-~end events=0 failed=0~
+compile a.kmn a.kmx
+@+ 'a' > 'b'~
+[K_F99]
+0 0 122
+compiled stores=0 groups=1 rules=1 bytes=122~
+test a.kmn a.kmx a.keys
+@+ 'a' > U+D800~
+[K_A]
+0 1 0
+refused L04 line 3~
+compile a.kmn a.kmx
+@nul nul + 'a' > 'b'~
 
-const LINES: &[u8] =
-    b"1 del=0 ins=0062 pass=0 beep=0 ent=1 ctx=0062\ntext 0062|-\nend events=1 failed=0\n";
+0 1 0
+refused S10 line 3~
+test a.kmn a.kmx a.keys
+@+ 'a' > 'b~
 
-const SHIFTED: &[u8] =
-    b"1 del=0 ins=0042 pass=0 beep=0 ent=1 ctx=0042\ntext 0042|-\nend events=1 failed=0\n";
+0 1 0
+refused L03 line 3~
+test a.kmn a.kmx a.keys
+@+ 'a' > any(q)~
+
+0 1 0
+refused S06 line 3~
+test a.kmn a.kmx a.keys
+
+[K_A]
+0 1 0
+refused N01 line 1~
+test a.kmn a.kmx a.keys
+@+ 'a' > 'b'~+ 'c' > beep~
+[K_A]
+0 1 0
+refused N01 line 4~
+test a.kmn a.kmx a.keys
+@+ 'a' > 'b'~
+[K_A]~[K_QQ]~
+0 1 0
+refused N02 line 2~
+test a.kmn
+@+ 'a' > 'b'~
+[K_A]
+0 2 0
+
+Test a.kmn a.kmx a.keys
+@+ 'a' > 'b'~
+[K_A]
+0 2 0
+
+compile a.kmn a.kmx a.keys
+@+ 'a' > 'b'~
+[K_A]
+0 2 0
+
+test a.kmn a.kmx b.keys
+@+ 'a' > 'b'~
+[K_A]
+0 3 0
+
+test b.kmn a.kmx a.keys
+@+ 'a' > 'b'~
+[K_A]
+0 3 0
+
+test a.kmn a.kmx a.keys
+@+ 'a' > 'b'~
+[K_A]
+2 4 122
+1 del=0 ins=0062 pass=0 beep=0 ent=1 ctx=0062~
+compile a.kmn a.kmx
+@+ 'a' > 'b'~
+
+1 4 122
+";
 
 /// The file of `SOURCE`.
 const FILE: [u8; 122] = [
@@ -46,6 +156,20 @@ fn words(alloc: Global, text: &str) -> Result<Vec<Text>, Fail> {
     Ok(words)
 }
 
+/// A text with its stand-ins replaced.
+fn written_out(alloc: Global, text: &str) -> Result<String, Fail> {
+    let mut out = String::new(alloc);
+    for c in text.chars() {
+        match c {
+            '~' => out.push('\n')?,
+            '^' => out.push('\r')?,
+            '@' => out.push_str("begin Unicode > use(main)\ngroup(main) using keys\n")?,
+            _ => out.push(c)?,
+        }
+    }
+    Ok(out)
+}
+
 /// A folder with a source `a.kmn` and a script `a.keys`.
 fn folder(alloc: Global, source: &[u8], script: &[u8]) -> Result<MemoryFolder, Fail> {
     let mut files = Vec::new(alloc);
@@ -54,107 +178,89 @@ fn folder(alloc: Global, source: &[u8], script: &[u8]) -> Result<MemoryFolder, F
     Ok(MemoryFolder::new(alloc, Seq::from_vec(files), Seq::new(alloc)))
 }
 
-/// Runs the words over a source and a script, with a sink whose put of this number fails, and compares the status, what
-/// was printed, and whether `FILE` was written.
-fn expect(
-    rt: &(impl Abort + Alloc<A = Global>),
-    text: &str,
-    source: &[u8],
-    script: &[u8],
-    failing: u32,
-    want: (Status, &[u8], bool),
-) -> Result<(), Fail> {
+/// The put that fails, the exit status and the size of the file, of a line of numbers.
+fn numbers_of(text: &str) -> (u32, u8, usize) {
+    let mut numbers = text.split(' ');
+    let failing = numbers
+        .next()
+        .and_then(|n| n.parse().ok())
+        .unwrap_or(u32::MAX);
+    let status = numbers
+        .next()
+        .and_then(|n| n.parse().ok())
+        .unwrap_or(u8::MAX);
+    let size = numbers
+        .next()
+        .and_then(|n| n.parse().ok())
+        .unwrap_or(usize::MAX);
+    (failing, status, size)
+}
+
+#[test]
+fn runs(rt: HostRuntime) -> Result<(), Fail> {
     let alloc = rt.alloc();
-    let mut folder = folder(alloc, source, script)?;
-    let mut sink = MemorySink::new(alloc, Seq::from_vec(Vec::from_slice(alloc, &[failing])?));
-    let words = words(alloc, text)?;
+    let mut lines = RUNS.split('\n');
+    let mut count = 0;
+    while let (Some(line), Some(source), Some(script), Some(numbers), Some(printed)) = (
+        lines.next(),
+        lines.next(),
+        lines.next(),
+        lines.next(),
+        lines.next(),
+    ) {
+        let source = written_out(alloc, source)?;
+        let script = written_out(alloc, script)?;
+        let printed = written_out(alloc, printed)?;
+        let (failing, status, size) = numbers_of(numbers);
+        let mut folder = folder(alloc, source.as_bytes(), script.as_bytes())?;
+        let mut sink = MemorySink::new(alloc, Seq::from_vec(Vec::from_slice(alloc, &[failing])?));
+        let words = words(alloc, line)?;
+        let ended = run(alloc, words.as_slice(), &mut folder, &mut sink);
+        assert_eq!(rt; ended.number(), status, "{line}: {source}");
+        assert_eq!(rt; sink.written(), printed.as_bytes(), "{line}: {source}");
+        let written = folder.file(b"a.kmx").map_or(0, |bytes| bytes.len());
+        assert_eq!(rt; written, size, "{line}: {source}");
+        count = u32::saturating_add(count, 1);
+    }
+    assert_eq!(rt; count, 23);
+    Ok(())
+}
+
+#[test]
+fn first_file(rt: HostRuntime) -> Result<(), Fail> {
+    let alloc = rt.alloc();
+    let source = written_out(alloc, "@+ 'a' > 'b'~")?;
+    let mut folder = folder(alloc, source.as_bytes(), b"")?;
+    let mut sink = MemorySink::new(alloc, Seq::new(alloc));
+    let words = words(alloc, "compile a.kmn a.kmx")?;
     let status = run(alloc, words.as_slice(), &mut folder, &mut sink);
-    assert_eq!(rt; status, want.0, "{text}");
-    assert_eq!(rt; sink.written(), want.1, "{text}");
-    let file = if want.2 { Some(FILE.as_slice()) } else { None };
-    assert_eq!(rt; folder.file(b"a.kmx"), file, "{text}");
+    assert_eq!(rt; status, Status::Done);
+    assert_eq!(rt; folder.file(b"a.kmx"), Some(FILE.as_slice()));
     Ok(())
 }
 
+/// A text that grows by a thousand characters with each key: the key that finds too long a text is refused, after the lines
+/// of those before it.
 #[test]
-fn inputs(rt: HostRuntime) -> Result<(), Fail> {
-    let header: &[u8] = b"begin Unicode > use(main)\ngroup(main) using keys\n";
-    let rows: [(&[u8], &[u8], Status, &[u8], bool); 7] = [
-        (SOURCE, b"[K_A]\n", Status::Done, LINES, true),
-        (SOURCE, b"[SHIFT K_B]", Status::Done, SHIFTED, true),
-        (
-            SOURCE,
-            b"",
-            Status::Done,
-            b"text -|-\nend events=0 failed=0\n",
-            true,
-        ),
-        (
-            b"",
-            b"[K_A]\n",
-            Status::Refused,
-            b"refused N01 line 1\n",
-            false,
-        ),
-        (
-            header,
-            b"[K_F5]\n",
-            Status::Refused,
-            b"refused N01 line 3\n",
-            false,
-        ),
-        (
-            SOURCE,
-            b"[K_F5]\n",
-            Status::Refused,
-            b"refused N02 line 1\n",
-            false,
-        ),
-        (
-            SOURCE,
-            b"[K_A]\n\n",
-            Status::Refused,
-            b"refused N02 line 2\n",
-            false,
-        ),
-    ];
-    for (source, script, status, printed, written) in rows {
-        expect(
-            &rt,
-            "test a.kmn a.kmx a.keys",
-            source,
-            script,
-            0,
-            (status, printed, written),
-        )?;
+fn long_text(rt: HostRuntime) -> Result<(), Fail> {
+    let alloc = rt.alloc();
+    let mut source = written_out(alloc, "@+ 'a' > '")?;
+    for _ in 0..1_000 {
+        source.push('z')?;
     }
-    Ok(())
-}
-
-#[test]
-fn faults(rt: HostRuntime) -> Result<(), Fail> {
-    let rows: [(&str, u32, Status, &[u8], bool); 5] = [
-        ("test a.kmn", 0, Status::Words, b"", false),
-        ("Test a.kmn a.kmx a.keys", 0, Status::Words, b"", false),
-        ("test a.kmn a.kmx b.keys", 0, Status::ReadFault, b"", false),
-        ("test b.kmn a.kmx a.keys", 0, Status::ReadFault, b"", false),
-        (
-            "test a.kmn a.kmx a.keys",
-            2,
-            Status::WriteFault,
-            FIRST_LINE,
-            true,
-        ),
-    ];
-    for (words, failing, status, printed, written) in rows {
-        expect(
-            &rt,
-            words,
-            SOURCE,
-            b"[K_A]\n",
-            failing,
-            (status, printed, written),
-        )?;
+    source.push_str("'\n")?;
+    let mut script = String::new(alloc);
+    for _ in 0..997 {
+        script.push_str("[K_A]\n")?;
     }
+    let mut folder = folder(alloc, source.as_bytes(), script.as_bytes())?;
+    let mut sink = MemorySink::new(alloc, Seq::new(alloc));
+    let words = words(alloc, "test a.kmn a.kmx a.keys")?;
+    let status = run(alloc, words.as_slice(), &mut folder, &mut sink);
+    assert_eq!(rt; status, Status::Refused);
+    let lines = sink.written().iter().filter(|byte| **byte == b'\n').count();
+    assert_eq!(rt; lines, 997);
+    assert!(rt; sink.written().ends_with(b"\nrefused E2 event 997\n"));
+    assert!(rt; folder.file(b"a.kmx").is_some());
     Ok(())
 }

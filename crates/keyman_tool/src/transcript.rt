@@ -1,9 +1,16 @@
-ghost use Rattle.std.specs.Prelude.{◌≡◌, ◌++◌, ◌∷◌, map, codes, IfOk, if◌then◌else◌};
+ghost use Rattle.std.specs.Prelude.{◌≡◌, ◌<◌, ◌^◌, ◌++◌, ◌∷◌, [], map, length, codes, IfOk, if◌then◌else◌};
 ghost use Rattle.std.specs.String.{string_bytes};
 ghost use Rattle.kmn_base.specs.Lists.{characters};
+ghost use Rattle.rule_model.specs.File.{file_of, all_rules, rules_of};
+ghost use Rattle.std.specs.List.{flat_map};
+ghost use Rattle.rule_model.specs.Transcript.{refused_event_line};
+ghost use Rattle.keyman_tool.specs.Reasons.{reason_line, size_line};
+ghost use Rattle.keyman_tool.specs.Run.{compiled_line};
 ghost use Rattle.rule_model.specs.Lines.{event_line, counts_text, text_line, end_line, refusal_line, hexadecimal, item_text, joined};
 
-use kmn_base::{Item, Memory, Outcome, Refusal, Seq, Text};
+use crate::reason::Reason;
+use kmn_base::{Code, Item, Memory, Outcome, Refusal, Seq, Text};
+use rule_model::{Group, Tables};
 use std::alloc::{AllocError, Global};
 
 /// The line of an event: its number, what it did, what it inserted and the context after it.
@@ -77,6 +84,66 @@ pub fn refusal_line(alloc: Global, refusal: Refusal) -> Result<Text, Memory>
     let rest = format!(in alloc; " line {}\n", refusal.line)?;
     line.extend_from_slice(rest.as_bytes())?;
     Ok(line)
+}
+
+/// The line of a limit that would be passed, with the size in bytes.
+#[tactic(auto, unfolding(crate::specs::Reasons::size_line))]
+fn size_line(alloc: Global, code: Code, size: u64) -> Result<Text, Memory>
+    ensures { IfOk result (λ line. line ≡ size_line code size) }
+{
+    let mut line = Seq::from_slice(alloc, b"refused ")?;
+    line.extend_from_slice(code.text())?;
+    let rest = format!(in alloc; " size {size}\n")?;
+    line.extend_from_slice(rest.as_bytes())?;
+    Ok(line)
+}
+
+/// The line of a reason against compiling or playing.
+pub fn reason_line(alloc: Global, why: Reason) -> Result<Text, Memory>
+    ensures { IfOk result (λ line. line ≡ reason_line why) }
+{
+    match why {
+        Reason::Line(refusal) => refusal_line(alloc, refusal),
+        Reason::Size { code, size } => size_line(alloc, code, size),
+    }
+}
+
+/// The line of an event that is refused.
+pub fn refused_event_line(alloc: Global, number: u32, code: Code) -> Result<Text, Memory>
+    ensures { IfOk result (λ line. line ≡ refused_event_line number code) }
+{
+    let mut line = Seq::from_slice(alloc, b"refused ")?;
+    line.extend_from_slice(code.text())?;
+    let rest = format!(in alloc; " event {number}\n")?;
+    line.extend_from_slice(rest.as_bytes())?;
+    Ok(line)
+}
+
+/// How many key records groups have.
+fn count_rules(groups: &[Group]) -> usize
+    requires { length (flat_map rules_of groups.now) < 2 ^ 64 }
+    ensures { result ≡ length (flat_map rules_of groups.now) }
+{
+    let mut count = 0;
+    for group in groups {
+        count += group.rules.len();
+    }
+    count
+}
+
+/// The line of a file that was compiled from tables and has so many bytes.
+#[tactic(auto, unfolding(crate::specs::Run::compiled_line))]
+pub fn compiled_line(alloc: Global, tables: &Tables, bytes: usize) -> Result<Text, Memory>
+    requires few { length (all_rules tables.now) < 2 ^ 64 }
+    requires size { bytes ≡ length (file_of tables.now []) }
+    ensures { IfOk result (λ line. line ≡ compiled_line tables.now) }
+{
+    let stores = tables.stores.len();
+    let groups = tables.groups.len();
+    let rules = count_rules(tables.groups.as_slice());
+    Ok(text_of(format!(in alloc;
+        "compiled stores={stores} groups={groups} rules={rules} bytes={bytes}\n"
+    )?))
 }
 
 /// The bytes of a string.

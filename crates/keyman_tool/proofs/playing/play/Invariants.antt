@@ -1,13 +1,21 @@
-use Rattle.std.proofs.Common.{◌≡◌, drop, IsTrue}
-use Rattle.keyman_tool.specs.Player.{player_lines, transcript}
+use Rattle.std.proofs.Common.{◌≡◌, [], drop, IsTrue}
+use Rattle.rule_model.specs.Tab.{tab}
+use Rattle.rule_model.specs.TablesOf.{tables_of}
+use Rattle.rule_model.specs.Trace.{trace}
+use Rattle.rule_model.specs.Transcript.{events_of, transcript}
+use Rattle.keyman_tool.specs.Playing.{steps_left, lines_left}
 use Rattle.keyman_tool.specs.Printing.{AppendsBut}
 use Rattle.keyman_tool.proofs.playing.play.Given as goal
 
-abbrev pub invariant-loop-press : goal.invariant-loop-press
-invariant-loop-press g l =
+abbrev pub invariant-loop-entry : goal.invariant-loop-entry
+invariant-loop-entry g l =
     record {
       faults : g.S.Sink.faults l.out ≡ g.S.Sink.faults l.initial.out;
       told : g.S.Sink.told l.out ≡ g.S.Sink.told l.initial.out;
+      counted : l.done ≡ l.entry-index;
+      number : l.session.number ≡ l.done;
+      names : l.session.state.names ≡ [];
+      ends : (steps_left l.session (drop l.entry-index l.entries)).refused ≡ (trace (tab (tables_of l.file)) (events_of l.entries)).refused;
       printed : IsTrue (g.S.Sink.told l.initial.out)
-          → AppendsBut (player_lines l.tables l.player (drop l.press-index l.presses)) (g.S.Sink.written l.initial.out) (g.S.Sink.written l.out) (transcript l.tables l.presses);
+          → AppendsBut (lines_left l.session (drop l.entry-index l.entries)) (g.S.Sink.written l.initial.out) (g.S.Sink.written l.out) (transcript (tab (tables_of l.file)) l.entries);
     }
