@@ -77,7 +77,7 @@ store_system name = if is_system_name name then number_named system_stores (bare
 -- store: a known name and ); that the line breaks off at the name goes before that it isn't known
 abbrev pub store_form : ℕ → List LineToken → Option Fault
 store_form last tokens =
-    or_else (broken last 2 (slot.Name ∷ []) (drop 2 tokens))
+    or_else (broken last 2 (slot.StoreName ∷ []) (drop 2 tokens))
     (or_else (option_map (fault 2) (unless (is_none_left (drop 3 tokens) || is_some (store_system (text_at 2 tokens))) code.S12))
     (broken last 3 (slot.Close ∷ []) (drop 3 tokens)))
 

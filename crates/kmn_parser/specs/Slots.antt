@@ -6,7 +6,7 @@ use Rattle.kmn_parser.specs.declared.syntax.Fault.{Fault}
 use Rattle.kmn_parser.specs.declared.syntax.Slot.{Slot}
 use Rattle.kmn_parser.specs.declared.syntax.Slot.TheVariants as slot
 use Rattle.kmn_parser.specs.Told.{LineToken, fault, is_quoted, is_word, is_wordy, is_open, is_close, is_bracket_close, is_comma, is_equal, is_unequal}
-use Rattle.kmn_parser.specs.Words.{is_name, is_key_name}
+use Rattle.kmn_parser.specs.Words.{bare_name, is_name, is_key_name}
 use Rattle.kmn_parser.specs.Numbers.{is_offset}
 
 abbrev pub unless : Bool → Code → Option Code
@@ -27,6 +27,7 @@ slot_fault slot.Comma token = unless (is_comma token.kind) S02
 slot_fault slot.Equal token = unless (is_equal token.kind) S02
 slot_fault slot.Comparison token = unless (is_equal token.kind || is_unequal token.kind) S02
 slot_fault slot.Name token = unless (is_wordy token.kind && is_name token.text) S02
+slot_fault slot.StoreName token = unless (is_wordy token.kind && is_name (bare_name token.text)) S02
 slot_fault slot.Offset token = offset_fault token
 slot_fault slot.Value token = unless (is_quoted token.kind) S02
 slot_fault slot.Argument token = unless (not (is_close token.kind)) S02

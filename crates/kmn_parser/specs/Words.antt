@@ -43,9 +43,9 @@ is_system_name text = begins_with (byte "&") text
 abbrev pub bare_name : List ℕ → List ℕ
 bare_name text = if is_system_name text then drop 1 text else text
 
--- whether a name has 1 to 80 characters, not counting `&`
+-- whether a name has 1 to 80 characters
 abbrev pub is_name : List ℕ → Bool
-is_name text = nat_lt 0 (character_count (bare_name text)) && nat_le (character_count (bare_name text)) 80
+is_name text = nat_lt 0 (character_count text) && nat_le (character_count text) 80
 
 -- whether a word is `T_` and at least one more character, of at most 80 characters
 abbrev pub is_touch_name : List ℕ → Bool

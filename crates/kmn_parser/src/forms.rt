@@ -40,7 +40,7 @@ const INDEX: [Slot; 6] = [
 const COMPARED: [Slot; 6] = [
     Slot::Lead,
     Slot::Open,
-    Slot::Name,
+    Slot::StoreName,
     Slot::Comparison,
     Slot::Value,
     Slot::Close,
@@ -50,7 +50,7 @@ const COMPARED: [Slot; 6] = [
 const ASSIGNED: [Slot; 6] = [
     Slot::Lead,
     Slot::Open,
-    Slot::Name,
+    Slot::StoreName,
     Slot::Equal,
     Slot::Value,
     Slot::Close,

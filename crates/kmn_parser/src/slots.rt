@@ -5,7 +5,7 @@ ghost use Rattle.kmn_parser.specs.Slots.{unless, offset_fault, slot_fault, cut_c
 use crate::numbers::is_offset;
 use crate::syntax::{Fault, Slot};
 use crate::text::{behind, is_wordy, text_in};
-use crate::words::{is_key_name, is_name};
+use crate::words::{bare_name, is_key_name, is_name};
 use kmn_base::Code;
 use kmn_lines::{Token, TokenKind};
 
@@ -32,6 +32,13 @@ fn is_name_token(source: &[u8], token: Token) -> bool
     ensures { (slot_fault Slot.Name (told_token source.now token)) ≡ unless result Code.S02 }
 {
     is_wordy(token.kind) && is_name(text_in(source, token))
+}
+
+/// Whether a token is the name of a store or of a system store.
+fn is_store_name(source: &[u8], token: Token) -> bool
+    ensures { (slot_fault Slot.StoreName (told_token source.now token)) ≡ unless result Code.S02 }
+{
+    is_wordy(token.kind) && is_name(bare_name(text_in(source, token)))
 }
 
 /// Whether a token is the name of a key.
@@ -61,6 +68,7 @@ fn slot_fault(source: &[u8], slot: Slot, token: Token) -> Option<Code>
         Slot::Equal => matches!(token.kind, TokenKind::Equal),
         Slot::Comparison => matches!(token.kind, TokenKind::Equal | TokenKind::Unequal),
         Slot::Name => is_name_token(source, token),
+        Slot::StoreName => is_store_name(source, token),
         Slot::Value => matches!(token.kind, TokenKind::Quoted),
         Slot::Argument => !matches!(token.kind, TokenKind::Close),
         Slot::Offset => return offset_fault(source, token),

@@ -84,7 +84,7 @@ fn store_form(source: &[u8], last: usize, tokens: &[Token]) -> Option<Fault>
     requires { length tokens.now < 2 ^ 59 }
     ensures { result ≡ store_form last (told source.now tokens.now) }
 {
-    if let Some(fault) = broken(source, last, 2, &[Slot::Name], behind(tokens, 2)) {
+    if let Some(fault) = broken(source, last, 2, &[Slot::StoreName], behind(tokens, 2)) {
         return Some(fault);
     }
     let rest = behind(tokens, 3);

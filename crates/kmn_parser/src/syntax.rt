@@ -104,6 +104,8 @@ pub enum Slot {
     /// `=` or `!=`.
     Comparison,
     Name,
+    /// The name of a store or, behind a `&`, of a system store.
+    StoreName,
     Offset,
     /// One quoted token.
     Value,

@@ -133,6 +133,7 @@ A:store(a(b)c) ⇒ S02 1
 A:store('a') ⇒ S02 1
 A:store(&) ⇒ S02 1
 A:store(& name) ⇒ S02 1
+A:begin Unicode > use(&)¶group(&) using keys¶+ 'a' > use(&) ⇒ 1 Unicode &; 2 group & keys; 3 + 61 > use(&)
 A:store(&foo ⇒ S02 1
 A:store(&foo x) ⇒ S12 1
 A:begin Unicode > use() ⇒ S02 1
@@ -372,7 +373,11 @@ K:+ 'a' > 0x41 ⇒ L04 3
 K:+ 'a' > x00000000000000000041 101 xFFFE ⇒ 3 + 61 > 41 41 FFFE
 K:+ 'a' > index(s,) ⇒ S02 3
 K:+ 'a' > dk 1 ⇒ S02 3
-K:+ 'a' > outs(&) ⇒ S02 3
+K:+ 'a' > outs(&) $& dk(&) save(&x) use(&x) call(&) ⇒ 3 + 61 > outs(&) outs(&) dk(&) save(&x) use(&x) call(&)
+K:dk(&) notany(&) index(&x, 1) + any(&x) > 'b' ⇒ 3 dk(&) notany(&) index(&x,1) + any(&x) > 62
+K:if(& = "v") + 'a' > 'b' ⇒ S02 3
+K:+ 'a' > set(& = "v") ⇒ S02 3
+K:if(&& = "v") + 'a' > set(&& = "v") ⇒ 3 - + 61 > -
 K:if(s == "v") + 'a' > 'b' ⇒ S02 3
 K:'a' if + 'a' > 'b' ⇒ S09 3
 K:nul 'a' nul + 'a' > 'b' ⇒ S09 3
@@ -672,6 +677,18 @@ fn limits(rt: HostRuntime) -> Result<(), Fail> {
         ("store(", 'é', 81, ")", "refused S02 line 2"),
         ("store(&", 'a', 80, ")", "refused S12 line 2"),
         ("store(&", 'a', 81, ")", "refused S02 line 2"),
+        ("group(&", 'a', 79, ")", "0"),
+        ("group(&", 'a', 80, ")", "refused S02 line 2"),
+        ("begin ANSI > use(&", 'a', 79, ")", "0"),
+        ("begin ANSI > use(&", 'a', 80, ")", "refused S02 line 2"),
+        ("> save(&", 'a', 79, ")", "0"),
+        ("> save(&", 'a', 80, ")", "refused S02 line 2"),
+        ("> $&", 'a', 79, "", "0"),
+        ("> $&", 'a', 80, "", "refused S02 line 2"),
+        ("> set(&", 'a', 80, " = '')", "0"),
+        ("> set(&", 'a', 81, " = '')", "refused S02 line 2"),
+        ("if(&", 'a', 80, " = '') > 'b'", "0"),
+        ("if(&", 'a', 81, " = '') > 'b'", "refused S02 line 2"),
         ("> $", 'a', 80, "", "0"),
         ("> $", 'a', 81, "", "refused S02 line 2"),
         ("store(k) [T_", 'a', 78, "]", "1"),

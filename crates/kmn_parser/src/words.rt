@@ -107,11 +107,11 @@ pub fn bare_name(text: &[u8]) -> &[u8]
     }
 }
 
-/// Whether a name has 1 to 80 characters, not counting `&`.
+/// Whether a name has 1 to 80 characters.
 pub fn is_name(text: &[u8]) -> bool
     ensures { result ≡ is_name text.now }
 {
-    let count = character_count(bare_name(text));
+    let count = character_count(text);
     0 < count && count <= SOURCE_NAME_CHARS
 }
 
