@@ -14,7 +14,8 @@ use Rattle.kmn_base.specs.declared.keys.RuleKey.TheVariants as key
 use Rattle.kmn_base.specs.declared.events.Event.{Event}
 use Rattle.kmn_base.specs.declared.events.Event.TheVariants as event
 use Rattle.virtual_keys.specs.Fits.{key_fits, char_of_press}
-use Rattle.virtual_keys.specs.Dictionary.{same_name, name_chars, code_in}
+use Rattle.kmn_base.specs.Names.{same_name}
+use Rattle.virtual_keys.specs.Dictionary.{name_chars, code_in}
 use Rattle.rule_model.specs.declared.program.SrcItem.{SrcItem}
 use Rattle.rule_model.specs.declared.program.SrcItem.TheVariants as source
 use Rattle.rule_model.specs.declared.program.StoreDef.{StoreDef}

@@ -1,5 +1,6 @@
 pub mod Lists
 pub mod ReadingAgain
+pub mod Rising
 pub mod UnitBytes
 pub mod Spelling
 pub mod Faults

@@ -1,5 +1,9 @@
+pub mod Answers
+pub mod Bytes
 pub mod Lending
 pub mod CodeTexts
 pub mod Lists
+pub mod Names
+pub mod Rising
 pub mod Spelling
 pub mod Laws

@@ -1,10 +1,13 @@
-//! The types that every layer of the compiler and the engine speaks of, and the list words of the meaning.
+//! The types that every layer of the compiler and the engine speaks of, and the words that several layers share.
 //!
 //! It stands on std and `thiserror` alone. `specs/Lists` has the words for the text before the caret (characters,
 //! window, soundness, put, take, reading again), `specs/Spelling` the one spelling of each item of a compiled string;
-//! `laws` says what holds of both. The layer above uses `Seq`, which contracts see as its list, and plain data.
+//! `laws` says what holds of both. `specs/Names`, `specs/Bytes` and `specs/Rising` have the words for names, bytes and
+//! rising lists, and `specs/Answers` says what code answers that may refuse or want for memory. The layer above uses
+//! `Seq`, which contracts see as its list, `slices`, `names`, `bytes`, and plain data.
 #![tactic(auto)]
 
+pub mod bytes;
 mod codes;
 mod events;
 mod items;
@@ -12,8 +15,10 @@ mod keys;
 pub mod laws;
 pub mod limits;
 mod memory;
+pub mod names;
 mod refusals;
 mod sequence;
+pub mod slices;
 #[cfg(test)]
 mod tests;
 mod units;

@@ -1,4 +1,4 @@
-use crate::Code;
+use crate::{Code, Memory};
 use thiserror::Error;
 
 /// A named rule that a text breaks, with the number of the line, from 1.
@@ -18,4 +18,15 @@ pub enum CompileError {
     TooLarge { code: Code, size: u64 },
     #[error("out of memory")]
     Memory,
+}
+
+impl From<Memory> for CompileError {
+    ghost use Rattle.std.specs.Prelude.{◌≡◌};
+    ghost use Rattle.kmn_base.specs.declared.refusals.CompileError.TheVariants as variants;
+
+    ghost from_gives = { λ _ e. e ≡ variants.Memory };
+
+    fn from(_memory: Memory) -> CompileError {
+        CompileError::Memory
+    }
 }

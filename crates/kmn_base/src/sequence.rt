@@ -89,6 +89,14 @@ impl<T> Seq<T> {
 }
 
 impl<T: Drop> Seq<T> {
+    /// Appends an item, which is dropped for want of memory.
+    pub fn add(&mut self, item: T) -> Result<(), Memory>
+        ensures { MatchResult result (λ _. self.new ≡ self.old ++ item ∷ []) (λ _. self.new ≡ self.old) }
+    {
+        self.items.push(item)?;
+        Ok(())
+    }
+
     /// Appends the items of another list, or nothing for want of memory.
     pub fn append(&mut self, other: Seq<T>) -> Result<(), Memory>
         ensures { MatchResult result (λ _. self.new ≡ self.old ++ other) (λ _. self.new ≡ self.old) }

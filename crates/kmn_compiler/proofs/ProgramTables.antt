@@ -4,7 +4,7 @@ use Rattle.std.specs.Prelude.{flat_map, slice_index_or}
 use Rattle.std.specs.List.{list_all}
 use Rattle.std.specs.List.Sorted.{IsPermutation, IsSortedBy}
 use Rattle.std.proofs.lemmas.Bool.{and_parts}
-use Rattle.virtual_keys.specs.Dictionary.{same_name}
+use Rattle.kmn_base.specs.Names.{same_name}
 use Rattle.rule_model.specs.declared.program.SrcItem.{SrcItem}
 use Rattle.rule_model.specs.declared.program.SrcItem.TheVariants as source
 use Rattle.rule_model.specs.declared.program.RuleDef.{RuleDef}

@@ -2,7 +2,7 @@
 
 ghost use Rattle.std.specs.Prelude.{◌≡◌, slice_get, option_map, not, find};
 ghost use Rattle.std.specs.List.{list_all};
-ghost use Rattle.virtual_keys.specs.Dictionary.{same_name};
+ghost use Rattle.kmn_base.specs.Names.{same_name};
 ghost use Rattle.rule_model.specs.CharacterForm.{is_character, is_character_item, is_character_key, is_character_rule, rule_line, earlier, outside_group, outside_groups, is_form_start, outside_start, outside_starts, outside_statement, outside_form};
 
 use kmn_base::limits::{CONTEXT_ITEMS, OUTPUT_ITEMS, RECORDS};
@@ -122,7 +122,7 @@ fn outside_groups(groups: &[GroupDef]) -> Option<u32>
 }
 
 /// Whether two names are the same, without ASCII case.
-#[tactic(auto, unfolding(virtual_keys::specs::Dictionary::same_name))]
+#[tactic(auto, unfolding(kmn_base::specs::Names::same_name))]
 fn same_name(known: &[u8], name: &[u8]) -> bool
     ensures { result ≡ same_name known.now name.now }
 {

@@ -6,8 +6,8 @@ use Rattle.kmn_base.specs.declared.codes.Code.TheVariants as code
 use Rattle.kmn_lines.specs.Bytes.{or_else}
 use Rattle.kmn_lines.specs.declared.token.TokenKind.{TokenKind}
 use Rattle.kmn_lines.specs.declared.token.TokenKind.TheVariants as kind
-use Rattle.virtual_keys.specs.Dictionary.{same_name}
-use Rattle.virtual_keys.specs.Keys.{number_named}
+use Rattle.kmn_base.specs.Names.{same_name}
+use Rattle.kmn_base.specs.Names.{named_in}
 use Rattle.rule_model.specs.declared.program.SrcItem.{SrcItem}
 use Rattle.rule_model.specs.declared.program.StoreDef.{StoreDef}
 use Rattle.rule_model.specs.declared.program.RuleDef.{RuleDef}
@@ -72,7 +72,7 @@ system_stores =
 
 -- the id of a store by its name: 0 for one without &, None for a system store that there isn't
 abbrev pub store_system : List ℕ → Option ℕ
-store_system name = if is_system_name name then number_named system_stores (bare_name name) else Some 0
+store_system name = if is_system_name name then named_in system_stores (bare_name name) else Some 0
 
 -- store: a known name and ); that the line breaks off at the name goes before that it isn't known
 abbrev pub store_form : ℕ → List LineToken → Option Fault

@@ -1,7 +1,8 @@
 -- The words of the language: those that begin an item, names, and the words in a virtual key.
 use Rattle.std.specs.Prelude.{ℕ, Bool, false, ◌&&◌, ◌||◌, nat_le, nat_lt, nat_eq, if◌then◌else◌, List, [], ◌∷◌, length, take, drop, codes, count_by, find, Option, Some, is_some, option_map}
 use Rattle.std.specs.Str.{byte}
-use Rattle.virtual_keys.specs.Dictionary.{same_name, name_chars}
+use Rattle.kmn_base.specs.Names.{same_name}
+use Rattle.virtual_keys.specs.Dictionary.{name_chars}
 use Rattle.virtual_keys.specs.Keys.{key_code, shift_flag}
 use Rattle.kmn_parser.specs.declared.syntax.ItemWord.{ItemWord}
 use Rattle.kmn_parser.specs.declared.syntax.ItemWord.TheVariants as word

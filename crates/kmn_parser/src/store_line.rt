@@ -1,7 +1,7 @@
 //! Store statements.
 
 ghost use Rattle.std.specs.Prelude.{◌≡◌, ◌+◌, ◌<◌, ◌^◌, length, map, is_some, IfOk};
-ghost use Rattle.virtual_keys.specs.Keys.{number_named};
+ghost use Rattle.kmn_base.specs.Names.{named_in};
 ghost use Rattle.kmn_parser.specs.Told.{told, Reads};
 ghost use Rattle.kmn_parser.specs.Line.{system_stores, store_system, store_form, store_fault, store_def, read_store};
 
@@ -49,7 +49,7 @@ static SYSTEM_STORES: [(&str, u32); 27] = [
 
 /// The id that a table has for a name.
 fn id_named(table: &[(&str, u32)], name: &[u8]) -> Option<u32>
-    ensures { result ≡ number_named (map (λ row. (row.0.now, row.1)) table.now) name.now }
+    ensures { result ≡ named_in (map (λ row. (row.0.now, row.1)) table.now) name.now }
 {
     for row in table {
         if same_word(row.0.as_bytes(), name) {
@@ -62,7 +62,7 @@ fn id_named(table: &[(&str, u32)], name: &[u8]) -> Option<u32>
 /// The id of a system store by its name without `&`.
 #[tactic(auto, unfolding(crate::specs::Line::system_stores))]
 fn system_id(name: &[u8]) -> Option<u32>
-    ensures { result ≡ number_named system_stores name.now }
+    ensures { result ≡ named_in system_stores name.now }
 {
     id_named(&SYSTEM_STORES, name)
 }

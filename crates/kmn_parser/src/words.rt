@@ -1,5 +1,5 @@
 ghost use Rattle.std.specs.Prelude.{◌≡◌, map};
-ghost use Rattle.virtual_keys.specs.Dictionary.{same_name};
+ghost use Rattle.kmn_base.specs.Names.{same_name};
 ghost use Rattle.kmn_parser.specs.Words.{word_in, item_words, item_word, begins_with, character_count, is_system_name, bare_name, is_name, is_touch_name, is_own_key, is_key_name, is_modifier};
 
 use crate::syntax::ItemWord;
@@ -33,7 +33,7 @@ static ITEM_WORDS: [(&str, ItemWord); 22] = [
 ];
 
 /// Whether a text is a word, in any ASCII case.
-#[tactic(auto, unfolding(virtual_keys::specs::Dictionary::same_name))]
+#[tactic(auto, unfolding(kmn_base::specs::Names::same_name))]
 pub fn same_word(known: &[u8], text: &[u8]) -> bool
     ensures { result ≡ same_name known.now text.now }
 {

@@ -5,7 +5,8 @@ use Rattle.std.specs.List.Sorted.{IsSortedBy}
 use Rattle.std.specs.Str.{chars}
 use Rattle.kmn_base.specs.declared.items.Element.TheVariants as element
 use Rattle.kmn_base.specs.declared.keys.RuleKey.TheVariants as key
-use Rattle.virtual_keys.specs.Dictionary.{same_name, code_in}
+use Rattle.kmn_base.specs.Names.{same_name}
+use Rattle.virtual_keys.specs.Dictionary.{code_in}
 use Rattle.rule_model.specs.declared.program.SrcItem.{SrcItem}
 use Rattle.rule_model.specs.declared.program.SrcItem.TheVariants as source
 use Rattle.rule_model.specs.declared.program.RuleKind.TheVariants.{Plain}

@@ -3,7 +3,7 @@ use Rattle.std.specs.Prelude.{◌≡◌, ℕ, ◌^◌, ◌<◌, Bool, true, fals
 use lib.Utf8.{scalar}
 use Rattle.std.specs.List.{All, list_all}
 use Rattle.kmn_base.specs.declared.limits.TheConstants.{CONTEXT_ITEMS, OUTPUT_ITEMS, RECORDS}
-use Rattle.virtual_keys.specs.Dictionary.{same_name}
+use Rattle.kmn_base.specs.Names.{same_name}
 use Rattle.rule_model.specs.declared.program.SrcItem.{SrcItem}
 use Rattle.rule_model.specs.declared.program.SrcItem.TheVariants as source
 use Rattle.rule_model.specs.declared.program.StoreDef.{StoreDef}

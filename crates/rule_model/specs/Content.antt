@@ -1,7 +1,7 @@
 -- What a store has at a moment: the current value of an option, else its elements. Values stand by option number.
 use Rattle.std.specs.Prelude.{ℕ, zero, suc, ◌+◌, if◌then◌else◌, List, [], ◌∷◌, Option, Some, None, slice_get, unwrap_or, position, option_and_then}
 use Rattle.kmn_base.specs.declared.items.Element.{Element}
-use Rattle.virtual_keys.specs.Dictionary.{same_name}
+use Rattle.kmn_base.specs.Names.{same_name}
 use Rattle.rule_model.specs.Keyboard.{Ref, Named, Numbered, StoreMeaning, GroupMeaning}
 
 -- how many of the first n stores are options

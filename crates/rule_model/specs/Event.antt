@@ -10,7 +10,7 @@ use Rattle.kmn_base.specs.declared.events.Outcome.{Outcome}
 use Rattle.kmn_base.specs.declared.codes.Code.{Code}
 use Rattle.kmn_base.specs.declared.codes.Code.TheVariants.{E1, E2}
 use Rattle.kmn_base.specs.Lists.{characters, without_last, read_again}
-use Rattle.virtual_keys.specs.Dictionary.{same_name}
+use Rattle.kmn_base.specs.Names.{same_name}
 use Rattle.rule_model.specs.declared.acting.Acting.{Acting}
 use Rattle.rule_model.specs.Keyboard.{Keyboard}
 use Rattle.rule_model.specs.Enter.{is_plain_press}

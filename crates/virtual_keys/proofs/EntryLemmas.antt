@@ -11,7 +11,8 @@ use Rattle.std.specs.Map.{keys_of, values_of}
 use Rattle.std.specs.Map.Iter.{TakesFirst, deref}
 use Rattle.std.specs.Str.{str_to_ascii_lowercase, bytes_eq}
 use Rattle.indexmap.specs.IndexMap.{insert_entry}
-use Rattle.virtual_keys.specs.Dictionary.{same_name, place_in, AreDistinct}
+use Rattle.kmn_base.specs.Names.{same_name}
+use Rattle.virtual_keys.specs.Dictionary.{place_in, AreDistinct}
 use Rattle.virtual_keys.specs.Entries.{written, AreEntries}
 use Rattle.virtual_keys.proofs.PositionLemmas.{position-map, position-same, none_passes, position-push}
 

@@ -2,12 +2,9 @@
 use Rattle.std.specs.Prelude.{◌≡◌, ℕ, false, ◌+◌, ◌-◌, ◌*◌, Bool, ◌&&◌, not, nat_eq, nat_lt, nat_le, if◌then◌else◌, List, [], ◌∷◌, ◌++◌, length, take, drop, codes, fold, map, position, Option, Some, None, is_some, option_map, slice_get}
 use Rattle.std.specs.List.{AllPairs, list_all, slice_split}
 use Rattle.std.specs.Char.{digit_value, is_digit}
-use Rattle.std.specs.Str.{str_eq_ignore_ascii_case, byte}
+use Rattle.std.specs.Str.{byte}
 use lib.Utf8.{scalar}
-
--- the same name, without ASCII case
-unfoldable pub same_name : List ℕ → List ℕ → Bool
-same_name = str_eq_ignore_ascii_case
+use Rattle.kmn_base.specs.Names.{same_name}
 
 -- whether a byte is a hexadecimal digit
 abbrev pub is_hex_digit : ℕ → Bool

@@ -60,11 +60,13 @@ character_in table code shifted = option_map (λ row. if shifted then row.2 else
 abbrev pub us_character : ℕ → Bool → Bool → Option ℕ
 us_character code shifted locked = if is_letter code then Some (letter code (not (beq shifted locked))) else character_in us_characters code shifted
 
+-- whether neither control nor alt is held
+abbrev pub is_plain : KeyPress → Bool
+is_plain press = not (has_either press.mods left_control right_control || has_either press.mods left_alt right_alt)
+
 -- the character of a press: that of its key on the US layout, and none with control or alt held
 unfoldable pub char_of_press : KeyPress → Option ℕ
-char_of_press press =
-    if has_either press.mods left_control right_control || has_either press.mods left_alt right_alt then None
-    else us_character press.code (has press.mods shift) (has press.mods caps)
+char_of_press press = if is_plain press then us_character press.code (has press.mods shift) (has press.mods caps) else None
 
 -- control or alt: named without a side, one of its sides is held; else exactly the named sides are held
 abbrev pub sides_fit : ℕ → ℕ → ℕ → ℕ → ℕ → Bool

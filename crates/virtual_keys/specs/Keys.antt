@@ -1,7 +1,7 @@
 -- The keys and the shift flags by name, and the characters that keys give on the US layout.
 use Rattle.std.specs.Prelude.{ℕ, List, [], ◌∷◌, Option, option_map, find, codes, nat_eq}
 use Rattle.std.specs.Str.{byte}
-use Rattle.virtual_keys.specs.Dictionary.{same_name}
+use Rattle.kmn_base.specs.Names.{named_in}
 
 -- each key by its name, with its code
 unfoldable pub key_codes : List (List ℕ × ℕ)
@@ -46,17 +46,13 @@ us_characters =
     (106, byte "*", byte "*") ∷ (107, byte "+", byte "+") ∷ (109, byte "-", byte "-") ∷ (110, byte ".", byte ".") ∷
     (111, byte "/", byte "/") ∷ []
 
--- the number that a table has for a name, in any ASCII case
-abbrev pub number_named : List (List ℕ × ℕ) → List ℕ → Option ℕ
-number_named table name = option_map (λ row. row.1) (find (λ row. same_name row.0 name) table)
-
 -- the name that a table has for a number
 abbrev pub name_numbered : List (List ℕ × ℕ) → ℕ → Option (List ℕ)
 name_numbered table number = option_map (λ row. row.0) (find (λ row. nat_eq row.1 number) table)
 
 -- the code of the key of a name
 abbrev pub key_code : List ℕ → Option ℕ
-key_code name = number_named key_codes name
+key_code name = named_in key_codes name
 
 -- the name of the key of a code
 abbrev pub key_name : ℕ → Option (List ℕ)
@@ -64,4 +60,4 @@ key_name code = name_numbered key_codes code
 
 -- the shift flag of a word
 abbrev pub shift_flag : List ℕ → Option ℕ
-shift_flag word = number_named shift_flags word
+shift_flag word = named_in shift_flags word

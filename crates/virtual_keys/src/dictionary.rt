@@ -3,9 +3,9 @@ ghost use Rattle.std.specs.Str.{str_to_ascii_lowercase};
 ghost use Rattle.virtual_keys.specs.Dictionary.{AreDistinct, place_in, code_in, name_in, with_name};
 ghost use Rattle.virtual_keys.specs.Entries.{written, AreEntries};
 
-use crate::names::same_name;
 use indexmap::IndexMap;
 use kmn_base::Memory;
+use kmn_base::names::same_name;
 use std::alloc::Global;
 use std::marker::Model;
 

@@ -7,6 +7,7 @@
 //! its names; `specs/Dictionary` has the words for names.
 #![tactic(auto)]
 
+pub mod codes;
 mod dictionary;
 mod names;
 mod presses;
@@ -17,5 +18,5 @@ mod unicode_names;
 
 pub use dictionary::KeyDictionary;
 pub use names::{key_named, modifier_named, name_of};
-pub use presses::{char_of, fits};
+pub use presses::{char_of, fits, is_plain};
 pub use unicode_names::named_chars;

@@ -1,28 +1,8 @@
 ghost use Rattle.std.specs.Prelude.{◌≡◌, map, option_map};
-ghost use Rattle.virtual_keys.specs.Dictionary.{same_name};
-ghost use Rattle.virtual_keys.specs.Keys.{number_named, name_numbered, key_code, key_name, shift_flag};
+ghost use Rattle.virtual_keys.specs.Keys.{name_numbered, key_code, key_name, shift_flag};
 
 use crate::tables::{KEYS, SHIFT_FLAGS};
-
-/// Whether two names are the same, without ASCII case.
-#[tactic(auto, unfolding(crate::specs::Dictionary::same_name))]
-pub(crate) fn same_name(known: &[u8], name: &[u8]) -> bool
-    ensures { result ≡ same_name known.now name.now }
-{
-    known.eq_ignore_ascii_case(name)
-}
-
-/// The number that a table has for a name.
-fn number_named(table: &[(&str, u16)], name: &[u8]) -> Option<u16>
-    ensures { result ≡ number_named (map (λ row. (row.0.now, row.1)) table.now) name.now }
-{
-    for row in table {
-        if same_name(row.0.as_bytes(), name) {
-            return Some(row.1);
-        }
-    }
-    None
-}
+use kmn_base::names::named_in;
 
 /// The name that a table has for a number.
 fn name_numbered(table: &'static [(&'static str, u16)], number: u16) -> Option<&'static [u8]>
@@ -41,7 +21,7 @@ fn name_numbered(table: &'static [(&'static str, u16)], number: u16) -> Option<&
 pub fn key_named(name: &[u8]) -> Option<u16>
     ensures { result ≡ key_code name.now }
 {
-    number_named(&KEYS, name)
+    named_in(&KEYS, name)
 }
 
 /// The shift flag of a word.
@@ -49,7 +29,7 @@ pub fn key_named(name: &[u8]) -> Option<u16>
 pub fn modifier_named(word: &[u8]) -> Option<u16>
     ensures { result ≡ shift_flag word.now }
 {
-    number_named(&SHIFT_FLAGS, word)
+    named_in(&SHIFT_FLAGS, word)
 }
 
 /// The name of the key of a code.

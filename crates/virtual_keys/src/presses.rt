@@ -1,5 +1,5 @@
 ghost use Rattle.std.specs.Prelude.{◌≡◌, IsTrue};
-ghost use Rattle.virtual_keys.specs.Fits.{has, has_either, letter, is_letter, character_in, us_character, caps_fit, sides_fit, flags_fit, char_of_press, key_fits};
+ghost use Rattle.virtual_keys.specs.Fits.{has, has_either, letter, is_letter, character_in, us_character, caps_fit, sides_fit, flags_fit, is_plain, char_of_press, key_fits};
 ghost use Rattle.virtual_keys.specs.Keys.{us_characters};
 
 use crate::tables::US_CHARACTERS;
@@ -89,15 +89,23 @@ fn us_character(code: u16, shifted: bool, locked: bool) -> Option<char>
     }
 }
 
+/// Whether neither control nor alt is held. Shift and caps lock don't matter.
+pub fn is_plain(press: KeyPress) -> bool
+    ensures { result ≡ is_plain press }
+{
+    let mods = u32::from(press.mods);
+    !(has_either(mods, LEFT_CONTROL, RIGHT_CONTROL) || has_either(mods, LEFT_ALT, RIGHT_ALT))
+}
+
 /// The character that a press gives on the US layout.
 #[tactic(auto, unfolding(crate::specs::Fits::char_of_press))]
 pub fn char_of(press: KeyPress) -> Option<char>
     ensures { result ≡ char_of_press press }
 {
-    let mods = u32::from(press.mods);
-    if has_either(mods, LEFT_CONTROL, RIGHT_CONTROL) || has_either(mods, LEFT_ALT, RIGHT_ALT) {
+    if !is_plain(press) {
         return None;
     }
+    let mods = u32::from(press.mods);
     us_character(press.code, has(mods, SHIFT), has(mods, CAPS))
 }
 

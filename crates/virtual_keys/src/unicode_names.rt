@@ -3,9 +3,9 @@ ghost use Rattle.std.specs.List.{list_all, position};
 ghost use Rattle.virtual_keys.specs.Dictionary.{is_hex_digit, hex_value, is_nameable, is_group, is_parting, groups, group_chars, name_chars};
 ghost use Rattle.virtual_keys.specs.Groups.{groups_left, bytes_left};
 
-use crate::names::same_name;
 use arrayvec::ArrayVec;
 use kmn_base::limits::SOURCE_NAME_CHARS;
+use kmn_base::names::same_name;
 
 /// The number that hexadecimal digits write.
 fn hex_value(digits: &[u8]) -> Option<u32>

@@ -1,7 +1,7 @@
 ghost use Rattle.std.specs.Prelude.{◌≡◌, ◌+◌, [], ◌∷◌, IfOk, OnOk, find, filter_map, encode_utf8_all, length, option_copied, nat_eq, not, filter, position};
 ghost use Rattle.std.specs.List.{slice_split, list_any};
 ghost use Rattle.std.specs.String.{string_bytes};
-ghost use Rattle.virtual_keys.specs.Dictionary.{same_name};
+ghost use Rattle.kmn_base.specs.Names.{same_name};
 ghost use Rattle.rule_model.specs.Tab.{store_elements, is_dictionary, element_char, words, distinct_onto, tab_dictionary};
 ghost use Rattle.rule_model.specs.Plain.{words_left, bytes_left};
 
@@ -57,7 +57,7 @@ fn first_word(text: &[u8]) -> (&[u8], Option<&[u8]>)
 }
 
 /// Whether two names are the same, without ASCII case.
-#[tactic(auto, unfolding(virtual_keys::specs::Dictionary::same_name))]
+#[tactic(auto, unfolding(kmn_base::specs::Names::same_name))]
 pub fn same_name(known: &[u8], name: &[u8]) -> bool
     ensures { result ≡ same_name known.now name.now }
 {

@@ -1,7 +1,7 @@
 use Rattle.std.proofs.Common.{◌∙◌, ap, map, rules}
 use Rattle.std.proofs.lemmas.Iterator.Search.{position_from_yields_List}
 use Rattle.std.specs.List.{position}
-use Rattle.virtual_keys.specs.Dictionary.{same_name}
+use Rattle.kmn_base.specs.Names.{same_name}
 use Rattle.virtual_keys.proofs.EntryLemmas.{YieldsList-values, written-values}
 use Rattle.virtual_keys.proofs.dictionary.compared_place.Goals as goal
 

@@ -1,6 +1,6 @@
 use Rattle.std.proofs.Common.{◌≡◌, [], length}
 use Rattle.std.specs.Prelude.{filter, not, nat_eq, option_copied}
-use Rattle.virtual_keys.specs.Dictionary.{same_name}
+use Rattle.kmn_base.specs.Names.{same_name}
 use Rattle.rule_model.specs.Tab.{distinct_onto, words}
 use Rattle.rule_model.specs.Plain.{words_left, bytes_left}
 use Rattle.rule_model.proofs.plain.own_keys.distinct_words.Given as goal

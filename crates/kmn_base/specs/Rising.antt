@@ -1,0 +1,22 @@
+-- Lists of numbers that rise, and how often a number stands in a list.
+use Rattle.std.specs.Prelude.{ℕ, ◌+◌, ◌<◌, ◌==◌, if◌then◌else◌, List, [], ◌∷◌}
+
+-- each number is above another
+abbrev pub AllAbove : ℕ → List ℕ → Type 0
+AllAbove low [] = Unit {0}
+AllAbove low (n ∷ ns) = (low < n) × AllAbove low ns
+
+-- each number is below another
+abbrev pub AllBelow : ℕ → List ℕ → Type 0
+AllBelow high [] = Unit {0}
+AllBelow high (n ∷ ns) = (n < high) × AllBelow high ns
+
+-- each number is above all before it
+abbrev pub Rises : List ℕ → Type 0
+Rises [] = Unit {0}
+Rises (n ∷ ns) = AllAbove n ns × Rises ns
+
+-- how often a number stands in a list
+abbrev pub times : ℕ → List ℕ → ℕ
+times n [] = 0
+times n (m ∷ ms) = (if n == m then 1 else 0) + times n ms

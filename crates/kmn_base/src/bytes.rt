@@ -1,0 +1,40 @@
+//! The kinds of bytes that sources and scripts are made of.
+
+ghost use Rattle.std.specs.Prelude.{◌≡◌};
+ghost use Rattle.kmn_base.specs.Bytes.{is_blank, is_quote, decimal_digit, hex_digit};
+
+/// Whether a byte is a space or a tab.
+pub fn is_blank(byte: u8) -> bool
+    ensures { result ≡ is_blank byte }
+{
+    byte == b' ' || byte == b'\t'
+}
+
+/// Whether a byte is a single or a double quote.
+pub fn is_quote(byte: u8) -> bool
+    ensures { result ≡ is_quote byte }
+{
+    byte == b'"' || byte == b'\''
+}
+
+/// The value of a decimal digit.
+pub fn decimal_digit(byte: u8) -> Option<u32>
+    ensures { result ≡ decimal_digit byte }
+{
+    match byte {
+        b'0'..=b'9' => Some(u32::from(byte) - 48),
+        _ => None,
+    }
+}
+
+/// The value of a hexadecimal digit, in either case.
+pub fn hex_digit(byte: u8) -> Option<u32>
+    ensures { result ≡ hex_digit byte }
+{
+    match byte {
+        b'0'..=b'9' => Some(u32::from(byte) - 48),
+        b'A'..=b'F' => Some(u32::from(byte) - 55),
+        b'a'..=b'f' => Some(u32::from(byte) - 87),
+        _ => None,
+    }
+}

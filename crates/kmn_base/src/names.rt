@@ -1,0 +1,24 @@
+//! Names and words, which compare without ASCII case, and tables of them.
+
+ghost use Rattle.std.specs.Prelude.{◌≡◌, map};
+ghost use Rattle.kmn_base.specs.Names.{same_name, named_in};
+
+/// Whether two names are the same, without ASCII case. Other letters are compared as they stand.
+#[tactic(auto, unfolding(crate::specs::Names::same_name))]
+pub fn same_name(known: &[u8], name: &[u8]) -> bool
+    ensures { result ≡ same_name known.now name.now }
+{
+    known.eq_ignore_ascii_case(name)
+}
+
+/// What a table has for a name: the value of its first row with that name.
+pub fn named_in<T: Copy>(table: &[(&str, T)], name: &[u8]) -> Option<T>
+    ensures { result ≡ named_in (map (λ row. (row.0.now, row.1)) table.now) name.now }
+{
+    for row in table {
+        if same_name(row.0.as_bytes(), name) {
+            return Some(row.1);
+        }
+    }
+    None
+}
