@@ -3,6 +3,7 @@ use Rattle.std.specs.Prelude.{◌≡◌, ℕ, ◌-◌, Bool, true, false, ◌&&�
 use Rattle.std.specs.List.{ends_with}
 use Rattle.kmn_base.specs.declared.items.Item.{Item}
 use Rattle.kmn_base.specs.declared.items.Item.TheVariants.{Char, Mark}
+use Rattle.kmn_base.specs.declared.limits.TheConstants.{WINDOW_ITEMS}
 
 -- the characters of a list of items, without its marks
 abbrev pub characters : List Item → List ℕ
@@ -19,21 +20,21 @@ is_mark (Mark m) = true
 abbrev pub without_last : {X : Type 0} → ℕ → List X → List X
 without_last n xs = take (length xs - n) xs
 
--- the last 64 items, or all where there are fewer
+-- the last items, as many as the engine caches, or all where there are fewer
 abbrev pub window : List Item → List Item
-window items = drop (length items - 64) items
+window items = drop (length items - WINDOW_ITEMS) items
 
--- each mark stands among the last 64 items
+-- each mark stands among these last items
 abbrev pub IsSound : List Item → Type 0
-IsSound items = All (λ item. is_mark item ≡ false) (without_last 64 items)
+IsSound items = All (λ item. is_mark item ≡ false) (without_last WINDOW_ITEMS items)
 
 -- an item is put at the end, and each mark that is then before the window is forgotten
 abbrev pub put : List Item → Item → List Item
-put items item = map Char (characters (without_last 64 (items ++ item ∷ []))) ++ window (items ++ item ∷ [])
+put items item = map Char (characters (without_last WINDOW_ITEMS (items ++ item ∷ []))) ++ window (items ++ item ∷ [])
 
 -- the last items of the old text still stand at the end of the new one, and it is known what stands before them
 abbrev pub still_stands : List Item → List ℕ → Bool
-still_stands kept text = ends_with nat_eq text (characters kept) && (nat_eq (length kept) 64 || nat_eq (length text) (length (characters kept)))
+still_stands kept text = ends_with nat_eq text (characters kept) && (nat_eq (length kept) WINDOW_ITEMS || nat_eq (length text) (length (characters kept)))
 
 -- the text read again: the marks of the window keep their places where its characters still stand, else none is left
 abbrev pub read_again : List Item → List ℕ → List Item
