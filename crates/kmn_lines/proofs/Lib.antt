@@ -1,4 +1,4 @@
-pub mod Readings
+pub mod LineStates
 pub mod Placed
 pub mod Sizes
 pub mod Covering

@@ -3,11 +3,11 @@ use Rattle.std.proofs.Common.{◌≡◌, ℕ, zero, suc, ◌+◌, ◌<◌, Bool,
 use Rattle.std.specs.Prelude.{All}
 use Rattle.std.specs.List.{starts_with}
 use Rattle.std.proofs.lemmas.List.Elements.{All-cons, All-nil, All-head, All-tail}
-use Rattle.kmn_lines.specs.declared.reading.Reading.{Reading}
-use Rattle.kmn_lines.specs.declared.reading.Piece.{Piece}
+use Rattle.kmn_lines.specs.declared.line_state.LineState.{LineState}
+use Rattle.kmn_lines.specs.declared.line_state.PhysicalLine.{PhysicalLine}
 use Rattle.kmn_lines.specs.declared.logical.Logical.{Logical}
 use Rattle.kmn_lines.specs.Bytes.{first_or_end}
-use Rattle.kmn_lines.specs.Lines.{ends_line, line_start, after_byte, piece, pieces, pieces_at, extended, gather, mark_size, logicals}
+use Rattle.kmn_lines.specs.Lines.{ends_line, line_start, after_byte, physical_line, physical_lines, physical_lines_at, extended, gather, mark_size, logicals}
 use Rattle.kmn_lines.specs.Laws.{is_line_end, line_ends, LinesAreNumbered}
 use Rattle.kmn_lines.proofs.Whole.{mark-is}
 
@@ -37,27 +37,27 @@ ends-not : (byte : ℕ) (bytes : List ℕ) → 0 < length bytes → ends_line by
 ends-not byte [] l e = absurd (omega arith)
 ends-not byte (next ∷ bytes) l e = e
 
-abbrev IsNumbered : List ℕ → Piece → Type 0
+abbrev IsNumbered : List ℕ → PhysicalLine → Type 0
 IsNumbered text p = p.line ≡ 1 + line_ends p.from text
 
-numbered-if : (text : List ℕ) (b : Bool) (ps qs : List Piece) → (b ≡ true → All (IsNumbered text) ps) → (b ≡ false → All (IsNumbered text) qs) → All (IsNumbered text) (if b then ps else qs)
+numbered-if : (text : List ℕ) (b : Bool) (ps qs : List PhysicalLine) → (b ≡ true → All (IsNumbered text) ps) → (b ≡ false → All (IsNumbered text) qs) → All (IsNumbered text) (if b then ps else qs)
 numbered-if text true ps qs g h = g refl
 numbered-if text false ps qs g h = h refl
 
-pieces-numbered : (text : List ℕ) (line from : ℕ) (r : Reading) (at : ℕ) (bytes : List ℕ) → drop at text ≡ bytes → line ≡ 1 + line_ends from text → (0 < length bytes → line_ends at text ≡ line_ends from text) → All (IsNumbered text) (pieces line from r at bytes)
-pieces-numbered text line from r at [] e f g =
-    numbered-if text (from == at) [] _ (λ same. All-nil (IsNumbered text)) (λ other. All-cons (IsNumbered text) (piece line from at at r) [] f (All-nil (IsNumbered text)))
-pieces-numbered text line from r at (byte ∷ bytes) e f g =
+physical_lines-numbered : (text : List ℕ) (line from : ℕ) (r : LineState) (at : ℕ) (bytes : List ℕ) → drop at text ≡ bytes → line ≡ 1 + line_ends from text → (0 < length bytes → line_ends at text ≡ line_ends from text) → All (IsNumbered text) (physical_lines line from r at bytes)
+physical_lines-numbered text line from r at [] e f g =
+    numbered-if text (from == at) [] _ (λ same. All-nil (IsNumbered text)) (λ other. All-cons (IsNumbered text) (physical_line line from at at r) [] f (All-nil (IsNumbered text)))
+physical_lines-numbered text line from r at (byte ∷ bytes) e f g =
     let next : drop (at + 1) text ≡ bytes = ap (λ (k : ℕ). drop k text) (add-one at) ∙ drop-next at text byte bytes e in
     let count : line_ends (at + 1) text ≡ line_ends at text + one_if (is_line_end byte bytes) = ap (λ (k : ℕ). line_ends k text) (add-one at) ∙ line_ends-next at text byte bytes e in
     let same : line_ends at text ≡ line_ends from text = g (omega arith) in
     numbered-if text (ends_line byte (first_or_end bytes)) _ _
     (λ ends.
     let one : one_if (is_line_end byte bytes) ≡ 1 = ap one_if (ends-is byte bytes ends) in
-    All-cons (IsNumbered text) (piece line from at (at + 1) r) _ f
-    (pieces-numbered text (line + 1) (at + 1) line_start (at + 1) bytes next (omega arith) (λ l. refl)))
+    All-cons (IsNumbered text) (physical_line line from at (at + 1) r) _ f
+    (physical_lines-numbered text (line + 1) (at + 1) line_start (at + 1) bytes next (omega arith) (λ l. refl)))
     (λ goes.
-    pieces-numbered text line from (after_byte r at byte (first_or_end bytes)) (at + 1) bytes next f
+    physical_lines-numbered text line from (after_byte r at byte (first_or_end bytes)) (at + 1) bytes next f
     (λ l. let none : one_if (is_line_end byte bytes) ≡ 0 = ap one_if (ends-not byte bytes l goes) in omega arith))
 
 abbrev HasNumber : List ℕ → Logical → Type 0
@@ -71,7 +71,7 @@ lines-if : (text : List ℕ) (b : Bool) (ls ms : List Logical) → All (HasNumbe
 lines-if text true ls ms g h = g
 lines-if text false ls ms g h = h
 
-gather-numbered : (text : List ℕ) (begun : Option Logical) (ps : List Piece) → HasBegun text begun → All (IsNumbered text) ps → All (HasNumber text) (gather begun ps)
+gather-numbered : (text : List ℕ) (begun : Option Logical) (ps : List PhysicalLine) → HasBegun text begun → All (IsNumbered text) ps → All (HasNumber text) (gather begun ps)
 gather-numbered text None [] b h = All-nil (HasNumber text)
 gather-numbered text (Some l) [] b h = All-cons (HasNumber text) l [] b (All-nil (HasNumber text))
 gather-numbered text None (p ∷ ps) b h =
@@ -103,5 +103,5 @@ unfolding logicals
 lines_are_numbered source =
     let none : line_ends (mark_size source) source ≡ 0 =
     none-before (starts_with (λ a b. a == b) source (0xEF ∷ 0xBB ∷ 0xBF ∷ [])) source (λ h. mark-lines source (mark-is source h)) in
-    gather-numbered source None (pieces_at 1 (mark_size source) source) tt
-    (pieces-numbered source 1 (mark_size source) line_start (mark_size source) (drop (mark_size source) source) refl (omega arith) (λ l. refl))
+    gather-numbered source None (physical_lines_at 1 (mark_size source) source) tt
+    (physical_lines-numbered source 1 (mark_size source) line_start (mark_size source) (drop (mark_size source) source) refl (omega arith) (λ l. refl))

@@ -3,24 +3,24 @@ use Rattle.std.proofs.Common.{◌≡◌, ℕ, ◌+◌, ◌≤◌, Bool, true, fa
 use Rattle.std.specs.Prelude.{All, IfSome, unwrap_or}
 use Rattle.std.proofs.lemmas.Bool.{eqb-true}
 use Rattle.std.proofs.lemmas.List.Elements.{All-cons, All-nil}
-use Rattle.kmn_lines.specs.declared.reading.Reading.{Reading}
-use Rattle.kmn_lines.specs.declared.reading.Piece.{Piece}
+use Rattle.kmn_lines.specs.declared.line_state.LineState.{LineState}
+use Rattle.kmn_lines.specs.declared.line_state.PhysicalLine.{PhysicalLine}
 use Rattle.kmn_lines.specs.declared.logical.Logical.{Logical}
 use Rattle.kmn_lines.specs.Bytes.{first_or_end}
-use Rattle.kmn_lines.specs.Lines.{ends_line, line_start, after_byte, pieces, pieces_at, extended, gather}
+use Rattle.kmn_lines.specs.Lines.{ends_line, line_start, after_byte, physical_lines, physical_lines_at, extended, gather}
 use Rattle.kmn_lines.specs.Places.{IsBetween, IsPlaced}
-use Rattle.kmn_lines.proofs.Readings.{between_after_byte}
+use Rattle.kmn_lines.proofs.LineStates.{between_after_byte}
 
 -- physical lines stand one behind the other from a place up to a size, and each one's number fits its place
-abbrev pub InRow : ℕ → ℕ → List Piece → Type 0
+abbrev pub InRow : ℕ → ℕ → List PhysicalLine → Type 0
 InRow at size [] = at ≡ size
 InRow at size (p ∷ ps) = (p.from ≡ at) × (at ≤ p.to) × (p.to ≤ p.next) × (p.next ≤ size) × (p.line ≤ at + 1) × InRow p.next size ps
 
-pub in_row-le : (at size : ℕ) (ps : List Piece) → InRow at size ps → at ≤ size
+pub in_row-le : (at size : ℕ) (ps : List PhysicalLine) → InRow at size ps → at ≤ size
 in_row-le at size [] row = omega arith
 in_row-le at size (p ∷ ps) (e, f, g, h, i, row) = omega arith
 
-in_row-if : (at size : ℕ) (b : Bool) (ps qs : List Piece) → (b ≡ true → InRow at size ps) → InRow at size qs → InRow at size (if b then ps else qs)
+in_row-if : (at size : ℕ) (b : Bool) (ps qs : List PhysicalLine) → (b ≡ true → InRow at size ps) → InRow at size qs → InRow at size (if b then ps else qs)
 in_row-if at size true ps qs g h = g refl
 in_row-if at size false ps qs g h = h
 
@@ -28,11 +28,11 @@ known-between : (from at : ℕ) (o : Option ℕ) (n : ℕ) → IfSome o (λ k. (
 known-between from at None n h k = k
 known-between from at (Some m) n h k = h
 
-pub pieces-in_row : (line from : ℕ) (r : Reading) (at size : ℕ) (bytes : List ℕ) → from ≤ at → line ≤ from + 1 → at + length bytes ≡ size → IsBetween from at r → InRow from size (pieces line from r at bytes)
-pieces-in_row line from r at size [] h g e between =
+pub physical_lines-in_row : (line from : ℕ) (r : LineState) (at size : ℕ) (bytes : List ℕ) → from ≤ at → line ≤ from + 1 → at + length bytes ≡ size → IsBetween from at r → InRow from size (physical_lines line from r at bytes)
+physical_lines-in_row line from r at size [] h g e between =
     let to = known-between from at r.slash _ between.slash (known-between from at r.stop at between.stop (h, omega arith)) in
     in_row-if from size (from == at) [] _ (λ same. let s : from ≡ at = eqb-true from at same in omega arith) (refl, to.0, to.1, omega arith, g, omega arith)
-pieces-in_row line from r at size (byte ∷ bytes) h g e between =
+physical_lines-in_row line from r at size (byte ∷ bytes) h g e between =
     let to = known-between from at r.slash _ between.slash (known-between from at r.stop at between.stop (h, omega arith)) in
     in_row-if from size (ends_line byte (first_or_end bytes)) _ _
     (λ ends. (
@@ -41,22 +41,22 @@ pieces-in_row line from r at size (byte ∷ bytes) h g e between =
       omega arith,
       omega arith,
       g,
-      pieces-in_row (line + 1) (at + 1) line_start (at + 1) size bytes (omega arith) (omega arith) (omega arith) (record { slash = tt; stop = tt }),
+      physical_lines-in_row (line + 1) (at + 1) line_start (at + 1) size bytes (omega arith) (omega arith) (omega arith) (record { slash = tt; stop = tt }),
     ))
-    (pieces-in_row line from (after_byte r at byte (first_or_end bytes)) (at + 1) size bytes (omega arith) g (omega arith)
+    (physical_lines-in_row line from (after_byte r at byte (first_or_end bytes)) (at + 1) size bytes (omega arith) g (omega arith)
     (between_after_byte from at r byte (first_or_end bytes) h between))
 
 -- the physical lines from a place in a text on stand in a row up to its end
-pub pieces_at-in_row : (line at : ℕ) (text : List ℕ) → at ≤ length text → line ≤ at + 1 → InRow at (length text) (pieces_at line at text)
-pieces_at-in_row line at text h g =
-    pieces-in_row line at line_start at (length text) (drop at text) (omega arith) g (omega (arith, length-drop at text)) (record { slash = tt; stop = tt })
+pub physical_lines_at-in_row : (line at : ℕ) (text : List ℕ) → at ≤ length text → line ≤ at + 1 → InRow at (length text) (physical_lines_at line at text)
+physical_lines_at-in_row line at text h g =
+    physical_lines-in_row line at line_start at (length text) (drop at text) (omega arith) g (omega (arith, length-drop at text)) (record { slash = tt; stop = tt })
 
 -- the logical line that was begun lies before a place
 abbrev pub IsBegun : List ℕ → ℕ → Option Logical → Type 0
 IsBegun source at None = Unit {0}
 IsBegun source at (Some l) = IsPlaced source l × (l.to ≡ at)
 
-extended-placed : (source : List ℕ) (begun : Option Logical) (at : ℕ) (p : Piece) → IsBegun source at begun → p.from ≡ at → at ≤ p.next → p.next ≤ length source → p.line ≤ at + 1 → IsPlaced source (extended begun p)
+extended-placed : (source : List ℕ) (begun : Option Logical) (at : ℕ) (p : PhysicalLine) → IsBegun source at begun → p.from ≡ at → at ≤ p.next → p.next ≤ length source → p.line ≤ at + 1 → IsPlaced source (extended begun p)
 extended-placed source None at p b e f g h = record { forward = omega arith; within = g; counted = omega arith }
 extended-placed source (Some l) at p (b, c) e f g h = record { forward = omega (arith, b.forward); within = g; counted = b.counted }
 
@@ -64,7 +64,7 @@ placed-if : (source : List ℕ) (b : Bool) (ls ms : List Logical) → All (IsPla
 placed-if source true ls ms g h = g
 placed-if source false ls ms g h = h
 
-pub gather-placed : (source : List ℕ) (begun : Option Logical) (at : ℕ) (ps : List Piece) → IsBegun source at begun → InRow at (length source) ps → All (IsPlaced source) (gather begun ps)
+pub gather-placed : (source : List ℕ) (begun : Option Logical) (at : ℕ) (ps : List PhysicalLine) → IsBegun source at begun → InRow at (length source) ps → All (IsPlaced source) (gather begun ps)
 gather-placed source None at [] b row = All-nil (IsPlaced source)
 gather-placed source (Some l) at [] b row = All-cons (IsPlaced source) l [] b.0 (All-nil (IsPlaced source))
 gather-placed source None at (p ∷ ps) b (e, f, g, h, i, row) =
@@ -78,5 +78,5 @@ gather-placed source (Some l) at (p ∷ ps) b (e, f, g, h, i, row) =
     (gather-placed source (Some (extended (Some l) p)) p.next ps (here, refl) row)
     (All-cons (IsPlaced source) _ _ here (gather-placed source None p.next ps tt row))
 
-pub lines_placed : (source : List ℕ) (line at : ℕ) → at ≤ length source → line ≤ at + 1 → All (IsPlaced source) (gather None (pieces_at line at source))
-lines_placed source line at h g = gather-placed source None at (pieces_at line at source) tt (pieces_at-in_row line at source h g)
+pub lines_placed : (source : List ℕ) (line at : ℕ) → at ≤ length source → line ≤ at + 1 → All (IsPlaced source) (gather None (physical_lines_at line at source))
+lines_placed source line at h g = gather-placed source None at (physical_lines_at line at source) tt (physical_lines_at-in_row line at source h g)

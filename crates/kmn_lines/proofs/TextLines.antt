@@ -9,17 +9,17 @@ use Rattle.std.proofs.lemmas.List.{length-take, take-take, drop-drop, get_or-dro
 use Rattle.std.proofs.lemmas.List.Elements.{All-cons, All-nil, All-head, All-tail}
 use Rattle.std.proofs.lemmas.Slice.Eq.{bytes_eq-Decides}
 use Rattle.std.proofs.lemmas.Str.{IsUtf8-take, IsUtf8-drop, IsCharBoundary-start, IsCharBoundary-before_ascii, IsCharBoundary-after_ascii, IsCharBoundary-from_take}
-use Rattle.kmn_lines.specs.declared.reading.Reading.{Reading}
-use Rattle.kmn_lines.specs.declared.reading.Piece.{Piece}
+use Rattle.kmn_lines.specs.declared.line_state.LineState.{LineState}
+use Rattle.kmn_lines.specs.declared.line_state.PhysicalLine.{PhysicalLine}
 use Rattle.kmn_lines.specs.declared.logical.Logical.{Logical}
 use Rattle.kmn_lines.specs.declared.logical.Part.{Part}
 use Rattle.kmn_lines.specs.Bytes.{is_blank, first_or_end}
-use Rattle.kmn_lines.specs.Lines.{ends_line, starts_comment, line_start, outside, in_line, after_byte, piece, pieces, pieces_at, extended, gather, mark_size, logicals, blanks, begins_with, same_word, is_skipped, dropped, piece_text, part_behind, opening_parts, parts_in}
+use Rattle.kmn_lines.specs.Lines.{ends_line, starts_comment, line_start, outside, in_line, after_byte, physical_line, physical_lines, physical_lines_at, extended, gather, mark_size, logicals, blanks, begins_with, same_word, is_skipped, dropped, physical_text, part_behind, opening_parts, parts_in}
 use Rattle.kmn_lines.specs.Tokens.{line_tokens}
 use Rattle.kmn_lines.specs.Places.{IsPlaced}
 use Rattle.kmn_lines.specs.Laws.{bytes_between, TokensAreText}
 use Rattle.kmn_lines.specs.declared.token.Token.{Token}
-use Rattle.kmn_lines.proofs.Placed.{InRow, pieces_at-in_row, lines_placed}
+use Rattle.kmn_lines.proofs.Placed.{InRow, physical_lines_at-in_row, lines_placed}
 use Rattle.kmn_lines.proofs.Whole.{begins-long, mark-is, mark-within}
 use Rattle.kmn_lines.proofs.Numbered.{drop-next}
 use Rattle.kmn_lines.proofs.Sizes.{and-true, or-both, and-first}
@@ -31,19 +31,19 @@ byte-at zero text byte bytes e = subst (λ (xs : List ℕ). (get_or xs 0 0 ≡ b
 byte-at (suc n) [] byte bytes e = absurd cc
 byte-at (suc n) (x ∷ xs) byte bytes e = let here = byte-at n xs byte bytes e in (here.0, omega arith)
 
--- the places that a reading knows stand between characters
-record KnowsBoundaries (text : List ℕ) (r : Reading) : Type 0 where
+-- the places that a state knows stand between characters
+record KnowsBoundaries (text : List ℕ) (r : LineState) : Type 0 where
   slash : IfSome r.slash (λ k. IsCharBoundary text k)
   stop : IfSome r.stop (λ k. IsCharBoundary text k)
 
-knows-if : (text : List ℕ) (b : Bool) (r s : Reading) → (b ≡ true → KnowsBoundaries text r) → (b ≡ false → KnowsBoundaries text s) → KnowsBoundaries text (if b then r else s)
+knows-if : (text : List ℕ) (b : Bool) (r s : LineState) → (b ≡ true → KnowsBoundaries text r) → (b ≡ false → KnowsBoundaries text s) → KnowsBoundaries text (if b then r else s)
 knows-if text true r s g h = g refl
 knows-if text false r s g h = h refl
 
 or-small : (a b byte : ℕ) → a < 128 → b < 128 → ((byte == a) || (byte == b)) ≡ true → byte < 128
 or-small a b byte g h e = elim (cases_lt byte 128) [ inl l ↦ l | inr k ↦ clash ((byte == a) || (byte == b)) e (or-both (byte == a) (byte == b) (ne_eqb byte a (omega arith)) (ne_eqb byte b (omega arith))) ]
 
-knows-outside : (text : List ℕ) (r : Reading) (at byte next : ℕ) → (byte < 128 → IsCharBoundary text at) → KnowsBoundaries text r → KnowsBoundaries text (outside r at byte next)
+knows-outside : (text : List ℕ) (r : LineState) (at byte next : ℕ) → (byte < 128 → IsCharBoundary text at) → KnowsBoundaries text r → KnowsBoundaries text (outside r at byte next)
 knows-outside text r at byte next place h =
     knows-if text (is_blank byte) _ _ (λ e. record { slash = h.slash; stop = h.stop })
     (λ e. knows-if text (starts_comment r.after_blank byte next) _ _
@@ -52,11 +52,11 @@ knows-outside text r at byte next place h =
     (λ b. let small : byte ≡ 92 = eqb-true byte 92 b in record { slash = place (omega arith); stop = h.stop })
     (λ e. record { slash = tt; stop = h.stop })))
 
-knows-in_line : (text : List ℕ) (quote : Option ℕ) (r : Reading) (at byte next : ℕ) → (byte < 128 → IsCharBoundary text at) → KnowsBoundaries text r → KnowsBoundaries text (in_line quote r at byte next)
+knows-in_line : (text : List ℕ) (quote : Option ℕ) (r : LineState) (at byte next : ℕ) → (byte < 128 → IsCharBoundary text at) → KnowsBoundaries text r → KnowsBoundaries text (in_line quote r at byte next)
 knows-in_line text None r at byte next place h = knows-outside text r at byte next place h
 knows-in_line text (Some quote) r at byte next place h = knows-if text (byte == quote) _ _ (λ e. record { slash = h.slash; stop = h.stop }) (λ e. h)
 
-knows-after_byte : (text : List ℕ) (r : Reading) (at byte next : ℕ) → (byte < 128 → IsCharBoundary text at) → KnowsBoundaries text r → KnowsBoundaries text (after_byte r at byte next)
+knows-after_byte : (text : List ℕ) (r : LineState) (at byte next : ℕ) → (byte < 128 → IsCharBoundary text at) → KnowsBoundaries text r → KnowsBoundaries text (after_byte r at byte next)
 knows-after_byte text r at byte next place h =
     knows-if text (is_some r.stop) _ _ (λ e. h)
     (λ e. knows-if text (byte == 13) _ _
@@ -64,14 +64,14 @@ knows-after_byte text r at byte next place h =
     (λ e. knows-in_line text r.quote r at byte next place h))
 
 -- a physical line begins and ends between characters
-record IsPieceText (text : List ℕ) (p : Piece) : Type 0 where
+record IsPhysicalText (text : List ℕ) (p : PhysicalLine) : Type 0 where
   from : IsCharBoundary text p.from
   to : IsCharBoundary text p.to
   next : IsCharBoundary text p.next
 
-pieces-if : (text : List ℕ) (b : Bool) (ps qs : List Piece) → (b ≡ true → All (IsPieceText text) ps) → (b ≡ false → All (IsPieceText text) qs) → All (IsPieceText text) (if b then ps else qs)
-pieces-if text true ps qs g h = g refl
-pieces-if text false ps qs g h = h refl
+physical_lines-if : (text : List ℕ) (b : Bool) (ps qs : List PhysicalLine) → (b ≡ true → All (IsPhysicalText text) ps) → (b ≡ false → All (IsPhysicalText text) qs) → All (IsPhysicalText text) (if b then ps else qs)
+physical_lines-if text true ps qs g h = g refl
+physical_lines-if text false ps qs g h = h refl
 
 known-place : (text : List ℕ) (o : Option ℕ) (n : ℕ) → IfSome o (λ k. IsCharBoundary text k) → IsCharBoundary text n → IsCharBoundary text (unwrap_or o n)
 known-place text None n h g = g
@@ -84,27 +84,27 @@ line-end-small byte next e =
       | inr k ↦ clash (ends_line byte next) e (or-both (byte == 10) ((byte == 13) && not (next == 10)) (ne_eqb byte 10 (omega arith)) (and-first (byte == 13) (not (next == 10)) (ne_eqb byte 13 (omega arith))))
     ]
 
-pieces-text : (text : List ℕ) → IsUtf8 text → (line from : ℕ) (r : Reading) (at : ℕ) (bytes : List ℕ) → drop at text ≡ bytes → at ≤ length text → IsCharBoundary text from → KnowsBoundaries text r → All (IsPieceText text) (pieces line from r at bytes)
-pieces-text text utf line from r at [] e l start h =
+physical_lines-text : (text : List ℕ) → IsUtf8 text → (line from : ℕ) (r : LineState) (at : ℕ) (bytes : List ℕ) → drop at text ≡ bytes → at ≤ length text → IsCharBoundary text from → KnowsBoundaries text r → All (IsPhysicalText text) (physical_lines line from r at bytes)
+physical_lines-text text utf line from r at [] e l start h =
     let left : 0 ≡ length text - at = ap length (sym e) ∙ length-drop at text in
     let end : IsCharBoundary text at = boundary-before text at l (inl (omega arith)) in
-    pieces-if text (from == at) [] _ (λ s. All-nil (IsPieceText text))
-    (λ s. All-cons (IsPieceText text) (piece line from at at r) []
+    physical_lines-if text (from == at) [] _ (λ s. All-nil (IsPhysicalText text))
+    (λ s. All-cons (IsPhysicalText text) (physical_line line from at at r) []
     (record { from = start; to = known-place text r.slash _ h.slash (known-place text r.stop at h.stop end); next = end })
-    (All-nil (IsPieceText text)))
-pieces-text text utf line from r at (byte ∷ bytes) e l start h =
+    (All-nil (IsPhysicalText text)))
+physical_lines-text text utf line from r at (byte ∷ bytes) e l start h =
     let here = byte-at at text byte bytes e in
     let place : byte < 128 → IsCharBoundary text at = λ (small : byte < 128). IsCharBoundary-before_ascii text at here.1 (omega (arith, here.0)) in
     let next : drop (at + 1) text ≡ bytes = ap (λ (k : ℕ). drop k text) (add-one at) ∙ drop-next at text byte bytes e in
-    pieces-if text (ends_line byte (first_or_end bytes)) _ _
+    physical_lines-if text (ends_line byte (first_or_end bytes)) _ _
     (λ ends.
     let small : byte < 128 = line-end-small byte (first_or_end bytes) ends in
     let behind : IsCharBoundary text (at + 1) = IsCharBoundary-after_ascii text at utf here.1 (omega (arith, here.0)) in
-    All-cons (IsPieceText text) (piece line from at (at + 1) r) _
+    All-cons (IsPhysicalText text) (physical_line line from at (at + 1) r) _
     (record { from = start; to = known-place text r.slash _ h.slash (known-place text r.stop at h.stop (place small)); next = behind })
-    (pieces-text text utf (line + 1) (at + 1) line_start (at + 1) bytes next (omega (arith, here.1)) behind (record { slash = tt; stop = tt })))
+    (physical_lines-text text utf (line + 1) (at + 1) line_start (at + 1) bytes next (omega (arith, here.1)) behind (record { slash = tt; stop = tt })))
     (λ goes.
-    pieces-text text utf line from (after_byte r at byte (first_or_end bytes)) (at + 1) bytes next (omega (arith, here.1)) start
+    physical_lines-text text utf line from (after_byte r at byte (first_or_end bytes)) (at + 1) bytes next (omega (arith, here.1)) start
     (knows-after_byte text r at byte (first_or_end bytes) place h))
 
 -- a logical line begins and ends between characters
@@ -120,18 +120,18 @@ lines-if : (text : List ℕ) (b : Bool) (ls ms : List Logical) → All (IsLineTe
 lines-if text true ls ms g h = g
 lines-if text false ls ms g h = h
 
-gather-text : (text : List ℕ) (begun : Option Logical) (ps : List Piece) → IsBegunText text begun → All (IsPieceText text) ps → All (IsLineText text) (gather begun ps)
+gather-text : (text : List ℕ) (begun : Option Logical) (ps : List PhysicalLine) → IsBegunText text begun → All (IsPhysicalText text) ps → All (IsLineText text) (gather begun ps)
 gather-text text None [] b h = All-nil (IsLineText text)
 gather-text text (Some l) [] b h = All-cons (IsLineText text) l [] b (All-nil (IsLineText text))
 gather-text text None (p ∷ ps) b h =
-    let here : IsPieceText text p = All-head (IsPieceText text) p ps h in
-    let rest = All-tail (IsPieceText text) p ps h in
+    let here : IsPhysicalText text p = All-head (IsPhysicalText text) p ps h in
+    let rest = All-tail (IsPhysicalText text) p ps h in
     let now : IsLineText text (extended None p) = record { from = here.from; to = here.next } in
     lines-if text p.joined _ _ (gather-text text (Some (extended None p)) ps now rest)
     (All-cons (IsLineText text) (extended None p) _ now (gather-text text None ps tt rest))
 gather-text text (Some l) (p ∷ ps) b h =
-    let here : IsPieceText text p = All-head (IsPieceText text) p ps h in
-    let rest = All-tail (IsPieceText text) p ps h in
+    let here : IsPhysicalText text p = All-head (IsPhysicalText text) p ps h in
+    let rest = All-tail (IsPhysicalText text) p ps h in
     let now : IsLineText text (extended (Some l) p) = record { from = b.from; to = here.next } in
     lines-if text p.joined _ _ (gather-text text (Some (extended (Some l) p)) ps now rest)
     (All-cons (IsLineText text) (extended (Some l) p) _ now (gather-text text None ps tt rest))
@@ -184,38 +184,38 @@ dropped-boundary text utf =
     (IsCharBoundary-start text utf))
 
 -- the text of a physical line of a text is UTF-8
-piece-utf : (text : List ℕ) (p : Piece) → IsUtf8 text → IsPieceText text p → p.from ≤ p.to → IsUtf8 (piece_text text p)
-piece-utf text p utf h l =
+physical-utf : (text : List ℕ) (p : PhysicalLine) → IsUtf8 text → IsPhysicalText text p → p.from ≤ p.to → IsUtf8 (physical_text text p)
+physical-utf text p utf h l =
     IsUtf8-drop (take p.to text) p.from (IsUtf8-take text p.to utf h.to) (boundary-prefix text p.to p.from l h.to.0 h.from)
 
-part-text : (source : List ℕ) (end : ℕ) (p : Piece) (n : ℕ) → end ≤ length source → p.to ≤ end → IsUtf8 (piece_text (take end source) p) → IsCharBoundary (piece_text (take end source) p) n → IsPartText source (part_behind n p)
+part-text : (source : List ℕ) (end : ℕ) (p : PhysicalLine) (n : ℕ) → end ≤ length source → p.to ≤ end → IsUtf8 (physical_text (take end source) p) → IsCharBoundary (physical_text (take end source) p) n → IsPartText source (part_behind n p)
 part-text source end p n l h utf place =
-    let same : drop n (piece_text (take end source) p) ≡ drop (p.from + n) (take p.to source) =
+    let same : drop n (physical_text (take end source) p) ≡ drop (p.from + n) (take p.to source) =
     drop-drop n p.from (take p.to (take end source)) ∙ ap (λ (xs : List ℕ). drop (p.from + n) xs) (take-take p.to end source h) in
-    record { within = omega arith; utf = subst IsUtf8 same (IsUtf8-drop (piece_text (take end source) p) n utf place) }
+    record { within = omega arith; utf = subst IsUtf8 same (IsUtf8-drop (physical_text (take end source) p) n utf place) }
 
 parts-if : (source : List ℕ) (b : Bool) (ps qs : List Part) → All (IsPartText source) ps → All (IsPartText source) qs → All (IsPartText source) (if b then ps else qs)
 parts-if source true ps qs g h = g
 parts-if source false ps qs g h = h
 
-mapped-text : (source : List ℕ) (end at : ℕ) (ps : List Piece) → end ≤ length source → IsUtf8 (take end source) → InRow at end ps → All (IsPieceText (take end source)) ps → All (IsPartText source) (map (part_behind 0) ps)
+mapped-text : (source : List ℕ) (end at : ℕ) (ps : List PhysicalLine) → end ≤ length source → IsUtf8 (take end source) → InRow at end ps → All (IsPhysicalText (take end source)) ps → All (IsPartText source) (map (part_behind 0) ps)
 mapped-text source end at [] l utf row h = All-nil (IsPartText source)
 mapped-text source end at (p ∷ ps) l utf (e, f, g, k, i, row) h =
-    let here : IsPieceText (take end source) p = All-head (IsPieceText (take end source)) p ps h in
-    let whole = piece-utf (take end source) p utf here (omega arith) in
+    let here : IsPhysicalText (take end source) p = All-head (IsPhysicalText (take end source)) p ps h in
+    let whole = physical-utf (take end source) p utf here (omega arith) in
     All-cons (IsPartText source) _ _ (part-text source end p 0 l (omega arith) whole (IsCharBoundary-start _ whole))
-    (mapped-text source end p.next ps l utf row (All-tail (IsPieceText (take end source)) p ps h))
+    (mapped-text source end p.next ps l utf row (All-tail (IsPhysicalText (take end source)) p ps h))
 
-opening-text : (source : List ℕ) (end at : ℕ) (ps : List Piece) → end ≤ length source → IsUtf8 (take end source) → InRow at end ps → All (IsPieceText (take end source)) ps → All (IsPartText source) (opening_parts (take end source) ps)
+opening-text : (source : List ℕ) (end at : ℕ) (ps : List PhysicalLine) → end ≤ length source → IsUtf8 (take end source) → InRow at end ps → All (IsPhysicalText (take end source)) ps → All (IsPartText source) (opening_parts (take end source) ps)
 opening-text source end at [] l utf row h = All-nil (IsPartText source)
 opening-text source end at (p ∷ ps) l utf (e, f, g, k, i, row) h =
     let text : List ℕ = take end source in
-    let here : IsPieceText text p = All-head (IsPieceText text) p ps h in
-    let rest = All-tail (IsPieceText text) p ps h in
-    let whole = piece-utf text p utf here (omega arith) in
-    parts-if source (is_skipped (piece_text text p)) [] _ (All-nil (IsPartText source))
-    (All-cons (IsPartText source) _ _ (part-text source end p (dropped (piece_text text p)) l (omega arith) whole (dropped-boundary _ whole))
-    (parts-if source (list_all is_blank (piece_text text p)) _ _ (opening-text source end p.next ps l utf row rest) (mapped-text source end p.next ps l utf row rest)))
+    let here : IsPhysicalText text p = All-head (IsPhysicalText text) p ps h in
+    let rest = All-tail (IsPhysicalText text) p ps h in
+    let whole = physical-utf text p utf here (omega arith) in
+    parts-if source (is_skipped (physical_text text p)) [] _ (All-nil (IsPartText source))
+    (All-cons (IsPartText source) _ _ (part-text source end p (dropped (physical_text text p)) l (omega arith) whole (dropped-boundary _ whole))
+    (parts-if source (list_all is_blank (physical_text text p)) _ _ (opening-text source end p.next ps l utf row rest) (mapped-text source end p.next ps l utf row rest)))
 
 line-text : (source : List ℕ) (l : Logical) → IsUtf8 source → IsPlaced source l → IsLineText source l → All (λ (t : Token). IsUtf8 (bytes_between source t.from t.to)) (line_tokens source l)
 unfolding line_tokens parts_in
@@ -224,11 +224,11 @@ line-text source l utf placed h =
     let long : length text ≡ l.to = length-take l.to source ∙ omega (arith, placed.within) in
     let whole : IsUtf8 text = IsUtf8-take source l.to utf h.to in
     let start : IsCharBoundary text l.from = boundary-prefix source l.to l.from placed.forward placed.within h.from in
-    let row : InRow l.from l.to (pieces_at l.first_line l.from text) =
-    subst (λ (n : ℕ). InRow l.from n (pieces_at l.first_line l.from text)) long (pieces_at-in_row l.first_line l.from text (omega (arith, placed.forward)) placed.counted) in
+    let row : InRow l.from l.to (physical_lines_at l.first_line l.from text) =
+    subst (λ (n : ℕ). InRow l.from n (physical_lines_at l.first_line l.from text)) long (physical_lines_at-in_row l.first_line l.from text (omega (arith, placed.forward)) placed.counted) in
     parts-text source (parts_in source l)
-    (opening-text source l.to l.from (pieces_at l.first_line l.from text) placed.within whole row
-    (pieces-text text whole l.first_line l.from line_start l.from (drop l.from text) refl (omega (arith, placed.forward)) start (record { slash = tt; stop = tt })))
+    (opening-text source l.to l.from (physical_lines_at l.first_line l.from text) placed.within whole row
+    (physical_lines-text text whole l.first_line l.from line_start l.from (drop l.from text) refl (omega (arith, placed.forward)) start (record { slash = tt; stop = tt })))
 
 mark-boundary : (source : List ℕ) → IsUtf8 source → IsCharBoundary source (mark_size source)
 unfolding lib.Utf8.encode
@@ -246,6 +246,6 @@ unfolding logicals
 tokens_are_text source utf =
     let at : ℕ = mark_size source in
     let placed = lines_placed source 1 at (mark-within source) (omega arith) in
-    let bounds = gather-text source None (pieces_at 1 at source) tt
-    (pieces-text source utf 1 at line_start at (drop at source) refl (mark-within source) (mark-boundary source utf) (record { slash = tt; stop = tt })) in
+    let bounds = gather-text source None (physical_lines_at 1 at source) tt
+    (physical_lines-text source utf 1 at line_start at (drop at source) refl (mark-within source) (mark-boundary source utf) (record { slash = tt; stop = tt })) in
     λ k d l. line-text source (get_or (logicals source) k d) utf (placed k d l) (bounds k d l)

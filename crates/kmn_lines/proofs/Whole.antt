@@ -6,13 +6,13 @@ use Rattle.std.specs.Char.{to_ascii_lowercase}
 use Rattle.std.specs.Str.{str_to_ascii_lowercase}
 use Rattle.std.proofs.lemmas.List.{append-nil, length-take, length-map, drop-append-le, take-append-drop}
 use Rattle.std.proofs.lemmas.Slice.Eq.{bytes_eq-Decides}
-use Rattle.kmn_lines.specs.declared.reading.Piece.{Piece}
+use Rattle.kmn_lines.specs.declared.line_state.PhysicalLine.{PhysicalLine}
 use Rattle.kmn_lines.specs.declared.logical.Logical.{Logical}
 use Rattle.kmn_lines.specs.declared.logical.Part.{Part}
 use Rattle.kmn_lines.specs.Bytes.{is_blank}
-use Rattle.kmn_lines.specs.Lines.{pieces_at, extended, gather, mark_size, logicals, blanks, same_word, begins_with, is_skipped, dropped, piece_text, part_behind, opening_parts, parts_in}
+use Rattle.kmn_lines.specs.Lines.{physical_lines_at, extended, gather, mark_size, logicals, blanks, same_word, begins_with, is_skipped, dropped, physical_text, part_behind, opening_parts, parts_in}
 use Rattle.kmn_lines.specs.Laws.{bytes_between, PhysicalLinesMakeTheSource, LinesMakeTheSource, InOrder, PartsStandInOrder}
-use Rattle.kmn_lines.proofs.Placed.{InRow, pieces_at-in_row}
+use Rattle.kmn_lines.proofs.Placed.{InRow, physical_lines_at-in_row}
 
 -- the bytes up to a place and those behind it
 between-behind : (from to : ℕ) (text : List ℕ) → from ≤ to → to ≤ length text → bytes_between text from to ++ drop to text ≡ drop from text
@@ -46,7 +46,7 @@ rest-if : (source xs : List ℕ) (b : Bool) (ls ms : List Logical) → flat_map 
 rest-if source xs true ls ms g h = g
 rest-if source xs false ls ms g h = h
 
-gather-whole : (source : List ℕ) (begun : Option Logical) (at : ℕ) (ps : List Piece) → Fits at begun → InRow at (length source) ps → flat_map (line_bytes source) (gather begun ps) ≡ drop (begun_at at begun) source
+gather-whole : (source : List ℕ) (begun : Option Logical) (at : ℕ) (ps : List PhysicalLine) → Fits at begun → InRow at (length source) ps → flat_map (line_bytes source) (gather begun ps) ≡ drop (begun_at at begun) source
 gather-whole source None at [] b row = sym (drop-all source at row)
 gather-whole source (Some l) at [] (b, c) row = append-nil (line_bytes source l) ∙ ap (λ (xs : List ℕ). drop l.from xs) (take-all source l.to (omega arith))
 gather-whole source None at (p ∷ ps) b (e, f, g, h, i, row) =
@@ -72,7 +72,7 @@ mark-within source =
     mark-size (starts_with (λ a b. a == b) source (0xEF ∷ 0xBB ∷ 0xBF ∷ [])) (length source)
     (λ h. let e : 3 ≡ length (take 3 source) = ap length (mark-is source h) in omega (arith, length-take 3 source))
 
-rows-whole : (source : List ℕ) (at : ℕ) (ps : List Piece) → InRow at (length source) ps → flat_map (λ (p : Piece). bytes_between source p.from p.next) ps ≡ drop at source
+rows-whole : (source : List ℕ) (at : ℕ) (ps : List PhysicalLine) → InRow at (length source) ps → flat_map (λ (p : PhysicalLine). bytes_between source p.from p.next) ps ≡ drop at source
 rows-whole source at [] row = sym (drop-all source at row)
 rows-whole source at (p ∷ ps) (e, f, g, h, i, row) =
     ap (λ (xs : List ℕ). bytes_between source p.from p.next ++ xs) (rows-whole source p.next ps row)
@@ -81,14 +81,14 @@ rows-whole source at (p ∷ ps) (e, f, g, h, i, row) =
 pub physical_lines_make_the_source : PhysicalLinesMakeTheSource
 physical_lines_make_the_source source =
     ap (λ (xs : List ℕ). take (mark_size source) source ++ xs)
-    (rows-whole source (mark_size source) (pieces_at 1 (mark_size source) source) (pieces_at-in_row 1 (mark_size source) source (mark-within source) (omega arith)))
+    (rows-whole source (mark_size source) (physical_lines_at 1 (mark_size source) source) (physical_lines_at-in_row 1 (mark_size source) source (mark-within source) (omega arith)))
     ∙ take-append-drop (mark_size source) source
 
 pub lines_make_the_source : LinesMakeTheSource
 unfolding logicals
 lines_make_the_source source =
     ap (λ (xs : List ℕ). take (mark_size source) source ++ xs)
-    (gather-whole source None (mark_size source) (pieces_at 1 (mark_size source) source) tt (pieces_at-in_row 1 (mark_size source) source (mark-within source) (omega arith)))
+    (gather-whole source None (mark_size source) (physical_lines_at 1 (mark_size source) source) tt (physical_lines_at-in_row 1 (mark_size source) source (mark-within source) (omega arith)))
     ∙ take-append-drop (mark_size source) source
 
 pub begins-long : (words word : List ℕ) → begins_with words word ≡ true → length word ≤ length words
@@ -118,19 +118,19 @@ in_order-if : (at end : ℕ) (b : Bool) (ps qs : List Part) → InOrder at end p
 in_order-if at end true ps qs g h = g
 in_order-if at end false ps qs g h = h
 
-mapped-in_order : (before at size : ℕ) (ps : List Piece) → before ≤ at → InRow at size ps → InOrder before size (map (part_behind 0) ps)
+mapped-in_order : (before at size : ℕ) (ps : List PhysicalLine) → before ≤ at → InRow at size ps → InOrder before size (map (part_behind 0) ps)
 mapped-in_order before at size [] l row = omega arith
 mapped-in_order before at size (p ∷ ps) l (e, f, g, h, i, row) = (omega arith, omega arith, mapped-in_order p.to p.next size ps g row)
 
-opening-in_order : (text : List ℕ) (before at : ℕ) (ps : List Piece) → before ≤ at → InRow at (length text) ps → InOrder before (length text) (opening_parts text ps)
+opening-in_order : (text : List ℕ) (before at : ℕ) (ps : List PhysicalLine) → before ≤ at → InRow at (length text) ps → InOrder before (length text) (opening_parts text ps)
 opening-in_order text before at [] l row = omega arith
 opening-in_order text before at (p ∷ ps) l (e, f, g, h, i, row) =
-    let few = dropped-within (piece_text text p) in
-    let long : length (piece_text text p) ≡ p.to - p.from = omega (arith, length-drop p.from (take p.to text), length-take p.to text) in
-    in_order-if before (length text) (is_skipped (piece_text text p)) [] _ (omega arith) (
+    let few = dropped-within (physical_text text p) in
+    let long : length (physical_text text p) ≡ p.to - p.from = omega (arith, length-drop p.from (take p.to text), length-take p.to text) in
+    in_order-if before (length text) (is_skipped (physical_text text p)) [] _ (omega arith) (
       omega arith,
       omega arith,
-      in_order-if p.to (length text) (list_all is_blank (piece_text text p)) _ _
+      in_order-if p.to (length text) (list_all is_blank (physical_text text p)) _ _
           (opening-in_order text p.to p.next ps g row)
           (mapped-in_order p.to p.next (length text) ps g row),
     )
@@ -140,6 +140,6 @@ unfolding parts_in
 parts_stand_in_order source l placed =
     let text : List ℕ = take l.to source in
     let long : length text ≡ l.to = omega (arith, length-take l.to source, placed.within) in
-    subst (λ (end : ℕ). InOrder l.from end (opening_parts text (pieces_at l.first_line l.from text))) long
-    (opening-in_order text l.from l.from (pieces_at l.first_line l.from text) (omega arith)
-    (pieces_at-in_row l.first_line l.from text (omega (arith, placed.forward)) placed.counted))
+    subst (λ (end : ℕ). InOrder l.from end (opening_parts text (physical_lines_at l.first_line l.from text))) long
+    (opening-in_order text l.from l.from (physical_lines_at l.first_line l.from text) (omega arith)
+    (physical_lines_at-in_row l.first_line l.from text (omega (arith, placed.forward)) placed.counted))

@@ -2,10 +2,10 @@
 use Rattle.std.specs.Prelude.{◌≡◌, ℕ, zero, suc, ◌+◌, ◌-◌, ◌<◌, ◌≤◌, ◌==◌, Bool, true, false, not, ◌&&◌, ◌||◌, if◌then◌else◌, List, [], ◌∷◌, ◌++◌, length, take, drop, flat_map, All, IsUtf8, is_some}
 use Rattle.std.specs.List.{list_all}
 use Rattle.kmn_lines.specs.Bytes.{is_blank, is_quote}
-use Rattle.kmn_lines.specs.Lines.{pieces_at, mark_size, logicals, parts_in}
+use Rattle.kmn_lines.specs.Lines.{physical_lines_at, mark_size, logicals, parts_in}
 use Rattle.kmn_lines.specs.Places.{IsPlaced}
 use Rattle.kmn_lines.specs.Tokens.{single, part_text, line_tokens}
-use Rattle.kmn_lines.specs.declared.reading.Piece.{Piece}
+use Rattle.kmn_lines.specs.declared.line_state.PhysicalLine.{PhysicalLine}
 use Rattle.kmn_lines.specs.declared.logical.Logical.{Logical}
 use Rattle.kmn_lines.specs.declared.logical.Part.{Part}
 use Rattle.kmn_lines.specs.declared.token.Token.{Token}
@@ -55,7 +55,7 @@ bytes_between source from to = drop from (take to source)
 
 -- the physical lines with their line ends, put together behind a first U+FEFF, are the source
 abbrev pub PhysicalLinesMakeTheSource : Type 0
-PhysicalLinesMakeTheSource = (source : List ℕ) → take (mark_size source) source ++ flat_map (λ (p : Piece). bytes_between source p.from p.next) (pieces_at 1 (mark_size source) source) ≡ source
+PhysicalLinesMakeTheSource = (source : List ℕ) → take (mark_size source) source ++ flat_map (λ (p : PhysicalLine). bytes_between source p.from p.next) (physical_lines_at 1 (mark_size source) source) ≡ source
 
 -- the logical lines, put together behind a first U+FEFF, are the source
 abbrev pub LinesMakeTheSource : Type 0

@@ -3,8 +3,8 @@ use Rattle.std.specs.Prelude.{ℕ, ◌+◌, ◌==◌, Bool, true, false, not, �
 use Rattle.std.specs.List.{list_all, starts_with}
 use Rattle.std.specs.Str.{str_eq_ignore_ascii_case}
 use Rattle.kmn_lines.specs.Bytes.{is_blank, is_quote, first_or_end}
-use Rattle.kmn_lines.specs.declared.reading.Reading.{Reading}
-use Rattle.kmn_lines.specs.declared.reading.Piece.{Piece}
+use Rattle.kmn_lines.specs.declared.line_state.LineState.{LineState}
+use Rattle.kmn_lines.specs.declared.line_state.PhysicalLine.{PhysicalLine}
 use Rattle.kmn_lines.specs.declared.logical.Logical.{Logical}
 use Rattle.kmn_lines.specs.declared.logical.Part.{Part}
 
@@ -17,11 +17,11 @@ abbrev pub starts_comment : Bool → ℕ → ℕ → Bool
 starts_comment after_blank byte next = after_blank && ((byte == 99) || (byte == 67)) && (is_blank next || (next == 10) || (next == 13))
 
 -- at the start of a physical line
-abbrev pub line_start : Reading
+abbrev pub line_start : LineState
 line_start = record { quote = None; after_blank = true; slash = None; stop = None }
 
 -- a byte outside quotes
-abbrev pub outside : Reading → ℕ → ℕ → ℕ → Reading
+abbrev pub outside : LineState → ℕ → ℕ → ℕ → LineState
 outside r at byte next =
     if is_blank byte then record r { after_blank = true }
     else if starts_comment r.after_blank byte next then record r { slash = None; stop = Some at }
@@ -29,44 +29,44 @@ outside r at byte next =
     else record r { quote = if is_quote byte then Some byte else None; after_blank = false; slash = None }
 
 -- a byte inside quotes
-abbrev pub inside : Reading → ℕ → ℕ → Reading
+abbrev pub inside : LineState → ℕ → ℕ → LineState
 inside r quote byte = if byte == quote then record r { quote = None } else r
 
 -- a byte where nothing stops the line yet
-abbrev pub in_line : Option ℕ → Reading → ℕ → ℕ → ℕ → Reading
+abbrev pub in_line : Option ℕ → LineState → ℕ → ℕ → ℕ → LineState
 in_line None r at byte next = outside r at byte next
 in_line (Some quote) r at byte next = inside r quote byte
 
 -- a byte that does not end the line, at its place, with the next byte; a CR here stands before an LF
-abbrev pub after_byte : Reading → ℕ → ℕ → ℕ → Reading
+abbrev pub after_byte : LineState → ℕ → ℕ → ℕ → LineState
 after_byte r at byte next =
     if is_some r.stop then r
     else if byte == 13 then record r { stop = Some at }
     else in_line r.quote r at byte next
 
 -- the physical line that ends at a place, before the place of the next
-abbrev pub piece : ℕ → ℕ → ℕ → ℕ → Reading → Piece
-piece line from at next r = record { line = line; from = from; to = unwrap_or r.slash (unwrap_or r.stop at); next = next; joined = is_some r.slash }
+abbrev pub physical_line : ℕ → ℕ → ℕ → ℕ → LineState → PhysicalLine
+physical_line line from at next r = record { line = line; from = from; to = unwrap_or r.slash (unwrap_or r.stop at); next = next; joined = is_some r.slash }
 
 -- the rest of the physical line that begins at a place, read so far, and the lines behind it
-abbrev pub pieces : ℕ → ℕ → Reading → ℕ → List ℕ → List Piece
-pieces line from r at [] = if from == at then [] else piece line from at at r ∷ []
-pieces line from r at (byte ∷ bytes) =
+abbrev pub physical_lines : ℕ → ℕ → LineState → ℕ → List ℕ → List PhysicalLine
+physical_lines line from r at [] = if from == at then [] else physical_line line from at at r ∷ []
+physical_lines line from r at (byte ∷ bytes) =
     if ends_line byte (first_or_end bytes)
-    then piece line from at (at + 1) r ∷ pieces (line + 1) (at + 1) line_start (at + 1) bytes
-    else pieces line from (after_byte r at byte (first_or_end bytes)) (at + 1) bytes
+    then physical_line line from at (at + 1) r ∷ physical_lines (line + 1) (at + 1) line_start (at + 1) bytes
+    else physical_lines line from (after_byte r at byte (first_or_end bytes)) (at + 1) bytes
 
 -- the physical lines from a place on
-abbrev pub pieces_at : ℕ → ℕ → List ℕ → List Piece
-pieces_at line at bytes = pieces line at line_start at (drop at bytes)
+abbrev pub physical_lines_at : ℕ → ℕ → List ℕ → List PhysicalLine
+physical_lines_at line at bytes = physical_lines line at line_start at (drop at bytes)
 
 -- a logical line that a physical line begins or goes on with
-abbrev pub extended : Option Logical → Piece → Logical
+abbrev pub extended : Option Logical → PhysicalLine → Logical
 extended None p = record { first_line = p.line; from = p.from; to = p.next }
 extended (Some l) p = record l { to = p.next }
 
 -- the logical lines of physical lines, the first of which goes on with the one that was begun
-abbrev pub gather : Option Logical → List Piece → List Logical
+abbrev pub gather : Option Logical → List PhysicalLine → List Logical
 gather None [] = []
 gather (Some l) [] = l ∷ []
 gather begun (p ∷ ps) = if p.joined then gather (Some (extended begun p)) ps else extended begun p ∷ gather None ps
@@ -77,7 +77,7 @@ mark_size bytes = if starts_with (λ a b. a == b) bytes (0xEF ∷ 0xBB ∷ 0xBF 
 
 -- the logical lines of a source
 unfoldable pub logicals : List ℕ → List Logical
-logicals source = gather None (pieces_at 1 (mark_size source) source)
+logicals source = gather None (physical_lines_at 1 (mark_size source) source)
 
 -- how many blanks a text begins with
 abbrev pub blanks : List ℕ → ℕ
@@ -109,24 +109,24 @@ dropped text =
     else 0
 
 -- the text of a physical line
-abbrev pub piece_text : List ℕ → Piece → List ℕ
-piece_text source p = drop p.from (take p.to source)
+abbrev pub physical_text : List ℕ → PhysicalLine → List ℕ
+physical_text source p = drop p.from (take p.to source)
 
 -- a physical line as a part, without some first bytes
-abbrev pub part_behind : ℕ → Piece → Part
+abbrev pub part_behind : ℕ → PhysicalLine → Part
 part_behind n p = record { line = p.line; from = p.from + n; to = p.to }
 
 -- the parts of a logical line from its first text on: its prefix is dropped, and behind a skipping prefix there is none;
 -- a joining backslash counts as a blank, so blank parts may stand before the prefix
-abbrev pub opening_parts : List ℕ → List Piece → List Part
+abbrev pub opening_parts : List ℕ → List PhysicalLine → List Part
 opening_parts source [] = []
 opening_parts source (p ∷ ps) =
-    if is_skipped (piece_text source p) then []
-    else part_behind (dropped (piece_text source p)) p
-    ∷ (if list_all is_blank (piece_text source p) then opening_parts source ps else map (part_behind 0) ps)
+    if is_skipped (physical_text source p) then []
+    else part_behind (dropped (physical_text source p)) p
+    ∷ (if list_all is_blank (physical_text source p) then opening_parts source ps else map (part_behind 0) ps)
 
 -- the parts of a logical line, which is cut into its physical lines again
 unfoldable pub parts_in : List ℕ → Logical → List Part
 parts_in source l =
     let bytes = take l.to source in
-    opening_parts bytes (pieces_at l.first_line l.from bytes)
+    opening_parts bytes (physical_lines_at l.first_line l.from bytes)

@@ -1,16 +1,16 @@
--- Where pieces and lines stand in their source.
+-- Where physical_lines and lines stand in their source.
 use Rattle.std.specs.Prelude.{ℕ, ◌+◌, ◌<◌, ◌≤◌, List, length, IfSome}
-use Rattle.kmn_lines.specs.declared.reading.Reading.{Reading}
-use Rattle.kmn_lines.specs.declared.reading.Piece.{Piece}
+use Rattle.kmn_lines.specs.declared.line_state.LineState.{LineState}
+use Rattle.kmn_lines.specs.declared.line_state.PhysicalLine.{PhysicalLine}
 use Rattle.kmn_lines.specs.declared.logical.Logical.{Logical}
 
--- the places that a reading knows lie between two others
-pub record IsBetween (from to : ℕ) (r : Reading) : Type 0 where
+-- the places that a state knows lie between two others
+pub record IsBetween (from to : ℕ) (r : LineState) : Type 0 where
   pub slash : IfSome r.slash (λ at. (from ≤ at) × (at ≤ to))
   pub stop : IfSome r.stop (λ at. (from ≤ at) × (at ≤ to))
 
 -- a physical line stands behind a place, has a byte, and ends within a length
-pub record IsPieceWithin (from size : ℕ) (p : Piece) : Type 0 where
+pub record IsPhysicalLineWithin (from size : ℕ) (p : PhysicalLine) : Type 0 where
   pub begins : from ≤ p.from
   pub forward : p.from ≤ p.to
   pub ends : p.to ≤ p.next

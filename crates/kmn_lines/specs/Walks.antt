@@ -1,6 +1,6 @@
 -- Walking over the lines and parts of a source: what is left of them, and where they stand.
 use Rattle.std.specs.Prelude.{if◌then◌else◌, List, map, None}
-use Rattle.kmn_lines.specs.Lines.{pieces_at, gather, opening_parts, part_behind}
+use Rattle.kmn_lines.specs.Lines.{physical_lines_at, gather, opening_parts, part_behind}
 use Rattle.kmn_lines.specs.declared.logical.Logical.{Logical}
 use Rattle.kmn_lines.specs.declared.logical.Part.{Part}
 use Rattle.kmn_lines.specs.declared.line_walk.Lines.{Lines}
@@ -8,10 +8,10 @@ use Rattle.kmn_lines.specs.declared.part_walk.Parts.{Parts}
 
 -- the lines that have not come yet
 abbrev pub lines_left : Lines → List Logical
-lines_left walk = gather None (pieces_at walk.line walk.at walk.bytes.now)
+lines_left walk = gather None (physical_lines_at walk.line walk.at walk.bytes.now)
 
 -- the parts that have not come yet
 abbrev pub parts_left : Parts → List Part
 parts_left walk =
-    let pieces = pieces_at walk.line walk.at walk.bytes.now in
-    if walk.begun then map (part_behind 0) pieces else opening_parts walk.bytes.now pieces
+    let physical_lines = physical_lines_at walk.line walk.at walk.bytes.now in
+    if walk.begun then map (part_behind 0) physical_lines else opening_parts walk.bytes.now physical_lines

@@ -12,20 +12,20 @@ ghost use Rattle.kmn_lines.specs.Walks.{lines_left, parts_left};
 
 pub mod bytes;
 pub mod laws;
+mod line_state;
 mod line_walk;
 mod logical;
 mod part_walk;
-mod piece;
+mod physical_line;
 mod prefix;
-mod reading;
 #[cfg(test)]
 mod tests;
 mod token;
 
+pub use line_state::{LineState, PhysicalLine};
 pub use line_walk::Lines;
 pub use logical::{Logical, Part};
 pub use part_walk::Parts;
-pub use reading::{Piece, Reading};
 pub use token::{Token, TokenKind};
 
 /// The logical lines of a source in their order, of which a first U+FEFF is no part. A comment and a joining backslash

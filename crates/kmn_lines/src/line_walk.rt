@@ -2,9 +2,9 @@
 
 ghost use Rattle.std.specs.Prelude.{◌≡◌, ◌+◌, ◌≤◌, length, Some};
 
+use crate::line_state::PhysicalLine;
 use crate::logical::Logical;
-use crate::piece::piece_at;
-use crate::reading::Piece;
+use crate::physical_line::physical_line_at;
 
 /// The logical lines of a source.
 #[derive(Clone, Copy)]
@@ -23,16 +23,16 @@ impl<'a> Lines<'a> {
     ghost use Rattle.kmn_lines.specs.Lines.{extended};
 
     /// A logical line that a physical line begins or goes on with.
-    fn extended(begun: Option<Logical>, piece: Piece) -> Logical
-        requires from { piece.from ≤ 4194304 }
-        requires to { piece.next ≤ 4194304 }
-        ensures { result ≡ extended begun piece }
+    fn extended(begun: Option<Logical>, physical: PhysicalLine) -> Logical
+        requires from { physical.from ≤ 4194304 }
+        requires to { physical.next ≤ 4194304 }
+        ensures { result ≡ extended begun physical }
     {
-        let to = piece.next as u32;
+        let to = physical.next as u32;
         match begun {
             None => Logical {
-                first_line: piece.line,
-                from: piece.from as u32,
+                first_line: physical.line,
+                from: physical.from as u32,
                 to,
             },
             Some(logical) => Logical { to, ..logical },
@@ -53,11 +53,11 @@ impl Iterator for Lines<'_> {
     fn next(&mut self) -> Option<Logical> {
         let mut begun = None;
         while self.at < self.bytes.len() {
-            let piece = piece_at(self.bytes, self.line, self.at);
-            self.at = piece.next;
+            let physical = physical_line_at(self.bytes, self.line, self.at);
+            self.at = physical.next;
             self.line += 1;
-            let logical = Lines::extended(begun, piece);
-            if !piece.joined {
+            let logical = Lines::extended(begun, physical);
+            if !physical.joined {
                 return Some(logical);
             }
             begun = Some(logical);

@@ -7,7 +7,7 @@ pub struct Logical {
     pub to: u32,
 }
 
-/// A physical piece of a logical line, without comment and backslash. `from` and `to` are byte places of the source.
+/// What of a physical line of a logical line is tokenised. `from` and `to` are byte places of the source.
 #[derive(Clone, Copy, Debug, PartialEq, Eq)]
 pub struct Part {
     /// The number of the physical line in which it lies, from 1.

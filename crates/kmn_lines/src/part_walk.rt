@@ -3,10 +3,10 @@
 ghost use Rattle.std.specs.Prelude.{◌≡◌, ◌+◌, ◌^◌, ◌<◌, ◌≤◌, length};
 
 use crate::bytes::{before, behind, is_all_blank};
+use crate::line_state::PhysicalLine;
 use crate::logical::Part;
-use crate::piece::piece_at;
+use crate::physical_line::physical_line_at;
 use crate::prefix::{dropped, is_skipped};
-use crate::reading::Piece;
 
 /// The parts of a logical line.
 #[derive(Clone, Copy)]
@@ -25,27 +25,27 @@ pub struct Parts<'a> {
 }
 
 impl Parts<'_> {
-    ghost use Rattle.kmn_lines.specs.Lines.{part_behind, piece_text};
+    ghost use Rattle.kmn_lines.specs.Lines.{part_behind, physical_text};
 
     /// A physical line as a part, without some first bytes.
-    fn part_behind(count: usize, piece: Piece) -> Part
-        requires from { piece.from + count < 2 ^ 32 }
-        requires to { piece.to < 2 ^ 32 }
-        ensures { result ≡ part_behind count piece }
+    fn part_behind(count: usize, physical: PhysicalLine) -> Part
+        requires from { physical.from + count < 2 ^ 32 }
+        requires to { physical.to < 2 ^ 32 }
+        ensures { result ≡ part_behind count physical }
     {
         Part {
-            line: piece.line,
-            from: (piece.from + count) as u32,
-            to: piece.to as u32,
+            line: physical.line,
+            from: (physical.from + count) as u32,
+            to: physical.to as u32,
         }
     }
 
     /// The text of a physical line.
-    fn text<'b>(bytes: &'b [u8], piece: &Piece) -> &'b [u8]
-        ensures is { result.now ≡ piece_text bytes.now piece.now }
+    fn text<'b>(bytes: &'b [u8], physical: &PhysicalLine) -> &'b [u8]
+        ensures is { result.now ≡ physical_text bytes.now physical.now }
         ensures within { length result.now ≤ length bytes.now }
     {
-        behind(before(bytes, piece.to), piece.from)
+        behind(before(bytes, physical.to), physical.from)
     }
 }
 
@@ -63,18 +63,18 @@ impl Iterator for Parts<'_> {
         if self.at == self.bytes.len() {
             return None;
         }
-        let piece = piece_at(self.bytes, self.line, self.at);
-        self.at = piece.next;
+        let physical = physical_line_at(self.bytes, self.line, self.at);
+        self.at = physical.next;
         self.line += 1;
         if self.begun {
-            return Some(Parts::part_behind(0, piece));
+            return Some(Parts::part_behind(0, physical));
         }
-        let text = Parts::text(self.bytes, &piece);
+        let text = Parts::text(self.bytes, &physical);
         if is_skipped(text) {
             self.at = self.bytes.len();
             return None;
         }
         self.begun = !is_all_blank(text);
-        Some(Parts::part_behind(dropped(text), piece))
+        Some(Parts::part_behind(dropped(text), physical))
     }
 }

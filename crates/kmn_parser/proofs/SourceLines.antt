@@ -9,11 +9,11 @@ use Rattle.std.specs.List.{list_all, list_any}
 use Rattle.kmn_base.specs.declared.codes.Code.TheVariants.{L01, L05}
 use Rattle.kmn_base.specs.declared.limits.TheConstants.{TEXT_BYTES}
 use Rattle.kmn_base.specs.declared.refusals.Refusal.{Refusal}
-use Rattle.kmn_lines.specs.declared.reading.Reading.{Reading}
-use Rattle.kmn_lines.specs.declared.reading.Piece.{Piece}
+use Rattle.kmn_lines.specs.declared.line_state.LineState.{LineState}
+use Rattle.kmn_lines.specs.declared.line_state.PhysicalLine.{PhysicalLine}
 use Rattle.kmn_lines.specs.declared.logical.Logical.{Logical}
 use Rattle.kmn_lines.specs.Bytes.{first_or_end}
-use Rattle.kmn_lines.specs.Lines.{ends_line, line_start, after_byte, piece, pieces, extended, gather, logicals, mark_size}
+use Rattle.kmn_lines.specs.Lines.{ends_line, line_start, after_byte, physical_line, physical_lines, extended, gather, logicals, mark_size}
 use Rattle.kmn_lines.specs.Tokens.{line_tokens, refusal, tokens_refusal}
 use Rattle.rule_model.specs.declared.program.StoreDef.{StoreDef}
 use Rattle.rule_model.specs.declared.program.BeginDef.{BeginDef}
@@ -74,17 +74,17 @@ LinesFrom low [] = Unit {0}
 LinesFrom low (line ∷ lines) = (low ≤ line.first_line) × LinesFrom (line.first_line + 1) lines
 
 -- physical lines are numbered one by one
-abbrev pub PiecesFrom : ℕ → List Piece → Type 0
-PiecesFrom n [] = Unit {0}
-PiecesFrom n (p ∷ ps) = (p.line ≡ n) × PiecesFrom (n + 1) ps
+abbrev pub PhysicalLinesFrom : ℕ → List PhysicalLine → Type 0
+PhysicalLinesFrom n [] = Unit {0}
+PhysicalLinesFrom n (p ∷ ps) = (p.line ≡ n) × PhysicalLinesFrom (n + 1) ps
 
-pub pieces_from : (line from : ℕ) (r : Reading) (at : ℕ) (bytes : List ℕ) → PiecesFrom line (pieces line from r at bytes)
-pieces_from line from r at [] =
-    elim (from == at) as (λ b. PiecesFrom line (if b then [] else piece line from at at r ∷ [])) [ true ↦ tt | false ↦ (refl, tt) ]
-pieces_from line from r at (byte ∷ bytes) =
-    elim (ends_line byte (first_or_end bytes)) as (λ b. PiecesFrom line (if b then piece line from at (at + 1) r ∷ pieces (line + 1) (at + 1) line_start (at + 1) bytes else pieces line from (after_byte r at byte (first_or_end bytes)) (at + 1) bytes)) [
-      | true ↦ (refl, pieces_from (line + 1) (at + 1) line_start (at + 1) bytes)
-      | false ↦ pieces_from line from (after_byte r at byte (first_or_end bytes)) (at + 1) bytes
+pub physical_lines_from : (line from : ℕ) (r : LineState) (at : ℕ) (bytes : List ℕ) → PhysicalLinesFrom line (physical_lines line from r at bytes)
+physical_lines_from line from r at [] =
+    elim (from == at) as (λ b. PhysicalLinesFrom line (if b then [] else physical_line line from at at r ∷ [])) [ true ↦ tt | false ↦ (refl, tt) ]
+physical_lines_from line from r at (byte ∷ bytes) =
+    elim (ends_line byte (first_or_end bytes)) as (λ b. PhysicalLinesFrom line (if b then physical_line line from at (at + 1) r ∷ physical_lines (line + 1) (at + 1) line_start (at + 1) bytes else physical_lines line from (after_byte r at byte (first_or_end bytes)) (at + 1) bytes)) [
+      | true ↦ (refl, physical_lines_from (line + 1) (at + 1) line_start (at + 1) bytes)
+      | false ↦ physical_lines_from line from (after_byte r at byte (first_or_end bytes)) (at + 1) bytes
     ]
 
 pub LinesFrom-less : (low high : ℕ) (lines : List Logical) → low ≤ high → LinesFrom high lines → LinesFrom low lines
@@ -92,11 +92,11 @@ LinesFrom-less low high [] le from = tt
 LinesFrom-less low high (line ∷ lines) le (here, rest) = (omega (arith, here, le), rest)
 
 -- the logical lines of physical lines from a number on, behind one that was begun before
-abbrev pub GathersFrom : ℕ → ℕ → Option Logical → List Piece → Type 0
+abbrev pub GathersFrom : ℕ → ℕ → Option Logical → List PhysicalLine → Type 0
 GathersFrom low n None ps = low ≡ n → LinesFrom low (gather None ps)
 GathersFrom low n (Some line) ps = low ≤ line.first_line → line.first_line < n → LinesFrom low (gather (Some line) ps)
 
-pub gather_from : (low n : ℕ) (begun : Option Logical) (ps : List Piece) → PiecesFrom n ps → GathersFrom low n begun ps
+pub gather_from : (low n : ℕ) (begun : Option Logical) (ps : List PhysicalLine) → PhysicalLinesFrom n ps → GathersFrom low n begun ps
 gather_from low n None [] from = λ e. tt
 gather_from low n (Some line) [] from = λ le lt. (le, tt)
 gather_from low n None (p ∷ ps) (here, rest) = λ e.
@@ -113,7 +113,7 @@ gather_from low n (Some line) (p ∷ ps) (here, rest) = λ le lt.
 -- the logical lines of a source rise from 1
 pub logicals_from : (source : List ℕ) → LinesFrom 1 (logicals source)
 unfolding logicals
-logicals_from source = gather_from 1 1 None _ (pieces_from 1 (mark_size source) line_start (mark_size source) (drop (mark_size source) source)) refl
+logicals_from source = gather_from 1 1 None _ (physical_lines_from 1 (mark_size source) line_start (mark_size source) (drop (mark_size source) source)) refl
 
 -- the groups' lines stay, and the rules' lines get one more
 pub group_lines-with_rule : (groups : List GroupDef) (rule : RuleDef) → group_lines (with_rule groups rule) ≡ group_lines groups

@@ -1,8 +1,8 @@
-//! What is known of a physical line while its bytes are read, and the piece that it gives.
+//! A physical line, and what is known of it while its bytes are read.
 
 /// What is known of a physical line after its bytes so far.
 #[derive(Clone, Copy, Debug, PartialEq, Eq)]
-pub struct Reading {
+pub struct LineState {
     /// The quote that is open.
     pub quote: Option<u8>,
     /// Whether the byte before was a blank, or the line begins here.
@@ -15,7 +15,7 @@ pub struct Reading {
 
 /// A physical line. `from`, `to` and `next` are byte places of the source.
 #[derive(Clone, Copy, Debug, PartialEq, Eq)]
-pub struct Piece {
+pub struct PhysicalLine {
     /// Its number, from 1.
     pub line: u32,
     pub from: usize,

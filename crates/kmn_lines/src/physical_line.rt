@@ -1,11 +1,11 @@
 //! One physical line at a time.
 
 ghost use Rattle.std.specs.Prelude.{◌≡◌, ◌+◌, ◌^◌, ◌<◌, ◌∷◌, length};
-ghost use Rattle.kmn_lines.specs.Lines.{ends_line, starts_comment, line_start, outside, after_byte, piece, pieces_at};
-ghost use Rattle.kmn_lines.specs.Places.{IsPieceWithin};
+ghost use Rattle.kmn_lines.specs.Lines.{ends_line, starts_comment, line_start, outside, after_byte, physical_line, physical_lines_at};
+ghost use Rattle.kmn_lines.specs.Places.{IsPhysicalLineWithin};
 
 use crate::bytes::{byte_or_end, is_blank, is_quote};
-use crate::reading::{Piece, Reading};
+use crate::line_state::{LineState, PhysicalLine};
 
 /// Whether a byte ends its physical line, by the byte that comes next.
 fn ends_line(byte: u8, next: u8) -> bool
@@ -24,10 +24,10 @@ fn starts_comment(after_blank: bool, byte: u8, next: u8) -> bool
 }
 
 /// The start of a physical line.
-fn line_start() -> Reading
+fn line_start() -> LineState
     ensures { result ≡ line_start }
 {
-    Reading {
+    LineState {
         quote: None,
         after_blank: true,
         slash: None,
@@ -35,90 +35,90 @@ fn line_start() -> Reading
     }
 }
 
-fn outside(reading: Reading, at: usize, byte: u8, next: u8) -> Reading
-    ensures { result ≡ outside reading at byte next }
+fn outside(state: LineState, at: usize, byte: u8, next: u8) -> LineState
+    ensures { result ≡ outside state at byte next }
 {
     if is_blank(byte) {
-        Reading {
+        LineState {
             after_blank: true,
-            ..reading
+            ..state
         }
-    } else if starts_comment(reading.after_blank, byte, next) {
-        Reading {
+    } else if starts_comment(state.after_blank, byte, next) {
+        LineState {
             slash: None,
             stop: Some(at),
-            ..reading
+            ..state
         }
     } else if byte == b'\\' {
-        Reading {
+        LineState {
             after_blank: false,
             slash: Some(at),
-            ..reading
+            ..state
         }
     } else {
-        Reading {
+        LineState {
             quote: is_quote(byte).then_some(byte),
             after_blank: false,
             slash: None,
-            ..reading
+            ..state
         }
     }
 }
 
 /// What is known after a byte that does not end the line.
-fn after_byte(reading: Reading, at: usize, byte: u8, next: u8) -> Reading
-    ensures { result ≡ after_byte reading at byte next }
+fn after_byte(state: LineState, at: usize, byte: u8, next: u8) -> LineState
+    ensures { result ≡ after_byte state at byte next }
 {
-    if reading.stop.is_some() {
-        return reading;
+    if state.stop.is_some() {
+        return state;
     }
     if byte == b'\r' {
-        return Reading {
+        return LineState {
             stop: Some(at),
-            ..reading
+            ..state
         };
     }
-    match reading.quote {
-        None => outside(reading, at, byte, next),
-        Some(quote) if byte == quote => Reading {
+    match state.quote {
+        None => outside(state, at, byte, next),
+        Some(quote) if byte == quote => LineState {
             quote: None,
-            ..reading
+            ..state
         },
-        Some(_) => reading,
+        Some(_) => state,
     }
 }
 
 /// The physical line that has been read up to a place.
-fn piece(line: u32, from: usize, at: usize, next: usize, reading: Reading) -> Piece
-    ensures { result ≡ piece line from at next reading }
+fn physical_line(line: u32, from: usize, at: usize, next: usize, state: LineState) -> PhysicalLine
+    ensures { result ≡ physical_line line from at next state }
 {
-    Piece {
+    PhysicalLine {
         line,
         from,
-        to: reading.slash.unwrap_or(reading.stop.unwrap_or(at)),
+        to: state.slash.unwrap_or(state.stop.unwrap_or(at)),
         next,
-        joined: reading.slash.is_some(),
+        joined: state.slash.is_some(),
     }
 }
 
 /// The physical line of a number at a place before the end.
-pub(crate) fn piece_at(bytes: &[u8], line: u32, from: usize) -> Piece
+pub(crate) fn physical_line_at(bytes: &[u8], line: u32, from: usize) -> PhysicalLine
     requires { from < length bytes.now }
-    ensures is { pieces_at line from bytes.now ≡ result ∷ pieces_at (line + 1) result.next bytes.now }
+    ensures is { physical_lines_at line from bytes.now ≡ result ∷ physical_lines_at (line + 1) result.next bytes.now }
     ensures line { result.line ≡ line }
     ensures from { result.from ≡ from }
-    ensures within { IsPieceWithin from (length bytes.now) result }
+    ensures within { IsPhysicalLineWithin from (length bytes.now) result }
 {
-    let mut reading = line_start();
+    let mut state = line_start();
     let mut at = from;
     while at < bytes.len() {
         let byte = bytes[at];
         let next = byte_or_end(bytes, at + 1);
         if ends_line(byte, next) {
-            return piece(line, from, at, at + 1, reading);
+            return physical_line(line, from, at, at + 1, state);
         }
-        reading = after_byte(reading, at, byte, next);
+        state = after_byte(state, at, byte, next);
         at += 1;
     }
-    piece(line, from, at, at, reading)
+    physical_line(line, from, at, at, state)
 }
