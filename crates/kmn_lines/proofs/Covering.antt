@@ -4,7 +4,8 @@ use Rattle.std.specs.Prelude.{All}
 use Rattle.std.specs.List.{list_all}
 use Rattle.std.proofs.lemmas.List.{length-take}
 use Rattle.std.proofs.lemmas.List.Elements.{All-cons, All-nil}
-use Rattle.kmn_lines.specs.Bytes.{is_blank, first_or_end}
+use Rattle.kmn_base.specs.Bytes.{is_blank}
+use Rattle.kmn_lines.specs.Bytes.{first_or_end}
 use Rattle.kmn_lines.specs.Lines.{parts_in}
 use Rattle.kmn_lines.specs.Tokens.{token_size, token_text, token_at, scanned, part_text, parts_tokens, line_tokens}
 use Rattle.kmn_lines.specs.Laws.{IsBlankText, IsPlain, Covers, CoversParts, TokensCoverParts, WordsArePlain}

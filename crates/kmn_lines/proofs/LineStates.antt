@@ -3,7 +3,8 @@ use Rattle.std.proofs.Common.{◌≡◌, ℕ, ◌+◌, ◌<◌, ◌≤◌, Bool,
 use Rattle.std.specs.Prelude.{IfSome}
 use Rattle.kmn_lines.specs.declared.line_state.LineState.{LineState}
 use Rattle.kmn_lines.specs.declared.line_state.PhysicalLine.{PhysicalLine}
-use Rattle.kmn_lines.specs.Bytes.{is_blank, first_or_end}
+use Rattle.kmn_base.specs.Bytes.{is_blank}
+use Rattle.kmn_lines.specs.Bytes.{first_or_end}
 use Rattle.kmn_lines.specs.Lines.{starts_comment, outside, in_line, after_byte, ends_line, physical_lines}
 use Rattle.kmn_lines.specs.Places.{IsBetween}
 

@@ -3,7 +3,8 @@ use Rattle.std.proofs.Common.{◌≡◌, ℕ, zero, suc, ◌+◌, ◌<◌, ◌�
 use Rattle.std.specs.Prelude.{◌≢◌, nat_le, All, unwrap_or}
 use Rattle.std.proofs.lemmas.Bool.{ne_eqb, leb-true}
 use Rattle.std.proofs.lemmas.List.Elements.{All-cons, All-nil}
-use Rattle.kmn_lines.specs.Bytes.{is_blank, is_quote, first_or_end, hex_digit}
+use Rattle.kmn_base.specs.Bytes.{is_blank, is_quote, hex_digit}
+use Rattle.kmn_lines.specs.Bytes.{first_or_end}
 use Rattle.kmn_lines.specs.Tokens.{single, is_unequal, in_word, word_size, quoted_size, starts_number, token_size, plain_kind, token_kind}
 use Rattle.kmn_lines.specs.Laws.{IsPlain}
 use Rattle.kmn_lines.specs.declared.token.TokenKind.{TokenKind}

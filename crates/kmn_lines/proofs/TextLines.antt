@@ -10,11 +10,13 @@ use Rattle.std.proofs.lemmas.List.Elements.{All-cons, All-nil, All-head, All-tai
 use Rattle.std.proofs.lemmas.Slice.Eq.{bytes_eq-Decides}
 use Rattle.std.proofs.lemmas.Str.{IsUtf8-take, IsUtf8-drop, IsCharBoundary-start, IsCharBoundary-before_ascii, IsCharBoundary-after_ascii, IsCharBoundary-from_take}
 use Rattle.kmn_lines.specs.declared.line_state.LineState.{LineState}
+use Rattle.kmn_base.specs.Names.{same_name}
 use Rattle.kmn_lines.specs.declared.line_state.PhysicalLine.{PhysicalLine}
 use Rattle.kmn_lines.specs.declared.logical.Logical.{Logical}
 use Rattle.kmn_lines.specs.declared.logical.Part.{Part}
-use Rattle.kmn_lines.specs.Bytes.{is_blank, first_or_end}
-use Rattle.kmn_lines.specs.Lines.{ends_line, starts_comment, line_start, outside, in_line, after_byte, physical_line, physical_lines, physical_lines_at, extended, gather, mark_size, logicals, blanks, begins_with, same_word, is_skipped, dropped, physical_text, part_behind, opening_parts, parts_in}
+use Rattle.kmn_base.specs.Bytes.{is_blank}
+use Rattle.kmn_lines.specs.Bytes.{first_or_end}
+use Rattle.kmn_lines.specs.Lines.{ends_line, starts_comment, line_start, outside, in_line, after_byte, physical_line, physical_lines, physical_lines_at, extended, gather, mark_size, logicals, blanks, begins_with, is_skipped, dropped, physical_text, part_behind, opening_parts, parts_in}
 use Rattle.kmn_lines.specs.Tokens.{line_tokens}
 use Rattle.kmn_lines.specs.Places.{IsPlaced}
 use Rattle.kmn_lines.specs.Laws.{bytes_between, TokensAreText}
@@ -153,7 +155,7 @@ lower-small false false c e = omega arith
 
 -- a prefix ends between characters
 prefix-boundary : (text word : List ℕ) (m : ℕ) → IsUtf8 text → length word ≡ suc m → get_or (str_to_ascii_lowercase word) m 0 ≡ 58 → begins_with (drop (blanks text) text) word ≡ true → IsCharBoundary text (blanks text + suc m)
-unfolding same_word
+unfolding same_name
 prefix-boundary text word m utf long colon h =
     let words : List ℕ = drop (blanks text) text in
     let taken : List ℕ = take (length word) words in

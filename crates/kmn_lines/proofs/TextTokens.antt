@@ -5,7 +5,8 @@ use Rattle.std.proofs.lemmas.Bool.{eqb-true, cases_lt}
 use Rattle.std.proofs.lemmas.List.{length-take, drop-take, take-take, get_or-drop}
 use Rattle.std.proofs.lemmas.List.Elements.{All-cons, All-nil, All-append, All-weaker, All-head, All-tail}
 use Rattle.std.proofs.lemmas.Str.{IsUtf8-take, IsUtf8-drop, IsCharBoundary-end, IsCharBoundary-before_ascii, IsCharBoundary-after_ascii}
-use Rattle.kmn_lines.specs.Bytes.{is_blank, is_quote, first_or_end}
+use Rattle.kmn_base.specs.Bytes.{is_blank, is_quote}
+use Rattle.kmn_lines.specs.Bytes.{first_or_end}
 use Rattle.kmn_lines.specs.Tokens.{single, is_unequal, in_word, word_size, quoted_size, starts_number, token_size, token_at, scanned, part_text, parts_tokens}
 use Rattle.kmn_lines.specs.Laws.{IsPlain, bytes_between}
 use Rattle.kmn_lines.specs.declared.logical.Part.{Part}

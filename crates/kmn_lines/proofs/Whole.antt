@@ -6,11 +6,12 @@ use Rattle.std.specs.Char.{to_ascii_lowercase}
 use Rattle.std.specs.Str.{str_to_ascii_lowercase}
 use Rattle.std.proofs.lemmas.List.{append-nil, length-take, length-map, drop-append-le, take-append-drop}
 use Rattle.std.proofs.lemmas.Slice.Eq.{bytes_eq-Decides}
+use Rattle.kmn_base.specs.Names.{same_name}
 use Rattle.kmn_lines.specs.declared.line_state.PhysicalLine.{PhysicalLine}
 use Rattle.kmn_lines.specs.declared.logical.Logical.{Logical}
 use Rattle.kmn_lines.specs.declared.logical.Part.{Part}
-use Rattle.kmn_lines.specs.Bytes.{is_blank}
-use Rattle.kmn_lines.specs.Lines.{physical_lines_at, extended, gather, mark_size, logicals, blanks, same_word, begins_with, is_skipped, dropped, physical_text, part_behind, opening_parts, parts_in}
+use Rattle.kmn_base.specs.Bytes.{is_blank}
+use Rattle.kmn_lines.specs.Lines.{physical_lines_at, extended, gather, mark_size, logicals, blanks, begins_with, is_skipped, dropped, physical_text, part_behind, opening_parts, parts_in}
 use Rattle.kmn_lines.specs.Laws.{bytes_between, PhysicalLinesMakeTheSource, LinesMakeTheSource, InOrder, PartsStandInOrder}
 use Rattle.kmn_lines.proofs.Placed.{InRow, physical_lines_at-in_row}
 
@@ -92,7 +93,7 @@ lines_make_the_source source =
     ∙ take-append-drop (mark_size source) source
 
 pub begins-long : (words word : List ℕ) → begins_with words word ≡ true → length word ≤ length words
-unfolding same_word
+unfolding same_name
 begins-long words word h =
     let e : str_to_ascii_lowercase (take (length word) words) ≡ str_to_ascii_lowercase word = (bytes_eq-Decides _ _).0 h in
     let f : length (take (length word) words) ≡ length word =

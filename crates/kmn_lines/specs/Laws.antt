@@ -1,7 +1,7 @@
 -- The laws of lines and tokens, in words that do not speak of how a text is read.
 use Rattle.std.specs.Prelude.{◌≡◌, ℕ, zero, suc, ◌+◌, ◌-◌, ◌<◌, ◌≤◌, ◌==◌, Bool, true, false, not, ◌&&◌, ◌||◌, if◌then◌else◌, List, [], ◌∷◌, ◌++◌, length, take, drop, flat_map, All, IsUtf8, is_some}
 use Rattle.std.specs.List.{list_all}
-use Rattle.kmn_lines.specs.Bytes.{is_blank, is_quote}
+use Rattle.kmn_base.specs.Bytes.{is_blank, is_quote}
 use Rattle.kmn_lines.specs.Lines.{physical_lines_at, mark_size, logicals, parts_in}
 use Rattle.kmn_lines.specs.Places.{IsPlaced}
 use Rattle.kmn_lines.specs.Tokens.{single, part_text, line_tokens}

@@ -1,8 +1,9 @@
 -- How a source is cut into physical lines, these are joined to logical lines, and what of a logical line is tokenised.
 use Rattle.std.specs.Prelude.{ℕ, ◌+◌, ◌==◌, Bool, true, false, not, ◌&&◌, ◌||◌, if◌then◌else◌, List, [], ◌∷◌, length, take, drop, map, codes, Option, None, Some, is_some, unwrap_or}
 use Rattle.std.specs.List.{list_all, starts_with}
-use Rattle.std.specs.Str.{str_eq_ignore_ascii_case}
-use Rattle.kmn_lines.specs.Bytes.{is_blank, is_quote, first_or_end}
+use Rattle.kmn_base.specs.Bytes.{is_blank, is_quote}
+use Rattle.kmn_base.specs.Names.{same_name}
+use Rattle.kmn_lines.specs.Bytes.{first_or_end}
 use Rattle.kmn_lines.specs.declared.line_state.LineState.{LineState}
 use Rattle.kmn_lines.specs.declared.line_state.PhysicalLine.{PhysicalLine}
 use Rattle.kmn_lines.specs.declared.logical.Logical.{Logical}
@@ -84,13 +85,9 @@ abbrev pub blanks : List ℕ → ℕ
 blanks [] = 0
 blanks (byte ∷ bytes) = if is_blank byte then 1 + blanks bytes else 0
 
--- two words are the same, without ASCII case
-unfoldable pub same_word : List ℕ → List ℕ → Bool
-same_word = str_eq_ignore_ascii_case
-
 -- a text begins with a word, without ASCII case
 abbrev pub begins_with : List ℕ → List ℕ → Bool
-begins_with text word = same_word (take (length word) text) word
+begins_with text word = same_name (take (length word) text) word
 
 -- words that are skipped: they begin with $keymanweb: or $kmfl:
 abbrev pub begins_other : List ℕ → Bool

@@ -4,7 +4,8 @@ use Rattle.std.specs.List.{list_any, starts_with}
 use Rattle.kmn_base.specs.declared.codes.Code.{Code}
 use Rattle.kmn_base.specs.declared.codes.Code.TheVariants.{L02, L03, L04}
 use Rattle.kmn_base.specs.declared.refusals.Refusal.{Refusal}
-use Rattle.kmn_lines.specs.Bytes.{is_blank, is_quote, first_or_end, or_else, hex_digit}
+use Rattle.kmn_base.specs.Bytes.{is_blank, is_quote, hex_digit}
+use Rattle.kmn_lines.specs.Bytes.{first_or_end, or_else}
 use Rattle.kmn_lines.specs.Lines.{parts_in}
 use Rattle.kmn_lines.specs.declared.logical.Logical.{Logical}
 use Rattle.kmn_lines.specs.declared.logical.Part.{Part}

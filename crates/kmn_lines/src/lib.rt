@@ -6,6 +6,7 @@
 #![tactic(auto)]
 
 ghost use Rattle.std.specs.Prelude.{◌≡◌, ◌≤◌, length, All};
+ghost use Rattle.kmn_base.specs.declared.limits.TheConstants.{TEXT_BYTES};
 ghost use Rattle.kmn_lines.specs.Lines.{logicals, parts_in};
 ghost use Rattle.kmn_lines.specs.Places.{IsPlaced};
 ghost use Rattle.kmn_lines.specs.Walks.{lines_left, parts_left};
@@ -22,6 +23,7 @@ mod prefix;
 mod tests;
 mod token;
 
+use kmn_base::slices::before;
 pub use line_state::{LineState, PhysicalLine};
 pub use line_walk::Lines;
 pub use logical::{Logical, Part};
@@ -32,7 +34,7 @@ pub use token::{Token, TokenKind};
 /// lie in their line, and so does its line end.
 #[tactic(auto, using(crate::proofs::Placed::lines_placed), unfolding(crate::specs::Lines::logicals))]
 pub fn lines(source: &str) -> Lines<'_>
-    requires { length source.now ≤ 4194304 }
+    requires { length source.now ≤ TEXT_BYTES }
     ensures gives { lines_left result ≡ logicals source.now }
     ensures placed { All (IsPlaced source.now) (lines_left result) }
 {
@@ -50,12 +52,12 @@ pub fn lines(source: &str) -> Lines<'_>
 /// `$kmfl:` no text comes.
 #[tactic(auto, unfolding(crate::specs::Lines::parts_in))]
 pub fn parts(source: &str, logical: Logical) -> Parts<'_>
-    requires few { length source.now ≤ 4194304 }
+    requires few { length source.now ≤ TEXT_BYTES }
     requires placed { IsPlaced source.now logical }
     ensures { parts_left result ≡ parts_in source.now logical }
 {
     Parts {
-        bytes: bytes::before(source.as_bytes(), logical.to as usize),
+        bytes: before(source.as_bytes(), logical.to as usize),
         at: logical.from as usize,
         line: logical.first_line,
         begun: false,

@@ -1,6 +1,7 @@
 //! The logical lines of a source, one by one.
 
 ghost use Rattle.std.specs.Prelude.{◌≡◌, ◌+◌, ◌≤◌, length, Some};
+ghost use Rattle.kmn_base.specs.declared.limits.TheConstants.{TEXT_BYTES};
 
 use crate::line_state::PhysicalLine;
 use crate::logical::Logical;
@@ -14,7 +15,7 @@ pub struct Lines<'a> {
     pub(crate) at: usize,
     /// Its number.
     pub(crate) line: u32,
-    ghost few: { length bytes.now ≤ 4194304 },
+    ghost few: { length bytes.now ≤ TEXT_BYTES },
     ghost within: { at ≤ length bytes.now },
     ghost counted: { line ≤ at + 1 },
 }
@@ -24,8 +25,8 @@ impl<'a> Lines<'a> {
 
     /// A logical line that a physical line begins or goes on with.
     fn extended(begun: Option<Logical>, physical: PhysicalLine) -> Logical
-        requires from { physical.from ≤ 4194304 }
-        requires to { physical.next ≤ 4194304 }
+        requires from { physical.from ≤ TEXT_BYTES }
+        requires to { physical.next ≤ TEXT_BYTES }
         ensures { result ≡ extended begun physical }
     {
         let to = physical.next as u32;

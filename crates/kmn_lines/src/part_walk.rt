@@ -1,12 +1,14 @@
 //! The parts of a logical line, one by one.
 
 ghost use Rattle.std.specs.Prelude.{◌≡◌, ◌+◌, ◌^◌, ◌<◌, ◌≤◌, length};
+ghost use Rattle.kmn_base.specs.declared.limits.TheConstants.{TEXT_BYTES};
 
-use crate::bytes::{before, behind, is_all_blank};
+use crate::bytes::is_all_blank;
 use crate::line_state::PhysicalLine;
 use crate::logical::Part;
 use crate::physical_line::physical_line_at;
 use crate::prefix::{dropped, is_skipped};
+use kmn_base::slices::{before, behind};
 
 /// The parts of a logical line.
 #[derive(Clone, Copy)]
@@ -19,7 +21,7 @@ pub struct Parts<'a> {
     pub(crate) line: u32,
     /// Whether a text that is not blank has come, before which alone a prefix may stand.
     pub(crate) begun: bool,
-    ghost few: { length bytes.now ≤ 4194304 },
+    ghost few: { length bytes.now ≤ TEXT_BYTES },
     ghost within: { at ≤ length bytes.now },
     ghost counted: { line ≤ at + 1 },
 }

@@ -4,8 +4,9 @@ ghost use Rattle.std.specs.Prelude.{◌≡◌, ◌+◌, ◌^◌, ◌<◌, ◌∷
 ghost use Rattle.kmn_lines.specs.Lines.{ends_line, starts_comment, line_start, outside, after_byte, physical_line, physical_lines_at};
 ghost use Rattle.kmn_lines.specs.Places.{IsPhysicalLineWithin};
 
-use crate::bytes::{byte_or_end, is_blank, is_quote};
+use crate::bytes::byte_or_end;
 use crate::line_state::{LineState, PhysicalLine};
+use kmn_base::bytes::{is_blank, is_quote};
 
 /// Whether a byte ends its physical line, by the byte that comes next.
 fn ends_line(byte: u8, next: u8) -> bool

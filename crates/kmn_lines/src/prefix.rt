@@ -1,9 +1,11 @@
 //! The words before the text of a logical line that are not read, or with which it is not read.
 
 ghost use Rattle.std.specs.Prelude.{◌≡◌, ◌+◌, ◌≤◌, length};
-ghost use Rattle.kmn_lines.specs.Lines.{blanks, same_word, begins_with, begins_other, is_skipped, dropped};
+ghost use Rattle.kmn_lines.specs.Lines.{blanks, begins_with, begins_other, is_skipped, dropped};
 
-use crate::bytes::{before, behind, is_blank};
+use kmn_base::bytes::is_blank;
+use kmn_base::names::same_name;
+use kmn_base::slices::{before, behind};
 
 /// How many blanks a text begins with.
 fn blanks(text: &[u8]) -> usize
@@ -17,19 +19,11 @@ fn blanks(text: &[u8]) -> usize
     count
 }
 
-/// Whether two words are the same, without ASCII case.
-#[tactic(auto, unfolding(crate::specs::Lines::same_word))]
-fn same_word(text: &[u8], word: &[u8]) -> bool
-    ensures { result ≡ same_word text.now word.now }
-{
-    text.eq_ignore_ascii_case(word)
-}
-
 /// Whether a text begins with a word, without ASCII case.
 fn begins_with(text: &[u8], word: &[u8]) -> bool
     ensures { result ≡ begins_with text.now word.now }
 {
-    same_word(before(text, word.len()), word)
+    same_name(before(text, word.len()), word)
 }
 
 /// Whether these words are skipped.

@@ -2,9 +2,10 @@
 //! LF, § for CR, ¬ for a tab and † for U+FEFF.
 
 ghost use Rattle.std.specs.Prelude.{◌≤◌, length};
+ghost use Rattle.kmn_base.specs.declared.limits.TheConstants.{TEXT_BYTES};
 
-use crate::bytes::{before, behind};
 use crate::{Part, lines, parts};
+use kmn_base::slices::{before, behind};
 use std::alloc::{AllocError, Global};
 use std::test::Fail;
 
@@ -82,7 +83,7 @@ fn show_part(alloc: Global, out: &mut Vec<u8>, source: &str, part: Part) -> Resu
 
 /// The lines and parts of a source.
 fn shown(alloc: Global, source: &str) -> Result<Vec<u8>, AllocError>
-    requires { length source.now ≤ 4194304 }
+    requires { length source.now ≤ TEXT_BYTES }
 {
     let mut out = Vec::new(alloc);
     for logical in lines(source) {

@@ -1,7 +1,8 @@
 -- One step of a scan: the token that the bytes begin with, and what is left behind it.
 use Rattle.std.proofs.Common.{◌≡◌, ℕ, zero, suc, ◌+◌, ◌-◌, ◌<◌, ◌≤◌, Bool, true, false, ◌||◌, not, if◌then◌else◌, List, [], ◌∷◌, ◌++◌, length, take, drop, get_or, Option, None, Some, is_some, Ok, refl, sym, ◌∙◌, ap, subst, arith, append_assoc, add-one, drop-cons}
 use Rattle.kmn_base.specs.declared.codes.Code.{Code}
-use Rattle.kmn_lines.specs.Bytes.{is_blank, is_quote, first_or_end, or_else}
+use Rattle.kmn_base.specs.Bytes.{is_blank, is_quote}
+use Rattle.kmn_lines.specs.Bytes.{first_or_end, or_else}
 use Rattle.kmn_lines.specs.Tokens.{single, is_unequal, in_word, word_size, token_size, token_fault, token_at, scanned, first_fault, begins_forbidden, has_forbidden}
 use Rattle.kmn_lines.specs.declared.token.Token.{Token}
 use Rattle.kmn_tokens.specs.Scanning.{Steps}

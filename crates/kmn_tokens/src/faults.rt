@@ -7,7 +7,9 @@ ghost use Rattle.kmn_tokens.specs.Scanning.{Gives};
 use crate::numbers::number;
 use crate::sizes::{is_unequal, single, starts_number};
 use kmn_base::Code;
-use kmn_lines::bytes::{behind, byte_or_end, is_quote};
+use kmn_base::bytes::is_quote;
+use kmn_base::slices::behind;
+use kmn_lines::bytes::byte_or_end;
 use kmn_lines::{Token, TokenKind};
 
 /// Whether a text begins with U+0000 or U+FFFF.

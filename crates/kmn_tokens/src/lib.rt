@@ -6,6 +6,7 @@
 #![tactic(auto)]
 
 ghost use Rattle.std.specs.Prelude.{◌≤◌, length};
+ghost use Rattle.kmn_base.specs.declared.limits.TheConstants.{TEXT_BYTES};
 ghost use Rattle.kmn_lines.specs.Answers.{Answers};
 ghost use Rattle.kmn_lines.specs.Places.{IsPlaced};
 ghost use Rattle.kmn_lines.specs.Tokens.{line_tokens, line_refusal};
@@ -29,7 +30,7 @@ use std::alloc::Global;
 /// not 4 to 6 hexadecimal digits or is no character; of several the one at the first token. `TooLarge` never comes.
 #[tactic(auto, unfolding(kmn_lines::specs::Tokens::line_tokens, kmn_lines::specs::Tokens::line_refusal))]
 pub fn tokens(alloc: Global, source: &str, logical: Logical) -> Result<Seq<Token>, CompileError>
-    requires few { length source.now ≤ 4194304 }
+    requires few { length source.now ≤ TEXT_BYTES }
     requires placed { IsPlaced source.now logical }
     ensures { Answers (line_refusal source.now logical) (line_tokens source.now logical) result }
 {

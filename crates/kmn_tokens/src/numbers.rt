@@ -4,8 +4,8 @@ ghost use Rattle.std.specs.Prelude.{◌≡◌, ◌≤◌};
 ghost use Rattle.kmn_lines.specs.Tokens.{hex_value, all_digits, value_fault, digits_fault};
 ghost use Rattle.kmn_tokens.specs.Scanning.{Gives};
 
-use crate::sizes::hex_digit;
 use kmn_base::Code;
+use kmn_base::bytes::hex_digit;
 
 /// The number that digits write, capped past all characters.
 fn hex_value(digits: &[u8]) -> u32

@@ -1,6 +1,7 @@
 //! The scan of a logical line: one step, a part, all parts.
 
 ghost use Rattle.std.specs.Prelude.{◌≡◌, ◌+◌, ◌^◌, ◌<◌, ◌≤◌, length, drop};
+ghost use Rattle.kmn_base.specs.declared.limits.TheConstants.{TEXT_BYTES};
 ghost use Rattle.kmn_lines.specs.Tokens.{scanned, first_fault, part_text, parts_tokens, parts_fault};
 ghost use Rattle.kmn_lines.specs.Walks.{parts_left};
 ghost use Rattle.kmn_tokens.specs.Scanning.{Appends, Steps};
@@ -9,7 +10,8 @@ use crate::faults::token_at;
 use crate::sizes::token_size;
 use crate::stop::Stop;
 use kmn_base::Seq;
-use kmn_lines::bytes::{before, behind, is_blank};
+use kmn_base::bytes::is_blank;
+use kmn_base::slices::{before, behind};
 use kmn_lines::{Part, Parts, Token};
 
 /// Appends the token with which the bytes from a place on begin, none at a blank, and answers how far it reaches.
@@ -33,7 +35,7 @@ fn add_next(out: &mut Seq<Token>, line: u32, at: usize, bytes: &[u8]) -> Result<
 
 /// Appends the tokens of the bytes from a place on.
 fn add_tokens(out: &mut Seq<Token>, line: u32, from: usize, bytes: &[u8]) -> Result<(), Stop>
-    requires { length bytes.now ≤ 4194304 }
+    requires { length bytes.now ≤ TEXT_BYTES }
     ensures { Appends out.old out.new (first_fault 0 (drop from bytes.now)) (scanned line 0 from (drop from bytes.now)) result }
 {
     let mut at = from;
@@ -48,7 +50,7 @@ fn add_tokens(out: &mut Seq<Token>, line: u32, from: usize, bytes: &[u8]) -> Res
 
 /// Appends the tokens of parts of a source.
 pub(crate) fn add_all(out: &mut Seq<Token>, source: &[u8], walk: Parts<'_>) -> Result<(), Stop>
-    requires { length source.now ≤ 4194304 }
+    requires { length source.now ≤ TEXT_BYTES }
     ensures { Appends out.old out.new (parts_fault source.now (parts_left walk.entry)) (parts_tokens source.now (parts_left walk.entry)) result }
 {
     for part in walk {

@@ -1,11 +1,14 @@
 //! How far the token reaches that a text begins with.
 
 ghost use Rattle.std.specs.Prelude.{◌≡◌, ◌<◌, ◌≤◌, length, true, false};
-ghost use Rattle.kmn_lines.specs.Bytes.{is_blank, first_or_end, hex_digit};
+ghost use Rattle.kmn_base.specs.Bytes.{is_blank, hex_digit};
+ghost use Rattle.kmn_lines.specs.Bytes.{first_or_end};
 ghost use Rattle.kmn_lines.specs.Tokens.{single, is_unequal, in_word, word_size, quoted_size, starts_number, plain_size, token_size};
 
+use kmn_base::bytes::{hex_digit, is_blank, is_quote};
+use kmn_base::slices::behind;
 use kmn_lines::TokenKind;
-use kmn_lines::bytes::{behind, byte_or_end, is_blank, is_quote};
+use kmn_lines::bytes::byte_or_end;
 
 /// The byte as a token by itself.
 pub(crate) fn single(byte: u8) -> Option<TokenKind>
@@ -64,18 +67,6 @@ fn quoted_size(quote: u8, text: &[u8]) -> usize
         }
     }
     size
-}
-
-/// The value of a hexadecimal digit.
-pub(crate) fn hex_digit(byte: u8) -> Option<u32>
-    ensures { result ≡ hex_digit byte }
-{
-    match byte {
-        b'0'..=b'9' => Some(byte as u32 - 48),
-        b'A'..=b'F' => Some(byte as u32 - 55),
-        b'a'..=b'f' => Some(byte as u32 - 87),
-        _ => None,
-    }
 }
 
 /// Whether a text begins with `U+` and a hexadecimal digit.

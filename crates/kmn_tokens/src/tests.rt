@@ -3,11 +3,12 @@
 //! ° for U+0000 and ‡ for U+FFFF.
 
 ghost use Rattle.std.specs.Prelude.{◌≤◌, length};
+ghost use Rattle.kmn_base.specs.declared.limits.TheConstants.{TEXT_BYTES};
 ghost use Rattle.kmn_lines.specs.Places.{IsPlaced};
 
 use crate::{Token, TokenKind, tokens};
 use kmn_base::Seq;
-use kmn_lines::bytes::{before, behind};
+use kmn_base::slices::{before, behind};
 use kmn_lines::{Logical, lines};
 use std::alloc::{AllocError, Global};
 use std::test::Fail;
@@ -121,7 +122,7 @@ fn show_line(
     source: &str,
     logical: Logical,
 ) -> Result<(), AllocError>
-    requires few { length source.now ≤ 4194304 }
+    requires few { length source.now ≤ TEXT_BYTES }
     requires placed { IsPlaced source.now logical }
 {
     match tokens(alloc, source, logical) {
@@ -135,7 +136,7 @@ fn show_line(
 
 /// The tokens or refusals of the lines of a source.
 fn shown(alloc: Global, source: &str) -> Result<Vec<u8>, AllocError>
-    requires { length source.now ≤ 4194304 }
+    requires { length source.now ≤ TEXT_BYTES }
 {
     let mut out = Vec::new(alloc);
     for logical in lines(source) {

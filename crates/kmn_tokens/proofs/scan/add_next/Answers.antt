@@ -1,5 +1,5 @@
 use Rattle.std.proofs.Common.{◌≡◌, false, get_or, ap, sym, ◌∙◌}
-use Rattle.kmn_lines.specs.Bytes.{is_blank}
+use Rattle.kmn_base.specs.Bytes.{is_blank}
 use Rattle.kmn_tokens.proofs.Scans.{first_is, step_on, stops_at}
 use Rattle.kmn_tokens.proofs.scan.add_next.Goals as goal
 
