@@ -13,7 +13,7 @@ use Rattle.kmn_lines.specs.declared.token.Token.{Token}
 use Rattle.rule_model.specs.declared.program.RuleDef.{RuleDef}
 use Rattle.rule_model.specs.declared.program.GroupDef.{GroupDef}
 use Rattle.kmn_parser.specs.declared.statement.Sign.{Sign}
-use Rattle.kmn_parser.specs.Told.{told}
+use Rattle.kmn_items.specs.Told.{told}
 use Rattle.kmn_parser.specs.Line.{is_sign, place_of}
 use Rattle.kmn_parser.specs.Source.{with_rule, read_text, parsed}
 

@@ -21,12 +21,13 @@ use Rattle.rule_model.specs.declared.program.RuleDef.{RuleDef}
 use Rattle.rule_model.specs.declared.program.GroupDef.{GroupDef}
 use Rattle.rule_model.specs.declared.program.Program.{Program}
 use Rattle.rule_model.specs.WellNamed.{have_own_lines}
-use Rattle.kmn_parser.specs.declared.syntax.Fault.{Fault}
+use Rattle.kmn_items.specs.declared.syntax.Fault.{Fault}
 use Rattle.kmn_parser.specs.declared.statement.Statement.{Statement}
 use Rattle.kmn_parser.specs.declared.statement.Statement.TheVariants as statement
-use Rattle.kmn_parser.specs.Told.{told}
+use Rattle.kmn_items.specs.Told.{told}
+use Rattle.kmn_base.specs.Rising.{AllAbove, Rises, times}
 use Rattle.kmn_parser.specs.Source.{at_line, line_statement, group_after, with_rule, with_statement, no_program, read_lines, read_text, parsed}
-use Rattle.kmn_parser.specs.SourceLaws.{store_lines, begin_lines, group_lines, lines_of_rules, rule_lines, StandsAt, AllAbove, Rises, times, statements_at, has_own_lines, IsInOrder, StatementsAreInOrder}
+use Rattle.kmn_parser.specs.SourceLaws.{store_lines, begin_lines, group_lines, lines_of_rules, rule_lines, StandsAt, statements_at, has_own_lines, IsInOrder, StatementsAreInOrder}
 use Rattle.kmn_parser.proofs.StatedLines.{ReadsAt, line-at}
 
 -- each number is below another

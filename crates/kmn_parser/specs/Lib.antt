@@ -1,13 +1,3 @@
-pub mod Told
-pub mod Words
-pub mod Numbers
-pub mod Slots
-pub mod Leads
-pub mod Standing
-pub mod Forms
-pub mod Brackets
-pub mod Item
 pub mod Line
 pub mod Source
 pub mod SourceLaws
-pub mod ItemLaws

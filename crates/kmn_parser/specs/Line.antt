@@ -13,17 +13,17 @@ use Rattle.rule_model.specs.declared.program.StoreDef.{StoreDef}
 use Rattle.rule_model.specs.declared.program.RuleDef.{RuleDef}
 use Rattle.rule_model.specs.declared.program.RuleKind.{RuleKind}
 use Rattle.rule_model.specs.declared.program.RuleKind.TheVariants.{Plain, OnMatch, OnNoMatch}
-use Rattle.kmn_parser.specs.declared.syntax.Fault.{Fault}
-use Rattle.kmn_parser.specs.declared.syntax.Slot.TheVariants as slot
-use Rattle.kmn_parser.specs.declared.syntax.Where.TheVariants as section
+use Rattle.kmn_items.specs.declared.syntax.Fault.{Fault}
+use Rattle.kmn_items.specs.declared.syntax.Slot.TheVariants as slot
+use Rattle.kmn_items.specs.declared.syntax.Where.TheVariants as section
 use Rattle.kmn_parser.specs.declared.statement.Sign.{Sign}
 use Rattle.kmn_parser.specs.declared.statement.Sign.TheVariants as sign
 use Rattle.kmn_parser.specs.declared.statement.Statement.{Statement}
 use Rattle.kmn_parser.specs.declared.statement.Statement.TheVariants as statement
-use Rattle.kmn_parser.specs.Told.{LineToken, fault, text_at, begins_open, is_quoted, is_word, is_number, and_then}
-use Rattle.kmn_parser.specs.Words.{is_system_name, bare_name}
-use Rattle.kmn_parser.specs.Slots.{unless, broken}
-use Rattle.kmn_parser.specs.Item.{unseen, is_item_word, read_items, read_key}
+use Rattle.kmn_items.specs.Told.{LineToken, fault, text_at, begins_open, is_quoted, is_word, is_number, and_then}
+use Rattle.kmn_items.specs.Words.{is_system_name, bare_name}
+use Rattle.kmn_items.specs.Slots.{unless, broken}
+use Rattle.kmn_items.specs.Item.{unseen, is_item_word, read_items, read_key}
 
 -- the signs that part a statement
 abbrev pub is_sign : Sign → TokenKind → Bool

@@ -12,10 +12,10 @@ use Rattle.kmn_lines.specs.declared.logical.Logical.{Logical}
 use Rattle.rule_model.specs.declared.program.RuleDef.{RuleDef}
 use Rattle.rule_model.specs.declared.program.GroupDef.{GroupDef}
 use Rattle.rule_model.specs.declared.program.Program.{Program}
-use Rattle.kmn_parser.specs.declared.syntax.Fault.{Fault}
+use Rattle.kmn_items.specs.declared.syntax.Fault.{Fault}
 use Rattle.kmn_parser.specs.declared.statement.Statement.{Statement}
 use Rattle.kmn_parser.specs.declared.statement.Statement.TheVariants as statement
-use Rattle.kmn_parser.specs.Told.{told}
+use Rattle.kmn_items.specs.Told.{told}
 use Rattle.kmn_parser.specs.Line.{read_line}
 
 -- what is read of a line with this number, a fault as its refusal

@@ -1,7 +1,7 @@
 -- The laws of programs that are read from a source.
-use Rattle.std.specs.Prelude.{◌≡◌, ℕ, ◌+◌, ◌==◌, ◌<◌, ◌≤◌, Bool, true, if◌then◌else◌, List, [], ◌∷◌, length, drop, map, flat_map, Ok}
+use Rattle.std.specs.Prelude.{◌≡◌, ℕ, ◌+◌, ◌≤◌, Bool, true, List, [], map, flat_map, Ok}
 use Rattle.std.specs.List.{list_all}
-use Rattle.rule_model.specs.declared.program.SrcItem.{SrcItem}
+use Rattle.kmn_base.specs.Rising.{Rises, times}
 use Rattle.rule_model.specs.declared.program.StoreDef.{StoreDef}
 use Rattle.rule_model.specs.declared.program.BeginDef.{BeginDef}
 use Rattle.rule_model.specs.declared.program.RuleDef.{RuleDef}
@@ -10,11 +10,6 @@ use Rattle.rule_model.specs.declared.program.Program.{Program}
 use Rattle.rule_model.specs.WellNamed.{have_own_lines}
 use Rattle.kmn_parser.specs.declared.statement.Statement.{Statement}
 use Rattle.kmn_parser.specs.declared.statement.Statement.TheVariants as statement
-use Rattle.kmn_parser.specs.declared.syntax.Where.{Where}
-use Rattle.kmn_parser.specs.declared.syntax.Seen.{Seen}
-use Rattle.kmn_parser.specs.declared.syntax.Taken.{Taken}
-use Rattle.kmn_parser.specs.Told.{LineToken}
-use Rattle.kmn_parser.specs.Item.{read_item, read_items}
 use Rattle.kmn_parser.specs.Source.{parsed}
 
 -- the numbers of the lines of each kind of statement, in their order in the program
@@ -42,21 +37,6 @@ StandsAt line (statement.Begin start) = start.line ≡ line
 StandsAt line (statement.Group group) = (group.line ≡ line) × (group.rules ≡ [])
 StandsAt line (statement.Rule rule) = rule.line ≡ line
 
--- each number is above another
-abbrev pub AllAbove : ℕ → List ℕ → Type 0
-AllAbove low [] = Unit {0}
-AllAbove low (n ∷ ns) = (low < n) × AllAbove low ns
-
--- each number is above all before it
-abbrev pub Rises : List ℕ → Type 0
-Rises [] = Unit {0}
-Rises (n ∷ ns) = AllAbove n ns × Rises ns
-
--- how often a number stands in a list
-abbrev pub times : ℕ → List ℕ → ℕ
-times n [] = 0
-times n (m ∷ ms) = (if n == m then 1 else 0) + times n ms
-
 -- how many statements have a line
 abbrev pub statements_at : ℕ → Program → ℕ
 statements_at line program =
@@ -79,17 +59,3 @@ pub record IsInOrder (program : Program) : Type 0 where
 -- the statements of a source stand in the order of their lines, each in a line of its own
 abbrev pub StatementsAreInOrder : Type 0
 StatementsAreInOrder = (source : List ℕ) (program : Program) → parsed source ≡ Ok program → IsInOrder program
-
--- tokens are taken up from a place of their line on: each item is read where the one before it ends, has no more tokens
--- than there are, and none is left over
-abbrev pub TakesUp : Where → Seen → ℕ → ℕ → List Taken → List LineToken → Type 0
-TakesUp place seen last at [] tokens = tokens ≡ []
-TakesUp place seen last at (taken ∷ parts) tokens =
-    (read_item place seen last at tokens ≡ Ok taken) × (taken.more < length tokens)
-    × TakesUp place taken.seen last (at + (1 + taken.more)) parts (drop (1 + taken.more) tokens)
-
--- the items of a section are those that take up its tokens
-abbrev pub TokensAreTakenUp : Type 0
-TokensAreTakenUp = (place : Where) (seen : Seen) (last at : ℕ) (tokens : List LineToken) (items : List SrcItem)
-    → read_items place seen last 0 at tokens ≡ Ok items
-    → (parts : List Taken) × TakesUp place seen last at parts tokens × (flat_map (λ (taken : Taken). taken.items) parts ≡ items)

@@ -1,15 +1,14 @@
 //! Begin and group statements.
 
 ghost use Rattle.std.specs.Prelude.{◌≡◌, ◌+◌, ◌<◌, ◌^◌, length};
-ghost use Rattle.kmn_parser.specs.Told.{told, Reads};
+ghost use Rattle.kmn_items.specs.Told.{told, Reads};
 ghost use Rattle.kmn_parser.specs.Line.{begins_kind, is_use, begin_head, begin_fault, read_begin, is_using_keys, group_head, group_fault, read_group};
 
 use crate::signs::{begins_word, behind_close, place_of};
-use crate::slots::broken;
 use crate::statement::{Sign, Statement};
-use crate::syntax::{Fault, Slot, Trouble};
-use crate::text::{begins_open, behind, name_at};
+use kmn_base::slices::behind;
 use kmn_base::{Code, Seq};
+use kmn_items::{Fault, Slot, Trouble, begins_open, broken, name_at};
 use kmn_lines::Token;
 use rule_model::{BeginDef, GroupDef};
 use std::alloc::Global;
@@ -22,7 +21,7 @@ fn begins_kind(source: &[u8], tokens: &[Token]) -> bool
 }
 
 /// Whether tokens are `use`, parentheses and nothing behind them.
-#[tactic(auto, using(crate::proofs::ToldLemmas::drop_told, crate::proofs::ToldLemmas::length_told))]
+#[tactic(auto, using(kmn_items::proofs::ToldLemmas::drop_told, kmn_items::proofs::ToldLemmas::length_told))]
 fn is_use(source: &[u8], tokens: &[Token]) -> bool
     ensures { result ≡ is_use (told source.now tokens.now) }
 {
@@ -32,7 +31,7 @@ fn is_use(source: &[u8], tokens: &[Token]) -> bool
 }
 
 /// What is wrong with a begin statement around its parentheses. Its first `>` stands at a place.
-#[tactic(auto, using(crate::proofs::ToldLemmas::drop_told))]
+#[tactic(auto, using(kmn_items::proofs::ToldLemmas::drop_told))]
 fn begin_head(source: &[u8], arrow: usize, tokens: &[Token]) -> Option<Code>
     ensures { result ≡ begin_head arrow (told source.now tokens.now) }
 {
@@ -44,7 +43,7 @@ fn begin_head(source: &[u8], arrow: usize, tokens: &[Token]) -> Option<Code>
 }
 
 /// The first fault of a begin statement.
-#[tactic(auto, unfolding(crate::specs::Line::begin_fault), using(crate::proofs::ToldLemmas::drop_told))]
+#[tactic(auto, unfolding(crate::specs::Line::begin_fault), using(kmn_items::proofs::ToldLemmas::drop_told))]
 fn begin_fault(source: &[u8], last: usize, tokens: &[Token]) -> Option<Fault>
     requires { length tokens.now < 2 ^ 59 }
     ensures { result ≡ begin_fault last (told source.now tokens.now) }
@@ -59,7 +58,7 @@ fn begin_fault(source: &[u8], last: usize, tokens: &[Token]) -> Option<Fault>
 }
 
 /// Reads a begin statement.
-#[tactic(auto, unfolding(crate::specs::Line::read_begin), using(crate::proofs::ToldLemmas::drop_told))]
+#[tactic(auto, unfolding(crate::specs::Line::read_begin), using(kmn_items::proofs::ToldLemmas::drop_told))]
 pub(crate) fn read_begin(
     alloc: Global,
     source: &[u8],
@@ -81,7 +80,7 @@ pub(crate) fn read_begin(
 }
 
 /// Whether tokens are `using keys` and nothing behind it.
-#[tactic(auto, using(crate::proofs::ToldLemmas::drop_told, crate::proofs::ToldLemmas::length_told))]
+#[tactic(auto, using(kmn_items::proofs::ToldLemmas::drop_told, kmn_items::proofs::ToldLemmas::length_told))]
 fn is_using_keys(source: &[u8], tokens: &[Token]) -> bool
     ensures { result ≡ is_using_keys (told source.now tokens.now) }
 {
@@ -91,7 +90,7 @@ fn is_using_keys(source: &[u8], tokens: &[Token]) -> bool
 }
 
 /// What is wrong with a group statement around its parentheses, behind which stands a tail.
-#[tactic(auto, using(crate::proofs::ToldLemmas::drop_told, crate::proofs::ToldLemmas::length_told))]
+#[tactic(auto, using(kmn_items::proofs::ToldLemmas::drop_told, kmn_items::proofs::ToldLemmas::length_told))]
 fn group_head(source: &[u8], tokens: &[Token], tail: &[Token]) -> Option<Code>
     ensures { result ≡ group_head (told source.now tokens.now) (told source.now tail.now) }
 {
@@ -103,7 +102,7 @@ fn group_head(source: &[u8], tokens: &[Token], tail: &[Token]) -> Option<Code>
 }
 
 /// The first fault of a group statement.
-#[tactic(auto, unfolding(crate::specs::Line::group_fault), using(crate::proofs::ToldLemmas::drop_told))]
+#[tactic(auto, unfolding(crate::specs::Line::group_fault), using(kmn_items::proofs::ToldLemmas::drop_told))]
 fn group_fault(source: &[u8], last: usize, tokens: &[Token]) -> Option<Fault>
     requires { length tokens.now < 2 ^ 59 }
     ensures { result ≡ group_fault last (told source.now tokens.now) }
@@ -116,7 +115,7 @@ fn group_fault(source: &[u8], last: usize, tokens: &[Token]) -> Option<Fault>
 }
 
 /// Reads a group statement.
-#[tactic(auto, unfolding(crate::specs::Line::read_group), using(crate::proofs::ToldLemmas::drop_told))]
+#[tactic(auto, unfolding(crate::specs::Line::read_group), using(kmn_items::proofs::ToldLemmas::drop_told))]
 pub(crate) fn read_group(
     alloc: Global,
     source: &[u8],

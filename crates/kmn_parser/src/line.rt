@@ -1,7 +1,7 @@
 //! The statement of a logical line.
 
 ghost use Rattle.std.specs.Prelude.{◌≡◌, ◌<◌, ◌^◌, length};
-ghost use Rattle.kmn_parser.specs.Told.{told, Reads};
+ghost use Rattle.kmn_items.specs.Told.{told, Reads};
 ghost use Rattle.kmn_parser.specs.Line.{read_tokens, read_line};
 
 use crate::group_line::{read_begin, read_group};
@@ -9,7 +9,7 @@ use crate::rule_line::{read_match, read_rule};
 use crate::signs::begins_word;
 use crate::statement::Statement;
 use crate::store_line::read_store;
-use crate::syntax::Trouble;
+use kmn_items::Trouble;
 use kmn_lines::Token;
 use rule_model::RuleKind;
 use std::alloc::Global;
@@ -51,7 +51,7 @@ fn read_tokens(
 
 /// Reads the tokens of a line with a number. `group` is None where no group stands before, and else tells whether the
 /// last one uses keys.
-#[tactic(auto, using(crate::proofs::ToldLemmas::length_told))]
+#[tactic(auto, using(kmn_items::proofs::ToldLemmas::length_told))]
 pub(crate) fn read_line(
     alloc: Global,
     source: &[u8],

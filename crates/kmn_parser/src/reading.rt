@@ -7,9 +7,9 @@ ghost use Rattle.kmn_parser.specs.Source.{parsed, read_text, read_lines, line_st
 
 use crate::line::read_line;
 use crate::statement::Statement;
-use crate::syntax::Trouble;
 use kmn_base::limits::TEXT_BYTES;
 use kmn_base::{Code, CompileError, Memory, Refusal, Seq};
+use kmn_items::Trouble;
 use kmn_lines::{Logical, lines};
 use kmn_tokens::tokens;
 use rule_model::{GroupDef, Program, RuleDef};
@@ -83,10 +83,7 @@ fn read_lines(alloc: Global, source: &str) -> Result<Program, CompileError>
         match line_statement(alloc, source, group, logical) {
             Ok(statement) => {
                 group = group_after(group, &statement);
-                match add_statement(&mut program, statement) {
-                    Ok(()) => {}
-                    Err(Memory) => return Err(CompileError::Memory),
-                }
+                add_statement(&mut program, statement)?;
             }
             Err(error) => return Err(error),
         }
@@ -134,20 +131,10 @@ fn add_statement(program: &mut Program, statement: Statement) -> Result<(), Memo
 {
     match statement {
         Statement::Nothing => Ok(()),
-        Statement::Store(store) => append(&mut program.stores, store),
-        Statement::Begin(begin) => append(&mut program.begins, begin),
-        Statement::Group(group) => append(&mut program.groups, group),
+        Statement::Store(store) => program.stores.add(store),
+        Statement::Begin(begin) => program.begins.add(begin),
+        Statement::Group(group) => program.groups.add(group),
         Statement::Rule(rule) => add_rule(&mut program.groups, rule),
-    }
-}
-
-/// Appends an item to a list.
-fn append<T: Drop>(items: &mut Seq<T>, item: T) -> Result<(), Memory>
-    ensures { OnOk result (items.new ≡ items.old ++ item ∷ []) }
-{
-    match items.push(item) {
-        Ok(()) => Ok(()),
-        Err(_) => Err(Memory),
     }
 }
 
@@ -158,8 +145,8 @@ fn add_rule(groups: &mut Seq<GroupDef>, rule: RuleDef) -> Result<(), Memory>
 {
     match groups.pop() {
         Some(mut group) => {
-            append(&mut group.rules, rule)?;
-            append(groups, group)
+            group.rules.add(rule)?;
+            groups.add(group)
         }
         None => Ok(()),
     }

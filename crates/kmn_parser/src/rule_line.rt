@@ -1,15 +1,14 @@
 //! Rules, and what a group does after a match or where nothing matches.
 
 ghost use Rattle.std.specs.Prelude.{◌≡◌, ◌+◌, ◌<◌, ◌≤◌, ◌^◌, length};
-ghost use Rattle.kmn_parser.specs.Told.{told, told_token, Reads};
+ghost use Rattle.kmn_items.specs.Told.{told, told_token, Reads};
 ghost use Rattle.kmn_parser.specs.Line.{no_group, is_empty_quote, has_items, no_output, match_fault, read_match, begins_rule, uses_keys, rule_head, rule_key, rule_body, code_number, earlier, rule_at, read_rule};
 
-use crate::items::{is_item_word, read_items, read_key};
 use crate::signs::place_of;
 use crate::statement::{Sign, Statement};
-use crate::syntax::{Fault, Trouble, Where};
-use crate::text::{behind, front, text_in};
+use kmn_base::slices::{before, behind};
 use kmn_base::{Code, Seq};
+use kmn_items::{Fault, Trouble, Where, is_item_word, read_items, read_key, text_in};
 use kmn_lines::{Token, TokenKind};
 use rule_model::{RuleDef, RuleKind, SrcItem};
 use std::alloc::Global;
@@ -51,7 +50,7 @@ fn has_items(source: &[u8], tokens: &[Token]) -> bool
 }
 
 /// The code of a statement without an output, with the first `>` at a place.
-#[tactic(auto, using(crate::proofs::ToldLemmas::drop_told, crate::proofs::ToldLemmas::length_told))]
+#[tactic(auto, using(kmn_items::proofs::ToldLemmas::drop_told, kmn_items::proofs::ToldLemmas::length_told))]
 fn no_output(source: &[u8], arrow: usize, tokens: &[Token]) -> Option<Code>
     ensures { result ≡ no_output arrow (told source.now tokens.now) }
 {
@@ -86,7 +85,7 @@ fn match_fault(source: &[u8], group: Option<bool>, arrow: usize, tokens: &[Token
 }
 
 /// Reads a match or nomatch statement.
-#[tactic(auto, unfolding(crate::specs::Line::read_match), using(crate::proofs::ToldLemmas::drop_told, crate::proofs::ToldLemmas::length_told))]
+#[tactic(auto, unfolding(crate::specs::Line::read_match), using(kmn_items::proofs::ToldLemmas::drop_told, kmn_items::proofs::ToldLemmas::length_told))]
 pub(crate) fn read_match(
     alloc: Global,
     source: &[u8],
@@ -137,7 +136,7 @@ fn uses_keys(group: Option<bool>) -> bool
 }
 
 /// The least code of a rule that stands at its first token.
-#[tactic(auto, unfolding(crate::specs::Line::rule_head), using(crate::proofs::ToldLemmas::length_told))]
+#[tactic(auto, unfolding(crate::specs::Line::rule_head), using(kmn_items::proofs::ToldLemmas::length_told))]
 fn rule_head(source: &[u8], group: Option<bool>, signs: Signs, tokens: &[Token]) -> Option<Code>
     ensures { result ≡ rule_head group signs.arrow signs.plus (told source.now tokens.now) }
 {
@@ -158,7 +157,7 @@ fn rule_head(source: &[u8], group: Option<bool>, signs: Signs, tokens: &[Token])
 }
 
 /// The key of a rule, which stands between `+` and `>`.
-#[tactic(auto, unfolding(crate::specs::Line::rule_key), using(crate::proofs::ToldLemmas::drop_told, crate::proofs::ToldLemmas::take_told))]
+#[tactic(auto, unfolding(crate::specs::Line::rule_key), using(kmn_items::proofs::ToldLemmas::drop_told, kmn_items::proofs::ToldLemmas::take_told))]
 fn rule_key(
     alloc: Global,
     source: &[u8],
@@ -180,7 +179,7 @@ fn rule_key(
             code: Code::S07,
         }));
     }
-    let key = behind(front(tokens, signs.arrow), signs.plus + 1);
+    let key = behind(before(tokens, signs.arrow), signs.plus + 1);
     match read_key(alloc, source, last, signs.plus + 1, key) {
         Ok(item) => Ok(Some(item)),
         Err(trouble) => Err(trouble),
@@ -188,7 +187,7 @@ fn rule_key(
 }
 
 /// Reads the items of a rule, section by section.
-#[tactic(auto, unfolding(crate::specs::Line::rule_body), using(crate::proofs::ToldLemmas::drop_told, crate::proofs::ToldLemmas::take_told))]
+#[tactic(auto, unfolding(crate::specs::Line::rule_body), using(kmn_items::proofs::ToldLemmas::drop_told, kmn_items::proofs::ToldLemmas::take_told))]
 fn rule_body(
     alloc: Global,
     source: &[u8],
@@ -202,7 +201,7 @@ fn rule_body(
     requires within { signs.arrow ≤ length tokens.now }
     ensures { Reads (rule_body group line last signs.arrow signs.plus (told source.now tokens.now)) result }
 {
-    let before = front(tokens, signs.plus);
+    let before = before(tokens, signs.plus);
     let context = match read_items(alloc, source, Where::Context, last, 0, before) {
         Ok(context) => context,
         Err(trouble) => return Err(trouble),
@@ -295,7 +294,7 @@ fn rule_at(
 }
 
 /// Reads a rule.
-#[tactic(auto, unfolding(crate::specs::Line::read_rule), using(crate::proofs::ToldLemmas::take_told))]
+#[tactic(auto, unfolding(crate::specs::Line::read_rule), using(kmn_items::proofs::ToldLemmas::take_told))]
 pub(crate) fn read_rule(
     alloc: Global,
     source: &[u8],
@@ -308,7 +307,7 @@ pub(crate) fn read_rule(
     ensures { Reads (read_rule group line last (told source.now tokens.now)) result }
 {
     let arrow = place_of(source, Sign::Arrow, tokens);
-    let plus = place_of(source, Sign::Plus, front(tokens, arrow));
+    let plus = place_of(source, Sign::Plus, before(tokens, arrow));
     rule_at(
         alloc,
         source,

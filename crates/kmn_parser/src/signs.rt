@@ -2,12 +2,13 @@
 
 ghost use Rattle.std.specs.Prelude.{◌≡◌, ◌≤◌, length};
 ghost use Rattle.std.specs.List.{position_or_len};
-ghost use Rattle.kmn_parser.specs.Told.{told};
+ghost use Rattle.kmn_items.specs.Told.{told};
 ghost use Rattle.kmn_parser.specs.Line.{is_sign, place_of, begins_word, behind_close};
 
 use crate::statement::Sign;
-use crate::text::{behind, text_in};
-use crate::words::same_word;
+use kmn_base::names::same_name;
+use kmn_base::slices::behind;
+use kmn_items::text_in;
 use kmn_lines::{Token, TokenKind};
 
 /// Whether a token is a sign.
@@ -51,14 +52,14 @@ pub(crate) fn begins_word(source: &[u8], word: &[u8], tokens: &[Token]) -> bool
 {
     match tokens {
         [token, ..] => {
-            matches!(token.kind, TokenKind::Word) && same_word(word, text_in(source, *token))
+            matches!(token.kind, TokenKind::Word) && same_name(word, text_in(source, *token))
         }
         [] => false,
     }
 }
 
 /// The tokens behind the first `)`.
-#[tactic(auto, using(crate::proofs::ToldLemmas::drop_told))]
+#[tactic(auto, using(kmn_items::proofs::ToldLemmas::drop_told))]
 pub(crate) fn behind_close<'a>(source: &[u8], tokens: &'a [Token]) -> &'a [Token]
     ensures { told source.now result.now ≡ behind_close (told source.now tokens.now) }
 {

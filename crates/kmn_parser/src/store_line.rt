@@ -1,17 +1,18 @@
 //! Store statements.
 
-ghost use Rattle.std.specs.Prelude.{◌≡◌, ◌+◌, ◌<◌, ◌^◌, length, map, is_some, IfOk};
+ghost use Rattle.std.specs.Prelude.{◌≡◌, ◌+◌, ◌<◌, ◌^◌, length, is_some, IfOk};
 ghost use Rattle.kmn_base.specs.Names.{named_in};
-ghost use Rattle.kmn_parser.specs.Told.{told, Reads};
+ghost use Rattle.kmn_items.specs.Told.{told, Reads};
 ghost use Rattle.kmn_parser.specs.Line.{system_stores, store_system, store_form, store_fault, store_def, read_store};
 
-use crate::items::read_items;
-use crate::slots::broken;
 use crate::statement::Statement;
-use crate::syntax::{Fault, Slot, Trouble, Where};
-use crate::text::{begins_open, behind, text_at};
-use crate::words::{bare_name, is_system_name, same_word};
+use kmn_base::names::named_in;
+use kmn_base::slices::behind;
 use kmn_base::{Code, Memory, Seq};
+use kmn_items::{
+    Fault, Slot, Trouble, Where, bare_name, begins_open, broken, is_system_name, read_items,
+    text_at,
+};
 use kmn_lines::Token;
 use rule_model::{SrcItem, StoreDef};
 use std::alloc::Global;
@@ -47,24 +48,12 @@ static SYSTEM_STORES: [(&str, u32); 27] = [
     ("kmw_embedcss", 0xFFFF),
 ];
 
-/// The id that a table has for a name.
-fn id_named(table: &[(&str, u32)], name: &[u8]) -> Option<u32>
-    ensures { result ≡ named_in (map (λ row. (row.0.now, row.1)) table.now) name.now }
-{
-    for row in table {
-        if same_word(row.0.as_bytes(), name) {
-            return Some(row.1);
-        }
-    }
-    None
-}
-
 /// The id of a system store by its name without `&`.
 #[tactic(auto, unfolding(crate::specs::Line::system_stores))]
 fn system_id(name: &[u8]) -> Option<u32>
     ensures { result ≡ named_in system_stores name.now }
 {
-    id_named(&SYSTEM_STORES, name)
+    named_in(&SYSTEM_STORES, name)
 }
 
 /// The id of a store by its name: 0 for one without `&`, None for a system store that there isn't.
@@ -79,7 +68,7 @@ fn store_system(name: &[u8]) -> Option<u32>
 }
 
 /// The fault of a store's name and of what closes it.
-#[tactic(auto, using(crate::proofs::ToldLemmas::drop_told, crate::proofs::ToldLemmas::length_told))]
+#[tactic(auto, using(kmn_items::proofs::ToldLemmas::drop_told, kmn_items::proofs::ToldLemmas::length_told))]
 fn store_form(source: &[u8], last: usize, tokens: &[Token]) -> Option<Fault>
     requires { length tokens.now < 2 ^ 59 }
     ensures { result ≡ store_form last (told source.now tokens.now) }
@@ -98,7 +87,7 @@ fn store_form(source: &[u8], last: usize, tokens: &[Token]) -> Option<Fault>
 }
 
 /// The first fault of a store statement before its items.
-#[tactic(auto, unfolding(crate::specs::Line::store_fault), using(crate::proofs::ToldLemmas::drop_told))]
+#[tactic(auto, unfolding(crate::specs::Line::store_fault), using(kmn_items::proofs::ToldLemmas::drop_told))]
 fn store_fault(source: &[u8], last: usize, tokens: &[Token]) -> Option<Fault>
     requires { length tokens.now < 2 ^ 59 }
     ensures { result ≡ store_fault last (told source.now tokens.now) }
@@ -131,7 +120,7 @@ fn store_def(alloc: Global, line: u32, name: &[u8], items: Seq<SrcItem>) -> Resu
 }
 
 /// Reads a store statement.
-#[tactic(auto, unfolding(crate::specs::Line::read_store), using(crate::proofs::ToldLemmas::drop_told))]
+#[tactic(auto, unfolding(crate::specs::Line::read_store), using(kmn_items::proofs::ToldLemmas::drop_told))]
 pub(crate) fn read_store(
     alloc: Global,
     source: &[u8],

@@ -1,6 +1,6 @@
 use Rattle.std.proofs.Common.{◌≡◌, drop}
 use Rattle.kmn_parser.specs.Line.{has_items}
-use Rattle.kmn_parser.specs.Told.{told}
+use Rattle.kmn_items.specs.Told.{told}
 use Rattle.kmn_parser.proofs.rule_line.has_items.Given as goal
 
 abbrev pub invariant-loop-token : goal.invariant-loop-token

@@ -1,0 +1,4 @@
+pub mod ToldLemmas
+pub mod ItemLemmas
+pub mod ItemParts
+pub mod KeyItems

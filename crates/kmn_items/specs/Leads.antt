@@ -1,0 +1,41 @@
+-- What the first token of an item says of it.
+use Rattle.std.specs.Prelude.{ℕ, Bool, true, if◌then◌else◌, List, [], ◌∷◌, Option, Some, None}
+use Rattle.kmn_lines.specs.declared.token.TokenKind.TheVariants as kind
+use Rattle.kmn_items.specs.declared.syntax.ItemWord.{ItemWord}
+use Rattle.kmn_items.specs.declared.syntax.ItemWord.TheVariants as word
+use Rattle.kmn_items.specs.declared.syntax.Lead.{Lead}
+use Rattle.kmn_items.specs.declared.syntax.Lead.TheVariants as lead
+use Rattle.kmn_items.specs.Told.{LineToken, begins_open}
+use Rattle.kmn_items.specs.Words.{item_word}
+use Rattle.kmn_items.specs.Numbers.{number_base, number_digits, digits_lead, is_number_word}
+
+-- a parenthesis tells `context(n)` from `context`
+abbrev pub followed : Bool → ItemWord → ItemWord
+followed true word.Context = word.ContextAt
+followed opened other = other
+
+-- what a word is that begins an item of this word
+abbrev pub named_lead : Bool → Option ItemWord → Lead
+named_lead opened (Some word) = lead.Named (followed opened word)
+named_lead opened None = lead.Misplaced
+
+-- what a word says of the item that it begins; the test is whether a parenthesis opens behind it
+abbrev pub word_lead : Bool → List ℕ → Lead
+word_lead opened text =
+    if is_number_word text then digits_lead (number_base text) (number_digits text)
+    else named_lead opened (item_word text)
+
+-- what a token says of the item that it begins
+abbrev pub token_lead : Bool → LineToken → Lead
+token_lead opened token = elim token.kind [
+  | kind.Quoted ↦ lead.Characters
+  | kind.Number c ↦ lead.One c
+  | kind.Word ↦ word_lead opened token.text
+  | kind.BracketOpen ↦ lead.Bracket
+  | _ ↦ lead.Misplaced
+]
+
+-- what the first of tokens says of the item that it begins
+abbrev pub lead_of : List LineToken → Lead
+lead_of [] = lead.Misplaced
+lead_of (token ∷ tokens) = token_lead (begins_open tokens) token

@@ -1,0 +1,10 @@
+pub mod Told
+pub mod Words
+pub mod Numbers
+pub mod Slots
+pub mod Leads
+pub mod Standing
+pub mod Forms
+pub mod Brackets
+pub mod Item
+pub mod ItemLaws

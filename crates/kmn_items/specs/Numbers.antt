@@ -1,0 +1,63 @@
+-- The numbers in words: characters in three bases, and offsets.
+use Rattle.std.specs.Prelude.{ℕ, ◌+◌, ◌*◌, min, Bool, false, not, ◌&&◌, ◌||◌, nat_eq, nat_le, if◌then◌else◌, List, [], ◌∷◌, length, drop, fold}
+use Rattle.std.specs.List.{list_all}
+use Rattle.std.specs.Char.{digit_value, is_digit}
+use Rattle.std.specs.Str.{byte}
+use lib.Utf8.{scalar}
+use Rattle.kmn_base.specs.declared.codes.Code.TheVariants.{L02, L04}
+use Rattle.kmn_items.specs.declared.syntax.Lead.{Lead}
+use Rattle.kmn_items.specs.declared.syntax.Lead.TheVariants as lead
+
+-- whether a text begins with a digit of a base
+abbrev pub begins_digit : ℕ → List ℕ → Bool
+begins_digit base [] = false
+begins_digit base (b ∷ bs) = is_digit b base
+
+-- whether a text is a letter and then a digit of a base
+abbrev pub is_prefixed : ℕ → ℕ → List ℕ → Bool
+is_prefixed letter base [] = false
+is_prefixed letter base (b ∷ bs) = nat_eq b letter && begins_digit base bs
+
+-- the base of a word that is read as a number, 0 for any other word: a digit begins an octal number, `d` and a digit a
+-- decimal one, `x` and a hexadecimal digit a hexadecimal one
+abbrev pub number_base : List ℕ → ℕ
+number_base text =
+    if begins_digit 10 text then 8
+    else (if is_prefixed (byte "d") 10 text then 10
+    else (if is_prefixed (byte "x") 16 text then 16 else 0))
+
+-- whether a word is read as a number
+abbrev pub is_number_word : List ℕ → Bool
+is_number_word text = not (nat_eq (number_base text) 0)
+
+-- the digits of such a word
+abbrev pub number_digits : List ℕ → List ℕ
+number_digits text = if begins_digit 10 text then text else drop 1 text
+
+-- a number with one more digit, or a bound where it is larger
+abbrev pub with_digit : ℕ → ℕ → ℕ → ℕ → ℕ
+with_digit bound base value digit = min (base * value + digit_value digit) bound
+
+-- the number that digits write, or a bound where it is larger
+abbrev pub bounded_value : ℕ → ℕ → List ℕ → ℕ
+bounded_value bound base digits = fold (with_digit bound base) 0 digits
+
+-- what a code point is as an item: U+0000 and U+FFFF are no characters of a keyboard
+abbrev pub character_lead : ℕ → Lead
+character_lead c =
+    if nat_eq c 0 || nat_eq c 0xFFFF then lead.Wrong L02
+    else (if scalar c then lead.One c else lead.Wrong L04)
+
+-- what digits of a base are as an item
+abbrev pub digits_lead : ℕ → List ℕ → Lead
+digits_lead base digits =
+    if list_all (λ b. is_digit b base) digits then character_lead (bounded_value 0x110000 base digits)
+    else lead.Wrong L04
+
+-- whether a text is an offset: 1 to 9 decimal digits
+abbrev pub is_offset : List ℕ → Bool
+is_offset text = nat_le 1 (length text) && nat_le (length text) 9 && list_all (λ b. is_digit b 10) text
+
+-- the number of an offset, which has at most 9 digits
+abbrev pub offset_value : List ℕ → ℕ
+offset_value text = bounded_value 999999999 10 text

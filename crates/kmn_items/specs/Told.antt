@@ -1,0 +1,103 @@
+-- The tokens of a line with their texts, and what it means that code reads them.
+use Rattle.std.specs.Prelude.{◌≡◌, ℕ, ◌-◌, Bool, true, false, ◌||◌, if◌then◌else◌, List, [], ◌∷◌, map, length, take, drop, chars, slice_get, unwrap_or, option_map, Result, Ok, Err}
+use Rattle.std.specs.Str.{is_utf8}
+use Rattle.kmn_base.specs.declared.codes.Code.{Code}
+use Rattle.kmn_lines.specs.declared.token.Token.{Token}
+use Rattle.kmn_lines.specs.declared.token.TokenKind.{TokenKind}
+use Rattle.kmn_lines.specs.declared.token.TokenKind.TheVariants as kind
+use Rattle.kmn_items.specs.declared.syntax.Fault.{Fault}
+use Rattle.kmn_items.specs.declared.syntax.Trouble.{Trouble}
+use Rattle.kmn_items.specs.declared.syntax.Trouble.TheVariants as trouble
+
+-- a token with its text
+pub record LineToken : Type 0 where
+  pub kind : TokenKind
+  pub text : List ℕ
+
+-- the text of a token: the source from `from` to `to`
+abbrev pub text_of : List ℕ → Token → List ℕ
+text_of source token = drop token.from (take token.to source)
+
+abbrev pub told_token : List ℕ → Token → LineToken
+told_token source token = record { kind = token.kind; text = text_of source token }
+
+-- the tokens of a line with their texts
+abbrev pub told : List ℕ → List Token → List LineToken
+told source tokens = map (told_token source) tokens
+
+-- the kinds of tokens that forms ask for
+abbrev pub is_quoted : TokenKind → Bool
+is_quoted kind.Quoted = true
+is_quoted other = false
+
+abbrev pub is_word : TokenKind → Bool
+is_word kind.Word = true
+is_word other = false
+
+abbrev pub is_number : TokenKind → Bool
+is_number (kind.Number c) = true
+is_number other = false
+
+abbrev pub is_open : TokenKind → Bool
+is_open kind.Open = true
+is_open other = false
+
+abbrev pub is_close : TokenKind → Bool
+is_close kind.Close = true
+is_close other = false
+
+abbrev pub is_bracket_close : TokenKind → Bool
+is_bracket_close kind.BracketClose = true
+is_bracket_close other = false
+
+abbrev pub is_comma : TokenKind → Bool
+is_comma kind.Comma = true
+is_comma other = false
+
+abbrev pub is_equal : TokenKind → Bool
+is_equal kind.Equal = true
+is_equal other = false
+
+abbrev pub is_unequal : TokenKind → Bool
+is_unequal kind.Unequal = true
+is_unequal other = false
+
+-- a word, or a number's text
+abbrev pub is_wordy : TokenKind → Bool
+is_wordy kind = is_word kind || is_number kind
+
+-- the text of the token at a place; empty where there is none
+abbrev pub text_at : ℕ → List LineToken → List ℕ
+text_at place tokens = unwrap_or (option_map (λ (token : LineToken). token.text) (slice_get tokens place)) []
+
+-- whether the first token is of a kind
+abbrev pub begins_open : List LineToken → Bool
+begins_open [] = false
+begins_open (token ∷ tokens) = is_open token.kind
+
+-- the text between the quotes of a quoted token
+abbrev pub inside : List ℕ → List ℕ
+inside text = take (length text - 2) (drop 1 text)
+
+-- the characters of a text in UTF-8
+abbrev pub decoded : List ℕ → List ℕ
+decoded bytes = if is_utf8 bytes then chars bytes else []
+
+-- the characters of a quoted token
+abbrev pub quoted : List ℕ → List ℕ
+quoted text = decoded (inside text)
+
+-- a rule broken at a token
+abbrev pub fault : ℕ → Code → Fault
+fault at code = record { at = at; code = code }
+
+-- what code answers of a reading: its value or its first fault, exactly, or want of memory at any time
+abbrev pub Reads : {A : Type 0} → Result A Fault → Result A Trouble → Type 0
+Reads read (Ok value) = read ≡ Ok value
+Reads read (Err (trouble.Broken fault)) = read ≡ Err fault
+Reads read (Err trouble.NoMemory) = Unit {0}
+
+-- a reading, then another of its value
+abbrev pub and_then : {A B : Type 0} → Result A Fault → (A → Result B Fault) → Result B Fault
+and_then (Ok value) next = next value
+and_then (Err fault) next = Err fault

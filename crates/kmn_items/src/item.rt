@@ -1,0 +1,169 @@
+ghost use Rattle.std.specs.Prelude.{◌≡◌, ◌+◌, ◌≤◌, ◌<◌, ◌^◌, ◌∷◌, [], IfOk, length, map};
+ghost use Rattle.kmn_items.specs.Told.{told, fault, quoted, Reads};
+ghost use Rattle.kmn_items.specs.Brackets.{modifier_count};
+ghost use Rattle.kmn_items.specs.Item.{read_word, read_quoted, one_character, read_bracket, read_form, read_item};
+
+use crate::brackets::{key_fault, key_item, modified_key, modifier_count};
+use crate::forms::{word_item, word_slots};
+use crate::leads::lead_of;
+use crate::slots::broken;
+use crate::standing::{is_crowded, misplaced_code, seen_count, seen_word, standing_code};
+use crate::syntax::{Fault, ItemWord, Lead, Seen, Taken, Trouble, Where};
+use crate::text::{quoted, text_at};
+use kmn_base::slices::behind;
+use kmn_base::{Code, Memory, Seq};
+use kmn_lines::Token;
+use rule_model::SrcItem;
+use std::alloc::Global;
+
+/// Where an item is read: its section, what this has seen, the place of the line's last token, and the item's own.
+#[derive(Clone, Copy)]
+pub(crate) struct Spot {
+    pub(crate) place: Where,
+    pub(crate) seen: Seen,
+    pub(crate) last: usize,
+    pub(crate) at: usize,
+}
+
+/// A rule that the token at a place breaks.
+pub(crate) fn refused(at: usize, code: Code) -> Trouble
+    ensures { result ≡ Trouble.Broken (fault at code) }
+{
+    Trouble::Broken(Fault { at, code })
+}
+
+/// A list of one item.
+fn single(alloc: Global, item: SrcItem) -> Result<Seq<SrcItem>, Memory>
+    ensures { IfOk result (λ items. items ≡ item ∷ []) }
+{
+    let mut items = Vec::with_capacity(alloc, 1)?;
+    items.push(item)?;
+    Ok(Seq::from_vec(items))
+}
+
+/// The item of a word, or the fault of its form.
+fn read_word(
+    alloc: Global,
+    source: &[u8],
+    spot: Spot,
+    word: ItemWord,
+    tokens: &[Token],
+) -> Result<Taken, Trouble>
+    requires { spot.at + length tokens.now < 2 ^ 62 }
+    ensures read { Reads (read_word spot.seen spot.last spot.at word (told source.now tokens.now)) result }
+    ensures few { IfOk result (λ taken. taken.more ≤ length tokens.now + 5) }
+{
+    let slots = word_slots(word);
+    if let Some(fault) = broken(source, spot.last, spot.at, slots, tokens) {
+        return Err(Trouble::Broken(fault));
+    }
+    let item = word_item(alloc, source, word, tokens)?;
+    Ok(Taken {
+        items: single(alloc, item)?,
+        more: slots.len() - 1,
+        seen: seen_word(spot.seen, word),
+    })
+}
+
+/// The characters as items.
+fn character_items(alloc: Global, characters: &[char]) -> Result<Seq<SrcItem>, Memory>
+    ensures { IfOk result (λ items. items ≡ map SrcItem.Char characters.now) }
+{
+    let mut items = Vec::with_capacity(alloc, characters.len())?;
+    for c in characters {
+        items.push(SrcItem::Char(*c))?;
+    }
+    Ok(Seq::from_vec(items))
+}
+
+/// The characters of a quoted token, each an item.
+fn read_quoted(alloc: Global, spot: Spot, text: &[u8]) -> Result<Taken, Trouble>
+    ensures read { Reads (read_quoted spot.place spot.seen spot.at (quoted text.now)) result }
+    ensures few { IfOk result (λ taken. taken.more ≡ 0) }
+{
+    let characters = quoted(alloc, text)?;
+    if is_crowded(spot.place, spot.seen, characters.len()) {
+        return Err(refused(spot.at, Code::S05));
+    }
+    Ok(Taken {
+        items: character_items(alloc, characters.as_slice())?,
+        more: 0,
+        seen: seen_count(spot.seen, characters.len()),
+    })
+}
+
+/// The key in brackets, of the tokens behind the first bracket.
+fn read_bracket(
+    alloc: Global,
+    source: &[u8],
+    spot: Spot,
+    tokens: &[Token],
+) -> Result<Taken, Trouble>
+    requires { spot.at + 1 + length tokens.now < 2 ^ 62 }
+    ensures read { Reads (read_bracket spot.place spot.seen spot.last spot.at (modifier_count (told source.now tokens.now)) (told source.now tokens.now)) result }
+    ensures few { IfOk result (λ taken. taken.more ≤ length tokens.now + 5) }
+{
+    let count = modifier_count(source, tokens);
+    if let Some(fault) = key_fault(source, spot.last, spot.at + 1, count, tokens) {
+        return Err(Trouble::Broken(fault));
+    }
+    let key = modified_key(alloc, source, count, tokens)?;
+    Ok(Taken {
+        items: single(alloc, key_item(spot.place, key))?,
+        more: count + 2,
+        seen: seen_count(spot.seen, 1),
+    })
+}
+
+/// A character as an item.
+fn read_character(alloc: Global, seen: Seen, c: char) -> Result<Taken, Memory>
+    ensures { IfOk result (λ taken. taken ≡ one_character seen c) }
+{
+    Ok(Taken {
+        items: single(alloc, SrcItem::Char(c))?,
+        more: 0,
+        seen: seen_count(seen, 1),
+    })
+}
+
+/// The item that tokens begin with, by what the first says, where it may stand.
+#[tactic(auto, using(crate::proofs::ToldLemmas::drop_told))]
+fn read_form(
+    alloc: Global,
+    source: &[u8],
+    spot: Spot,
+    lead: Lead,
+    tokens: &[Token],
+) -> Result<Taken, Trouble>
+    requires { spot.at + 1 + length tokens.now < 2 ^ 62 }
+    ensures read { Reads (read_form spot.place spot.seen spot.last spot.at lead (told source.now tokens.now)) result }
+    ensures few { IfOk result (λ taken. taken.more ≤ length tokens.now + 5) }
+{
+    match lead {
+        Lead::Characters => read_quoted(alloc, spot, text_at(source, 0, tokens)),
+        Lead::One(c) => Ok(read_character(alloc, spot.seen, c)?),
+        Lead::Named(word) => read_word(alloc, source, spot, word, tokens),
+        Lead::Bracket => read_bracket(alloc, source, spot, behind(tokens, 1)),
+        Lead::Wrong(code) => Err(refused(spot.at, code)),
+        Lead::Misplaced => Err(refused(spot.at, misplaced_code(spot.place))),
+    }
+}
+
+/// One item, which tokens begin with.
+#[tactic(auto, unfolding(crate::specs::Item::read_item))]
+pub(crate) fn read_item(
+    alloc: Global,
+    source: &[u8],
+    spot: Spot,
+    tokens: &[Token],
+) -> Result<Taken, Trouble>
+    requires { spot.at + 1 + length tokens.now < 2 ^ 62 }
+    ensures read { Reads (read_item spot.place spot.seen spot.last spot.at (told source.now tokens.now)) result }
+    ensures few { IfOk result (λ taken. taken.more ≤ length tokens.now + 5) }
+{
+    let lead = lead_of(source, tokens);
+    match standing_code(spot.place, spot.seen, lead) {
+        Some(code) => Err(refused(spot.at, code)),
+        None => read_form(alloc, source, spot, lead, tokens),
+    }
+}

@@ -1,0 +1,98 @@
+ghost use Rattle.std.specs.Prelude.{◌≡◌, ◌+◌, ◌<◌, ◌^◌, ◌++◌, IfOk, length};
+ghost use Rattle.kmn_items.specs.Told.{told, Reads};
+ghost use Rattle.kmn_items.specs.Item.{unseen, is_item_word, read_items, read_key};
+
+use crate::item::{Spot, read_item, refused};
+use crate::numbers::is_number_word;
+use crate::syntax::{Seen, Trouble, Where};
+use crate::words::item_word;
+use kmn_base::slices::behind;
+use kmn_base::{Code, Memory, Seq};
+use kmn_lines::Token;
+use rule_model::SrcItem;
+use std::alloc::Global;
+
+/// What no item stands before.
+const UNSEEN: Seen = Seen {
+    pattern: false,
+    nul: false,
+};
+
+/// Whether a word begins an item: a number and a word with `$` do, too.
+pub fn is_item_word(text: &[u8]) -> bool
+    ensures { result ≡ is_item_word text.now }
+{
+    is_number_word(text) || item_word(text).is_some()
+}
+
+/// Two lists as one. The second is taken as it is where the first is empty, so that one item takes no spare room.
+fn joined(items: Seq<SrcItem>, more: Seq<SrcItem>) -> Result<Seq<SrcItem>, Memory>
+    ensures { IfOk result (λ all. all ≡ items ++ more) }
+{
+    if items.is_empty() {
+        return Ok(more);
+    }
+    let mut all = items;
+    all.append(more)?;
+    Ok(all)
+}
+
+/// The items of a section. `at` is the place of its first token in the line, and `last` that of the line's last token,
+/// where an item breaks off at the latest.
+#[tactic(auto, using(crate::proofs::ToldLemmas::drop_told, crate::proofs::ToldLemmas::length_told, crate::proofs::ItemLemmas::items_step, crate::proofs::ItemLemmas::items_stop))]
+pub fn read_items(
+    alloc: Global,
+    source: &[u8],
+    place: Where,
+    last: usize,
+    at: usize,
+    tokens: &[Token],
+) -> Result<Seq<SrcItem>, Trouble>
+    requires { at + length tokens.now < 2 ^ 60 }
+    ensures { Reads (read_items place unseen last 0 at (told source.now tokens.now)) result }
+{
+    let mut items = Seq::new(alloc);
+    let mut seen = UNSEEN;
+    let mut next = at;
+    let mut rest = tokens;
+    'items: while !rest.is_empty() {
+        let spot = Spot {
+            place,
+            seen,
+            last,
+            at: next,
+        };
+        match read_item(alloc, source, spot, rest) {
+            Ok(taken) => {
+                items = joined(items, taken.items)?;
+                seen = taken.seen;
+                next += 1 + taken.more;
+                rest = behind(rest, 1 + taken.more);
+            }
+            Err(trouble) => return Err(trouble),
+        }
+    }
+    Ok(items)
+}
+
+/// The one item of a key. `at` is the place of its first token in the line, and `last` that of the line's last token.
+#[tactic(auto, using(crate::proofs::ItemLemmas::last_item_push, crate::proofs::ToldLemmas::length_told))]
+pub fn read_key(
+    alloc: Global,
+    source: &[u8],
+    last: usize,
+    at: usize,
+    tokens: &[Token],
+) -> Result<SrcItem, Trouble>
+    requires { at + length tokens.now < 2 ^ 60 }
+    ensures { Reads (read_key last at (told source.now tokens.now)) result }
+{
+    let mut items = match read_items(alloc, source, Where::Key, last, at, tokens) {
+        Ok(items) => items,
+        Err(trouble) => return Err(trouble),
+    };
+    match items.pop() {
+        Some(item) => Ok(item),
+        None => Err(refused((at + tokens.len()).min(last), Code::S05)),
+    }
+}

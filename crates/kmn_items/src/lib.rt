@@ -1,0 +1,30 @@
+//! Reads the items of a line from its tokens, which `kmn_lines` describes: characters, virtual keys, and the forms that
+//! begin with a word.
+//!
+//! It stands on `kmn_lines` for the kinds of tokens, `virtual_keys` for the names of keys, and `rule_model` for the items.
+//! `specs/Item` says what items tokens stand for, by four questions: what its first token says of an item
+//! (`specs/Leads`), whether that may stand there (`specs/Standing`), which form it has (`specs/Forms`, `specs/Slots`), and
+//! what the form stands for. The layer above calls `read_items` for a section, `read_key` for a key and `broken` for a
+//! form of its own; `laws` says that items take up their tokens.
+#![tactic(auto)]
+
+mod brackets;
+mod forms;
+mod item;
+mod items;
+pub mod laws;
+mod leads;
+mod numbers;
+mod slots;
+mod standing;
+mod syntax;
+#[cfg(test)]
+mod tests;
+mod text;
+mod words;
+
+pub use items::{is_item_word, read_items, read_key};
+pub use slots::broken;
+pub use syntax::{Fault, ItemWord, Lead, Seen, Slot, Taken, Trouble, Where};
+pub use text::{begins_open, name_at, text_at, text_in};
+pub use words::{bare_name, is_system_name};

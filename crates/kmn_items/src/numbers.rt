@@ -1,0 +1,164 @@
+ghost use Rattle.std.specs.Prelude.{◌≡◌, ◌≤◌, ◌<◌, ◌^◌, length};
+ghost use Rattle.std.specs.List.{list_all};
+ghost use Rattle.std.specs.Char.{digit_value, is_digit};
+ghost use Rattle.kmn_items.specs.Numbers.{begins_digit, is_prefixed, number_base, is_number_word, number_digits, with_digit, bounded_value, character_lead, digits_lead, is_offset, offset_value};
+
+use crate::syntax::Lead;
+use kmn_base::Code;
+use kmn_base::slices::behind;
+
+/// More than any character's code.
+const NO_CHARACTER: u32 = 0x11_0000;
+
+/// The largest number of nine digits.
+const LARGEST_OFFSET: u32 = 999_999_999;
+
+/// Whether a byte is a digit of a base.
+fn is_digit(byte: u8, base: u32) -> bool
+    requires least { 2 ≤ base }
+    requires most { base ≤ 16 }
+    ensures { result ≡ is_digit byte base }
+{
+    char::from(byte).is_digit(base)
+}
+
+/// Whether a text begins with a digit of a base.
+fn begins_digit(base: u32, text: &[u8]) -> bool
+    requires least { 2 ≤ base }
+    requires most { base ≤ 16 }
+    ensures { result ≡ begins_digit base text.now }
+{
+    match text {
+        [first, ..] => is_digit(*first, base),
+        [] => false,
+    }
+}
+
+/// Whether a text is a letter and then a digit of a base.
+fn is_prefixed(letter: u8, base: u32, text: &[u8]) -> bool
+    requires least { 2 ≤ base }
+    requires most { base ≤ 16 }
+    ensures { result ≡ is_prefixed letter base text.now }
+{
+    match text {
+        [first, rest @ ..] => *first == letter && begins_digit(base, rest),
+        [] => false,
+    }
+}
+
+/// The base of a word that is read as a number, 0 for any other word.
+pub(crate) fn number_base(text: &[u8]) -> u32
+    ensures base { result ≡ number_base text.now }
+    ensures most { result ≤ 16 }
+{
+    if begins_digit(10, text) {
+        8
+    } else if is_prefixed(b'd', 10, text) {
+        10
+    } else if is_prefixed(b'x', 16, text) {
+        16
+    } else {
+        0
+    }
+}
+
+/// Whether a word is read as a number.
+pub fn is_number_word(text: &[u8]) -> bool
+    ensures { result ≡ is_number_word text.now }
+{
+    number_base(text) != 0
+}
+
+/// The digits of a word that is read as a number.
+pub(crate) fn number_digits(text: &[u8]) -> &[u8]
+    ensures { result.now ≡ number_digits text.now }
+{
+    if begins_digit(10, text) {
+        text
+    } else {
+        behind(text, 1)
+    }
+}
+
+/// The value of a digit or a letter, 36 for any other byte.
+fn digit_value(byte: u8) -> u32
+    ensures value { result ≡ digit_value byte }
+    ensures most { result ≤ 36 }
+{
+    match byte {
+        b'0'..=b'9' => u32::from(byte) - 48,
+        b'A'..=b'Z' => u32::from(byte) - 55,
+        b'a'..=b'z' => u32::from(byte) - 87,
+        _ => 36,
+    }
+}
+
+/// The number with one more digit, or a bound where it is larger.
+fn with_digit(bound: u32, base: u32, value: u32, byte: u8) -> u32
+    requires { base ≤ 16 }
+    ensures value { result ≡ with_digit bound base value byte }
+{
+    let larger = u64::from(base) * u64::from(value) + u64::from(digit_value(byte));
+    larger.min(u64::from(bound)) as u32
+}
+
+/// The number that digits write, or a bound where it is larger.
+fn bounded_value(bound: u32, base: u32, digits: &[u8]) -> u32
+    requires { base ≤ 16 }
+    ensures { result ≡ bounded_value bound base digits.now }
+{
+    let mut value = 0;
+    for digit in digits {
+        value = with_digit(bound, base, value, *digit);
+    }
+    value
+}
+
+/// What a code point is as an item.
+fn character_lead(code: u32) -> Lead
+    ensures { result ≡ character_lead code }
+{
+    if code == 0 || code == 0xFFFF {
+        return Lead::Wrong(Code::L02);
+    }
+    match char::from_u32(code) {
+        Some(c) => Lead::One(c),
+        None => Lead::Wrong(Code::L04),
+    }
+}
+
+/// Whether all bytes are digits of a base.
+fn are_digits(base: u32, digits: &[u8]) -> bool
+    requires least { 2 ≤ base }
+    requires most { base ≤ 16 }
+    ensures { result ≡ list_all (λ b. is_digit b base) digits.now }
+{
+    digits.iter().all(|byte| is_digit(*byte, base))
+}
+
+/// What digits of a base are as an item.
+pub(crate) fn digits_lead(base: u32, digits: &[u8]) -> Lead
+    requires least { 2 ≤ base }
+    requires most { base ≤ 16 }
+    ensures { result ≡ digits_lead base digits.now }
+{
+    if are_digits(base, digits) {
+        character_lead(bounded_value(NO_CHARACTER, base, digits))
+    } else {
+        Lead::Wrong(Code::L04)
+    }
+}
+
+/// Whether a text is 1 to 9 decimal digits.
+pub(crate) fn is_offset(text: &[u8]) -> bool
+    ensures { result ≡ is_offset text.now }
+{
+    1 <= text.len() && text.len() <= 9 && are_digits(10, text)
+}
+
+/// The number of an offset.
+pub(crate) fn offset_value(text: &[u8]) -> u32
+    ensures { result ≡ offset_value text.now }
+{
+    bounded_value(LARGEST_OFFSET, 10, text)
+}

@@ -1,0 +1,115 @@
+ghost use Rattle.std.specs.Prelude.{◌≡◌, ◌+◌, ◌<◌, ◌^◌, length};
+ghost use Rattle.kmn_items.specs.Told.{told, told_token};
+ghost use Rattle.kmn_items.specs.Slots.{unless, offset_fault, slot_fault, cut_code, broken};
+
+use crate::numbers::is_offset;
+use crate::syntax::{Fault, Slot};
+use crate::text::{is_wordy, text_in};
+use crate::words::{bare_name, is_key_name, is_name};
+use kmn_base::Code;
+use kmn_base::slices::behind;
+use kmn_lines::{Token, TokenKind};
+
+/// The rule that is broken where a test fails.
+fn unless(holds: bool, code: Code) -> Option<Code>
+    ensures { result ≡ unless holds code }
+{
+    if holds { None } else { Some(code) }
+}
+
+/// The rule that a token breaks as an offset.
+fn offset_fault(source: &[u8], token: Token) -> Option<Code>
+    ensures { result ≡ offset_fault (told_token source.now token) }
+{
+    if is_wordy(token.kind) {
+        unless(is_offset(text_in(source, token)), Code::L04)
+    } else {
+        Some(Code::S02)
+    }
+}
+
+/// Whether a token is a name.
+fn is_name_token(source: &[u8], token: Token) -> bool
+    ensures { (slot_fault Slot.Name (told_token source.now token)) ≡ unless result Code.S02 }
+{
+    is_wordy(token.kind) && is_name(text_in(source, token))
+}
+
+/// Whether a token is the name of a store or of a system store.
+fn is_store_name(source: &[u8], token: Token) -> bool
+    ensures { (slot_fault Slot.StoreName (told_token source.now token)) ≡ unless result Code.S02 }
+{
+    is_wordy(token.kind) && is_name(bare_name(text_in(source, token)))
+}
+
+/// Whether a token is the name of a key.
+fn is_key_token(source: &[u8], token: Token) -> bool
+    ensures { (slot_fault Slot.KeyName (told_token source.now token)) ≡ unless result Code.S11 }
+{
+    matches!(token.kind, TokenKind::Word) && is_key_name(text_in(source, token))
+}
+
+/// Whether a token is `$` and a name.
+fn is_dollar_name(source: &[u8], token: Token) -> bool
+    ensures { (slot_fault Slot.DollarName (told_token source.now token)) ≡ unless result Code.S02 }
+{
+    is_name(behind(text_in(source, token), 1))
+}
+
+/// The rule that a token breaks at a place of a form.
+fn slot_fault(source: &[u8], slot: Slot, token: Token) -> Option<Code>
+    ensures { result ≡ slot_fault slot (told_token source.now token) }
+{
+    let holds = match slot {
+        Slot::Lead => true,
+        Slot::DollarName => is_dollar_name(source, token),
+        Slot::Open => matches!(token.kind, TokenKind::Open),
+        Slot::Close => matches!(token.kind, TokenKind::Close),
+        Slot::Comma => matches!(token.kind, TokenKind::Comma),
+        Slot::Equal => matches!(token.kind, TokenKind::Equal),
+        Slot::Comparison => matches!(token.kind, TokenKind::Equal | TokenKind::Unequal),
+        Slot::Name => is_name_token(source, token),
+        Slot::StoreName => is_store_name(source, token),
+        Slot::Value => matches!(token.kind, TokenKind::Quoted),
+        Slot::Argument => !matches!(token.kind, TokenKind::Close),
+        Slot::Offset => return offset_fault(source, token),
+        Slot::KeyName => return unless(is_key_token(source, token), Code::S11),
+        Slot::KeyEnd => return unless(matches!(token.kind, TokenKind::BracketClose), Code::S11),
+    };
+    unless(holds, Code::S02)
+}
+
+/// The rule that is broken where the tokens end before a place of a form.
+fn cut_code(slot: Slot) -> Code
+    ensures { result ≡ cut_code slot }
+{
+    match slot {
+        Slot::KeyName | Slot::KeyEnd => Code::S11,
+        _ => Code::S02,
+    }
+}
+
+/// The first token that breaks a form. `at` is the place of the first token in the line and `last` that of the line's
+/// last token, where a form breaks off at the latest.
+pub fn broken(
+    source: &[u8],
+    last: usize,
+    at: usize,
+    slots: &[Slot],
+    tokens: &[Token],
+) -> Option<Fault>
+    requires { at + length tokens.now < 2 ^ 62 }
+    ensures { result ≡ broken last at slots.now (told source.now tokens.now) }
+{
+    match (slots, tokens) {
+        ([], _) => None,
+        ([slot, ..], []) => Some(Fault {
+            at: at.min(last),
+            code: cut_code(*slot),
+        }),
+        ([slot, slots @ ..], [token, tokens @ ..]) => match slot_fault(source, *slot, *token) {
+            Some(code) => Some(Fault { at, code }),
+            None => broken(source, last, at + 1, slots, tokens),
+        },
+    }
+}

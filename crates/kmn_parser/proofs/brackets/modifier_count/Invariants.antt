@@ -1,7 +1,0 @@
-use Rattle.std.proofs.Common.{◌≡◌, ◌+◌, drop}
-use Rattle.kmn_parser.specs.Told.{told}
-use Rattle.kmn_parser.specs.Brackets.{modifier_count}
-use Rattle.kmn_parser.proofs.brackets.modifier_count.Given as goal
-
-abbrev pub invariant-loop-count : goal.invariant-loop-count
-invariant-loop-count l = l.count + modifier_count (told l.source (drop l.count l.tokens)) ≡ modifier_count (told l.source l.tokens)

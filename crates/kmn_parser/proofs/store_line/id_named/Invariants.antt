@@ -1,7 +1,0 @@
-use Rattle.std.proofs.Common.{◌≡◌, map, drop}
-use Rattle.kmn_base.specs.Names.{named_in}
-use Rattle.kmn_parser.proofs.store_line.id_named.Given as goal
-
-abbrev pub invariant-loop-row : goal.invariant-loop-row
-invariant-loop-row l =
-    named_in (map (λ row. (row.0.now, row.1)) (drop l.row-index l.table)) l.name ≡ named_in (map (λ row. (row.0.now, row.1)) l.table) l.name
