@@ -16,7 +16,7 @@ items-preserved c =
     let step = items_step c.args.place c.items.seen c.args.last c.items.next c.items.items tokens c.in-Ok.taken many c.in-Ok.ensures.read in
     let behind : told source c.behind-rest.result.now ≡ drop (1 + c.in-Ok.taken.more) tokens
     = ap (told source) c.behind-rest.ensures ∙ sym (drop_told source rest (1 + c.in-Ok.taken.more)) in
-    let appended = c.in_ok-append-in-Ok.ensures in
+    let appended = c.in_ok-items-in-Ok.ensures in
     let sizes = ap length c.behind-rest.ensures ∙ length-drop (1 + c.in-Ok.taken.more) rest in
     let before = c.items.invariant.few some in
     record {
