@@ -29,9 +29,9 @@ use Rattle.rule_model.specs.Choose.{Chosen, goes_before, best_with, best, first_
 use Rattle.rule_model.specs.Naming.{SourceNames, names_of}
 use Rattle.rule_model.specs.Tab.{tab, tab_rule}
 use Rattle.rule_model.specs.Src.{src, src_pattern, src_key, src_rule}
-use Rattle.rule_model.specs.Numbers.{Numbers, numbers_of}
-use Rattle.rule_model.specs.Compiles.{file_pattern, rule_records, stands_before}
-use Rattle.rule_model.specs.WellNamed.{have_own_lines}
+use Rattle.compile_laws.specs.Numbers.{Numbers, numbers_of}
+use Rattle.compile_laws.specs.Compiles.{file_pattern, rule_records, stands_before}
+use Rattle.rule_model.specs.OwnLines.{have_own_lines}
 use Rattle.compile_laws.proofs.Linked.{Linked}
 use Rattle.compile_laws.proofs.Known.{KnownRule}
 use Rattle.compile_laws.proofs.Patterns.{context_caught-count}

@@ -17,9 +17,9 @@ use Rattle.rule_model.specs.declared.tables.Tables.{Tables}
 use Rattle.rule_model.specs.Naming.{names_of, key_names, source_items, stores_of}
 use Rattle.rule_model.specs.Tab.{tab, tab_dictionary, distinct_onto, words, element_char, is_dictionary, store_elements}
 use Rattle.rule_model.specs.Src.{src}
-use Rattle.rule_model.specs.Numbers.{values_of, value_store, dictionary_stores}
-use Rattle.rule_model.specs.Compiles.{Compiles}
-use Rattle.rule_model.specs.WellNamed.{IsWellNamed, is_word}
+use Rattle.compile_laws.specs.Numbers.{values_of, value_store, dictionary_stores}
+use Rattle.compile_laws.specs.Compiles.{Compiles}
+use Rattle.compile_laws.specs.WellNamed.{IsWellNamed, is_word}
 use Rattle.compile_laws.proofs.Keyboards.{src_dictionary, tab_names}
 
 -- each item is the same as none before it

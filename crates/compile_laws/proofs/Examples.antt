@@ -34,9 +34,9 @@ use Rattle.rule_model.specs.KeyEvent.{after_key}
 use Rattle.rule_model.specs.Enter.{by_default}
 use Rattle.rule_model.specs.Event.{happening}
 use Rattle.rule_model.specs.Trace.{Step, trace}
-use Rattle.rule_model.specs.Numbers.{values_of, numbers_of, version_of, number_of_start, compiled_stores}
-use Rattle.rule_model.specs.Compiles.{Compiles, IsOrderedGroup, AreOrderedGroups, stands_before, file_group, is_ansi}
-use Rattle.rule_model.specs.WellNamed.{IsWellNamed}
+use Rattle.compile_laws.specs.Numbers.{values_of, numbers_of, version_of, number_of_start, compiled_stores}
+use Rattle.compile_laws.specs.Compiles.{Compiles, IsOrderedGroup, AreOrderedGroups, stands_before, file_group, is_ansi}
+use Rattle.compile_laws.specs.WellNamed.{IsWellNamed}
 use Rattle.compile_laws.proofs.Whole.{meaning_kept}
 
 -- the tables of a program, with the records of each group in order

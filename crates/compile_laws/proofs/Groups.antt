@@ -26,9 +26,9 @@ use Rattle.rule_model.specs.Enter.{by_default, default_of, nothing, act_if_any, 
 use Rattle.rule_model.specs.Naming.{names_of, rule_items}
 use Rattle.rule_model.specs.Tab.{tab, tab_rule, tab_group, tab_output, output_if_any}
 use Rattle.rule_model.specs.Src.{src, src_rule, src_group, src_outputs, is_plain, is_on_match, is_on_nomatch}
-use Rattle.rule_model.specs.Numbers.{numbers_of, number_of_group}
-use Rattle.rule_model.specs.Compiles.{Compiles, IsOrderedGroup, file_group, file_output, statement_outputs, or_nul}
-use Rattle.rule_model.specs.WellNamed.{IsWellNamed, is_group, is_known_group}
+use Rattle.compile_laws.specs.Numbers.{numbers_of, number_of_group}
+use Rattle.compile_laws.specs.Compiles.{Compiles, IsOrderedGroup, file_group, file_output, statement_outputs, or_nul}
+use Rattle.compile_laws.specs.WellNamed.{IsWellNamed, is_group, is_known_group}
 use Rattle.compile_laws.proofs.Keyboards.{src_groups, src_choice, tab_groups, tab_choice}
 use Rattle.compile_laws.proofs.Linked.{Linked}
 use Rattle.compile_laws.proofs.Known.{has_values, KnownGroup, KnownStatement, group_known}

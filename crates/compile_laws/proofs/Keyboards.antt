@@ -8,7 +8,7 @@ use Rattle.rule_model.specs.declared.program.Program.{Program}
 use Rattle.rule_model.specs.declared.tables.Tables.{Tables}
 use Rattle.rule_model.specs.Keyboard.{Keyboard, Numbered, Best, First}
 use Rattle.rule_model.specs.Naming.{names_of}
-use Rattle.rule_model.specs.WellNamed.{stated_stores}
+use Rattle.compile_laws.specs.WellNamed.{stated_stores}
 use Rattle.rule_model.specs.Src.{src, src_group, start_named, is_unicode}
 use Rattle.rule_model.specs.Tab.{tab, tab_group, tab_dictionary, tab_options, with_options}
 use Rattle.rule_model.specs.Enter.{enter_group}

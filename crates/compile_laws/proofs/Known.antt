@@ -12,8 +12,9 @@ use Rattle.rule_model.specs.declared.program.RuleKind.TheVariants.{Plain, OnMatc
 use Rattle.rule_model.specs.declared.program.SrcItem.{SrcItem}
 use Rattle.rule_model.specs.Naming.{rule_items}
 use Rattle.rule_model.specs.Src.{is_plain, is_plain_kind, is_match_kind, is_nomatch_kind, is_on_match, is_on_nomatch}
-use Rattle.rule_model.specs.Numbers.{item_values}
-use Rattle.rule_model.specs.WellNamed.{is_known_pattern, is_known_key, is_known_output, is_known_rule, have_own_lines, is_known_group}
+use Rattle.compile_laws.specs.Numbers.{item_values}
+use Rattle.compile_laws.specs.WellNamed.{is_known_pattern, is_known_key, is_known_output, is_known_rule, is_known_group}
+use Rattle.rule_model.specs.OwnLines.{have_own_lines}
 use Rattle.compile_laws.proofs.Linked.{is_value}
 
 -- the value of an item is one of the program's

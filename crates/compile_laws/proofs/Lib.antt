@@ -16,3 +16,4 @@ pub mod Whole
 pub mod Options
 pub mod Ordered
 pub mod Examples
+pub mod CompiledExamples

@@ -10,8 +10,8 @@ use Rattle.rule_model.specs.Content.{content, elements_at, store_number, option_
 use Rattle.rule_model.specs.Naming.{stores_of, elements_named}
 use Rattle.rule_model.specs.Tab.{tab, elements_of}
 use Rattle.rule_model.specs.Src.{src, value_elements}
-use Rattle.rule_model.specs.Numbers.{numbers_of, values_of, number_of_store, number_of_value}
-use Rattle.rule_model.specs.WellNamed.{is_store, is_fixed}
+use Rattle.compile_laws.specs.Numbers.{numbers_of, values_of, number_of_store, number_of_value}
+use Rattle.compile_laws.specs.WellNamed.{is_store, is_fixed}
 
 -- a value of a program
 abbrev pub is_value : Program → List ℕ → Bool

@@ -26,9 +26,9 @@ use Rattle.rule_model.specs.Hold.{key_of_element}
 use Rattle.rule_model.specs.Naming.{stores_of, elements_named, rule_items}
 use Rattle.rule_model.specs.Tab.{pattern_options, output_options, rule_options, group_options, tab_options}
 use Rattle.rule_model.specs.Src.{pattern_uses, output_uses, rule_uses, group_uses, numbers_named, src_options, is_plain, is_on_match, is_on_nomatch}
-use Rattle.rule_model.specs.Numbers.{numbers_of, number_of_store}
-use Rattle.rule_model.specs.Compiles.{Compiles, IsOrderedGroup, AreOrderedGroups, file_pattern, file_output, file_outputs, or_nul, element_outs, element_outs_if_any, file_record, records_from, own_key, keyed_records, rule_records, statement_outputs, file_group}
-use Rattle.rule_model.specs.WellNamed.{IsWellNamed, is_known_pattern, is_known_output, is_known_key, is_known_group, is_fixed, are_keys}
+use Rattle.compile_laws.specs.Numbers.{numbers_of, number_of_store}
+use Rattle.compile_laws.specs.Compiles.{Compiles, IsOrderedGroup, AreOrderedGroups, file_pattern, file_output, file_outputs, or_nul, element_outs, element_outs_if_any, file_record, records_from, own_key, keyed_records, rule_records, statement_outputs, file_group}
+use Rattle.compile_laws.specs.WellNamed.{IsWellNamed, is_known_pattern, is_known_output, is_known_key, is_known_group, is_fixed, are_keys}
 use Rattle.compile_laws.proofs.Known.{KnownRule, KnownStatement, KnownGroup, group_known, has_values}
 use Rattle.compile_laws.proofs.Values.{values_known}
 use Rattle.compile_laws.proofs.Places.{first_place}

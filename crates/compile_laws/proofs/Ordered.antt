@@ -25,11 +25,11 @@ use Rattle.rule_model.specs.declared.tables.Rule.{Rule}
 use Rattle.rule_model.specs.declared.tables.Tables.{Tables}
 use Rattle.rule_model.specs.Hold.{key_of_element}
 use Rattle.rule_model.specs.Naming.{elements_named}
-use Rattle.rule_model.specs.Numbers.{Numbers, numbers_of}
+use Rattle.compile_laws.specs.Numbers.{Numbers, numbers_of}
 use Rattle.rule_model.specs.Src.{is_plain}
-use Rattle.rule_model.specs.Compiles.{Compiles, IsOrderedGroup, AreOrderedGroups, file_record, own_key, records_from, keyed_records, rule_records, file_group, stands_before}
-use Rattle.rule_model.specs.Ordered.{placed, in_order, ordered_group, compiled_tables}
-use Rattle.rule_model.specs.WellNamed.{have_own_lines}
+use Rattle.compile_laws.specs.Compiles.{Compiles, IsOrderedGroup, AreOrderedGroups, file_record, own_key, records_from, keyed_records, rule_records, file_group, stands_before}
+use Rattle.compile_laws.specs.Ordered.{placed, in_order, ordered_group, compiled_tables}
+use Rattle.rule_model.specs.OwnLines.{have_own_lines}
 use Rattle.compile_laws.specs.Law.{HasOwnLines, TablesAreOnlyOnes, ProgramCompiles}
 use Rattle.compile_laws.proofs.Choices.{records_order}
 use Rattle.compile_laws.proofs.Groups.{ordered_group as group_of_order}

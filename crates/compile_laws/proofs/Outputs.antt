@@ -24,9 +24,9 @@ use Rattle.rule_model.specs.Act.{act, act_one, put_item, put_items, put_element,
 use Rattle.rule_model.specs.Naming.{names_of, stores_of, elements_named}
 use Rattle.rule_model.specs.Tab.{tab, tab_output}
 use Rattle.rule_model.specs.Src.{src, src_output}
-use Rattle.rule_model.specs.Numbers.{numbers_of, item_values, number_of_store, number_of_group}
-use Rattle.rule_model.specs.Compiles.{file_output, file_outputs, or_nul, element_outs, element_outs_if_any}
-use Rattle.rule_model.specs.WellNamed.{is_known_output, is_group, is_store, is_fixed}
+use Rattle.compile_laws.specs.Numbers.{numbers_of, item_values, number_of_store, number_of_group}
+use Rattle.compile_laws.specs.Compiles.{file_output, file_outputs, or_nul, element_outs, element_outs_if_any}
+use Rattle.compile_laws.specs.WellNamed.{is_known_output, is_group, is_store, is_fixed}
 use Rattle.compile_laws.proofs.Linked.{Linked, is_value}
 
 -- what a record of a key store catches is what the rule catches, but for the place in the key store

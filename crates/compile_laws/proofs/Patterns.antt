@@ -21,9 +21,9 @@ use Rattle.rule_model.specs.Hold.{is_true, is_at_start, pattern_count, has_room,
 use Rattle.rule_model.specs.Naming.{names_of}
 use Rattle.rule_model.specs.Tab.{tab, tab_pattern}
 use Rattle.rule_model.specs.Src.{src, src_pattern}
-use Rattle.rule_model.specs.Numbers.{numbers_of, item_values}
-use Rattle.rule_model.specs.Compiles.{file_pattern}
-use Rattle.rule_model.specs.WellNamed.{is_known_pattern}
+use Rattle.compile_laws.specs.Numbers.{numbers_of, item_values}
+use Rattle.compile_laws.specs.Compiles.{file_pattern}
+use Rattle.compile_laws.specs.WellNamed.{is_known_pattern}
 use Rattle.compile_laws.proofs.Linked.{Linked, is_value}
 
 -- two patterns, each at its content, ask the same

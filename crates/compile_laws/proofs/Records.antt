@@ -25,9 +25,9 @@ use Rattle.rule_model.specs.Hold.{key_of_element, fits_press, key_place, some_pl
 use Rattle.rule_model.specs.Naming.{names_of, stores_of, elements_named}
 use Rattle.rule_model.specs.Tab.{tab, tab_pattern, tab_rule}
 use Rattle.rule_model.specs.Src.{src, src_pattern, src_key, src_rule}
-use Rattle.rule_model.specs.Numbers.{Numbers, numbers_of}
-use Rattle.rule_model.specs.Compiles.{file_pattern, file_record, records_from, own_key, keyed_records, rule_records, stands_before}
-use Rattle.rule_model.specs.WellNamed.{is_known_pattern, is_known_key, is_fixed, are_keys}
+use Rattle.compile_laws.specs.Numbers.{Numbers, numbers_of}
+use Rattle.compile_laws.specs.Compiles.{file_pattern, file_record, records_from, own_key, keyed_records, rule_records, stands_before}
+use Rattle.compile_laws.specs.WellNamed.{is_known_pattern, is_known_key, is_fixed, are_keys}
 use Rattle.compile_laws.proofs.Linked.{Linked}
 use Rattle.compile_laws.proofs.Known.{KnownRule, has_values}
 use Rattle.compile_laws.proofs.Places.{position-cons}

@@ -17,9 +17,9 @@ use Rattle.rule_model.specs.Content.{options_before, store_number, elements_of_s
 use Rattle.rule_model.specs.Naming.{names_of, stores_of, elements_named}
 use Rattle.rule_model.specs.Tab.{tab, tab_options, with_options, store_elements, elements_of}
 use Rattle.rule_model.specs.Src.{src, src_options, value_elements}
-use Rattle.rule_model.specs.Numbers.{numbers_of, values_of, value_store, dictionary_stores, number_of_store, number_of_value}
-use Rattle.rule_model.specs.Compiles.{Compiles}
-use Rattle.rule_model.specs.WellNamed.{IsWellNamed, is_store, is_fixed, stated_stores}
+use Rattle.compile_laws.specs.Numbers.{numbers_of, values_of, value_store, dictionary_stores, number_of_store, number_of_value}
+use Rattle.compile_laws.specs.Compiles.{Compiles}
+use Rattle.compile_laws.specs.WellNamed.{IsWellNamed, is_store, is_fixed, stated_stores}
 use Rattle.rule_model.specs.Trace.{options_of, none_saved, first_state}
 use Rattle.compile_laws.proofs.Keyboards.{src_stores, tab_stores}
 use Rattle.compile_laws.proofs.Linked.{Linked, is_value}

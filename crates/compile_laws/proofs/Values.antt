@@ -10,7 +10,7 @@ use Rattle.rule_model.specs.declared.program.Program.{Program}
 use Rattle.rule_model.specs.declared.program.GroupDef.{GroupDef}
 use Rattle.rule_model.specs.Naming.{rule_items, all_rules}
 use Rattle.rule_model.specs.Tab.{distinct_onto}
-use Rattle.rule_model.specs.Numbers.{item_values, values_of}
+use Rattle.compile_laws.specs.Numbers.{item_values, values_of}
 use Rattle.compile_laws.proofs.Linked.{is_value}
 use Rattle.compile_laws.proofs.Known.{has_values}
 use Rattle.compile_laws.proofs.Places.{position-cons}

@@ -14,9 +14,9 @@ use Rattle.rule_model.specs.Enter.{enter_group}
 use Rattle.rule_model.specs.KeyEvent.{begin_event, after_key}
 use Rattle.rule_model.specs.Event.{State, happening_of, happening, event_refusal, unless_refused, event_of}
 use Rattle.rule_model.specs.Trace.{steps_from, first_state}
-use Rattle.rule_model.specs.Numbers.{numbers_of, number_of_start}
-use Rattle.rule_model.specs.Compiles.{Compiles}
-use Rattle.rule_model.specs.WellNamed.{IsWellNamed, is_known_start}
+use Rattle.compile_laws.specs.Numbers.{numbers_of, number_of_start}
+use Rattle.compile_laws.specs.Compiles.{Compiles}
+use Rattle.compile_laws.specs.WellNamed.{IsWellNamed, is_known_start}
 use Rattle.rule_model.specs.Src.{src, start_named, is_unicode}
 use Rattle.rule_model.specs.Tab.{tab}
 use Rattle.rule_model.specs.Trace.{Steps, trace}

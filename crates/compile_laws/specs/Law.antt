@@ -5,9 +5,10 @@ use Rattle.kmn_base.specs.declared.events.Event.{Event}
 use Rattle.rule_model.specs.declared.program.Program.{Program}
 use Rattle.rule_model.specs.declared.program.GroupDef.{GroupDef}
 use Rattle.rule_model.specs.declared.tables.Tables.{Tables}
-use Rattle.rule_model.specs.WellNamed.{IsWellNamed, have_own_lines}
-use Rattle.rule_model.specs.Compiles.{Compiles}
-use Rattle.rule_model.specs.Ordered.{compiled_tables}
+use Rattle.compile_laws.specs.WellNamed.{IsWellNamed}
+use Rattle.rule_model.specs.OwnLines.{have_own_lines}
+use Rattle.compile_laws.specs.Compiles.{Compiles}
+use Rattle.compile_laws.specs.Ordered.{compiled_tables}
 use Rattle.rule_model.specs.Src.{src}
 use Rattle.rule_model.specs.Tab.{tab}
 use Rattle.rule_model.specs.Trace.{trace}

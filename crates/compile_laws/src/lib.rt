@@ -1,7 +1,9 @@
-//! The law of the compiler: tables that a program compiles to mean what the program means.
+//! Which tables a program compiles to, and the law of that: such tables mean what the program means.
 //!
-//! It stands on the definitions of `rule_model`. The law is the contract of `compiling_keeps_meaning`, a function with an
-//! empty body; a layer above calls it where it has a program that is well named and the tables that it compiles to.
+//! It stands on `kmn_base`, `virtual_keys`, `rule_model` and, to say what a file means, on the definitions of `kmx_format`.
+//! `specs/Compiles` says which tables a program compiles to, `specs/WellNamed` of which programs that keeps the meaning, and
+//! `specs/Means` when bytes mean a program. A layer above that has a well-named program and its tables calls
+//! `compiling_keeps_meaning`, a function with an empty body, for the law in its contract.
 #![tactic(auto)]
 
 mod law;

@@ -7,9 +7,9 @@ use Rattle.kmx_writer.specs.Excess.{excess}
 use Rattle.rule_model.specs.declared.program.Program.{Program}
 use Rattle.rule_model.specs.declared.script.Entry.{Entry}
 use Rattle.rule_model.specs.declared.tables.Tables.{Tables}
-use Rattle.rule_model.specs.File.{file_of}
-use Rattle.rule_model.specs.Means.{Means}
-use Rattle.rule_model.specs.Ordered.{compiled_tables}
+use Rattle.kmx_format.specs.File.{file_of}
+use Rattle.compile_laws.specs.Means.{Means}
+use Rattle.compile_laws.specs.Ordered.{compiled_tables}
 use Rattle.rule_model.specs.Src.{src}
 use Rattle.rule_model.specs.Tab.{tab}
 use Rattle.rule_model.specs.Trace.{Steps, trace}

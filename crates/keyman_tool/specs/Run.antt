@@ -4,9 +4,9 @@ use Rattle.std.specs.List.{concat}
 use Rattle.std.specs.Fmt.{decimal}
 use Rattle.kmn_base.specs.declared.codes.Code.{Code}
 use Rattle.kmn_outside.specs.Outside.{Files, Rose, SameFiles, SameOthers}
-use Rattle.rule_model.specs.File.{file_of, all_rules}
-use Rattle.rule_model.specs.Means.{Means}
-use Rattle.rule_model.specs.Ordered.{compiled_tables}
+use Rattle.kmx_format.specs.File.{file_of, all_rules}
+use Rattle.compile_laws.specs.Means.{Means}
+use Rattle.compile_laws.specs.Ordered.{compiled_tables}
 use Rattle.rule_model.specs.Src.{src}
 use Rattle.rule_model.specs.Tab.{tab}
 use Rattle.rule_model.specs.Trace.{trace}

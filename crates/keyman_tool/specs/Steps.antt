@@ -13,10 +13,10 @@ use Rattle.kmn_outside.specs.declared.traits.ReadError.TheVariants as read
 use Rattle.rule_model.specs.declared.script.Entry.{Entry}
 use Rattle.rule_model.specs.declared.script.Entry.TheVariants.{Act, Expect}
 use Rattle.rule_model.specs.declared.tables.Tables.{Tables}
-use Rattle.rule_model.specs.File.{file_of}
+use Rattle.kmx_format.specs.File.{file_of}
 use Rattle.rule_model.specs.Tab.{tab}
-use Rattle.rule_model.specs.TablesOf.{tables_of}
-use Rattle.rule_model.specs.Writable.{IsFile, IsWritable}
+use Rattle.kmx_format.specs.TablesOf.{tables_of}
+use Rattle.kmx_format.specs.Writable.{IsFile, IsWritable}
 use Rattle.play_session.specs.Session.{is_key}
 use Rattle.kmn_compiler.specs.declared.compiling.Compiled.{Compiled}
 use Rattle.keyman_tool.specs.declared.forms.FormError.{FormError}

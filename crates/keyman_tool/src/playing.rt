@@ -1,7 +1,7 @@
 ghost use Rattle.std.specs.Prelude.{◌≡◌, ◌-◌, ◌<◌, ◌^◌, [], IsTrue, IfOk};
 ghost use Rattle.kmn_outside.specs.Outside.{WriteCounts};
 ghost use Rattle.rule_model.specs.Tab.{tab};
-ghost use Rattle.rule_model.specs.TablesOf.{tables_of};
+ghost use Rattle.kmx_format.specs.TablesOf.{tables_of};
 ghost use Rattle.rule_model.specs.Trace.{trace};
 ghost use Rattle.rule_model.specs.Transcript.{events_of, transcript};
 ghost use Rattle.play_session.specs.Session.{is_key};

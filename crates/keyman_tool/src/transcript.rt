@@ -1,7 +1,7 @@
 ghost use Rattle.std.specs.Prelude.{◌≡◌, ◌<◌, ◌^◌, ◌++◌, ◌∷◌, [], map, length, codes, IfOk, if◌then◌else◌};
 ghost use Rattle.std.specs.String.{string_bytes};
 ghost use Rattle.kmn_base.specs.Lists.{characters};
-ghost use Rattle.rule_model.specs.File.{file_of, all_rules, rules_of};
+ghost use Rattle.kmx_format.specs.File.{file_of, all_rules, rules_of};
 ghost use Rattle.std.specs.List.{flat_map};
 ghost use Rattle.rule_model.specs.Transcript.{refused_event_line};
 ghost use Rattle.keyman_tool.specs.Reasons.{reason_line, size_line};

@@ -15,18 +15,19 @@ use Rattle.rule_model.specs.declared.program.Program.{Program}
 use Rattle.rule_model.specs.declared.script.Entry.{Entry}
 use Rattle.rule_model.specs.declared.tables.Rule.{Rule}
 use Rattle.rule_model.specs.declared.tables.Tables.{Tables}
-use Rattle.rule_model.specs.CharacterForm.{else_line, outside_form, IsSoundGroup, IsSoundProgram}
-use Rattle.rule_model.specs.Compiles.{Compiles}
-use Rattle.rule_model.specs.File.{file_of}
-use Rattle.rule_model.specs.Means.{Means}
-use Rattle.rule_model.specs.Ordered.{in_order, compiled_tables}
+use Rattle.kmn_compiler.specs.CharacterForm.{else_line, outside_form, IsSoundGroup, IsSoundProgram}
+use Rattle.compile_laws.specs.Compiles.{Compiles}
+use Rattle.kmx_format.specs.File.{file_of}
+use Rattle.compile_laws.specs.Means.{Means}
+use Rattle.compile_laws.specs.Ordered.{in_order, compiled_tables}
 use Rattle.rule_model.specs.Src.{src}
 use Rattle.rule_model.specs.Tab.{tab}
-use Rattle.rule_model.specs.TablesOf.{tables_of, no_places}
+use Rattle.kmx_format.specs.TablesOf.{tables_of, no_places}
 use Rattle.rule_model.specs.Trace.{trace}
 use Rattle.rule_model.specs.Transcript.{transcript}
-use Rattle.rule_model.specs.WellNamed.{IsWellNamed, have_own_lines}
-use Rattle.rule_model.specs.Writable.{IsWritableName, IsWritable, IsFile}
+use Rattle.compile_laws.specs.WellNamed.{IsWellNamed}
+use Rattle.rule_model.specs.OwnLines.{have_own_lines}
+use Rattle.kmx_format.specs.Writable.{IsWritableName, IsWritable, IsFile}
 use Rattle.kmx_writer.specs.Excess.{excess}
 use Rattle.compile_laws.specs.Law.{HasOwnLines}
 use Rattle.compile_laws.proofs.Ordered.{in_order_permutes, in_order_sorted, tables_are_only_ones, program_compiles}
@@ -37,7 +38,7 @@ use Rattle.kmn_compiler.specs.Sound.{is_name_character, is_short, is_writable_na
 use Rattle.std.specs.Str.{is_utf8, chars}
 use Rattle.std.proofs.lemmas.Str.{IsUtf8-from_is_utf8}
 use Rattle.kmn_base.specs.Spelling.{char_units}
-use Rattle.rule_model.specs.FileUnits.{name_units}
+use Rattle.kmx_format.specs.FileUnits.{name_units}
 use Rattle.rule_model.specs.declared.program.RuleDef.{RuleDef}
 use Rattle.std.proofs.lemmas.Bool.{and_parts}
 use Rattle.std.specs.Prelude.{flat_map}

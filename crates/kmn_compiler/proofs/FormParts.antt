@@ -12,7 +12,7 @@ use Rattle.rule_model.specs.declared.program.GroupDef.{GroupDef}
 use Rattle.rule_model.specs.declared.program.BeginDef.{BeginDef}
 use Rattle.rule_model.specs.declared.program.Program.{Program}
 use Rattle.rule_model.specs.Src.{is_plain}
-use Rattle.rule_model.specs.CharacterForm.{is_character_item, is_character_key, is_character_rule, is_output_count, rule_line, earlier, outside_rule, outside_group, outside_groups, is_form_start, outside_start, outside_starts, outside_statement, missing_statement, else_line, outside_form}
+use Rattle.kmn_compiler.specs.CharacterForm.{is_character_item, is_character_key, is_character_rule, is_output_count, rule_line, earlier, outside_rule, outside_group, outside_groups, is_form_start, outside_start, outside_starts, outside_statement, missing_statement, else_line, outside_form}
 
 -- each rule of a list is of the form
 abbrev pub AreCharacterRules : List RuleDef → Type 0

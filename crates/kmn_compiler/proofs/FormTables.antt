@@ -5,10 +5,10 @@ use Rattle.rule_model.specs.declared.program.GroupDef.{GroupDef}
 use Rattle.rule_model.specs.declared.program.Program.{Program}
 use Rattle.rule_model.specs.declared.tables.Rule.{Rule}
 use Rattle.rule_model.specs.declared.tables.Tables.{Tables}
-use Rattle.rule_model.specs.CharacterForm.{outside_form, IsSoundGroup, IsSoundProgram}
-use Rattle.rule_model.specs.Compiles.{Compiles}
-use Rattle.rule_model.specs.WellNamed.{IsWellNamed}
-use Rattle.rule_model.specs.Writable.{IsWritable}
+use Rattle.kmn_compiler.specs.CharacterForm.{outside_form, IsSoundGroup, IsSoundProgram}
+use Rattle.compile_laws.specs.Compiles.{Compiles}
+use Rattle.compile_laws.specs.WellNamed.{IsWellNamed}
+use Rattle.kmx_format.specs.Writable.{IsWritable}
 use Rattle.kmn_compiler.specs.InOrder.{AreRecords}
 use Rattle.kmn_compiler.specs.Records.{group_with, tables_with}
 use Rattle.kmn_compiler.proofs.FormParts.{IsFormProgram, is_form_program, groups_are, only_group}

@@ -4,16 +4,16 @@ use Rattle.kmn_base.specs.declared.limits.TheConstants.{FILE_BYTES}
 use Rattle.kmn_base.specs.declared.events.Event.{Event}
 use Rattle.rule_model.specs.declared.program.Program.{Program}
 use Rattle.rule_model.specs.declared.tables.Tables.{Tables}
-use Rattle.rule_model.specs.Compiles.{Compiles}
-use Rattle.rule_model.specs.File.{file_of}
-use Rattle.rule_model.specs.Means.{Means}
+use Rattle.compile_laws.specs.Compiles.{Compiles}
+use Rattle.kmx_format.specs.File.{file_of}
+use Rattle.compile_laws.specs.Means.{Means}
 use Rattle.rule_model.specs.Src.{src}
 use Rattle.rule_model.specs.Tab.{tab}
-use Rattle.rule_model.specs.TablesOf.{tables_of, no_places}
+use Rattle.kmx_format.specs.TablesOf.{tables_of, no_places}
 use Rattle.rule_model.specs.Trace.{trace}
-use Rattle.rule_model.specs.WellNamed.{IsWellNamed}
-use Rattle.rule_model.specs.Writable.{IsWritable, IsFile}
-use Rattle.rule_model.proofs.FileLaw.{law as reading_gives_back}
+use Rattle.compile_laws.specs.WellNamed.{IsWellNamed}
+use Rattle.kmx_format.specs.Writable.{IsWritable, IsFile}
+use Rattle.kmx_format.proofs.FileLaw.{law as reading_gives_back}
 use Rattle.compile_laws.proofs.Whole.{meaning_kept}
 use Rattle.kmn_compiler.proofs.NoPlaces.{same_meaning}
 

@@ -7,7 +7,7 @@ use Rattle.rule_model.specs.declared.tables.Group.{Group}
 use Rattle.rule_model.specs.declared.tables.Tables.{Tables}
 use Rattle.rule_model.specs.Keyboard.{RuleMeaning, GroupMeaning}
 use Rattle.rule_model.specs.Tab.{tab, tab_rule, tab_group, tab_options, rule_options, group_options, with_options}
-use Rattle.rule_model.specs.TablesOf.{rule_without_place, group_without_places, no_places}
+use Rattle.kmx_format.specs.TablesOf.{rule_without_place, group_without_places, no_places}
 
 rules_mean : (stores : List Store) (using_keys : Bool) (rules : List Rule) → map (tab_rule stores using_keys) (map rule_without_place rules) ≡ map (tab_rule stores using_keys) rules
 rules_mean stores using_keys [] = refl

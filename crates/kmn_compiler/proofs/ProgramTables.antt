@@ -15,10 +15,11 @@ use Rattle.rule_model.specs.declared.tables.Rule.{Rule}
 use Rattle.rule_model.specs.declared.tables.Group.{Group}
 use Rattle.rule_model.specs.declared.tables.Tables.{Tables}
 use Rattle.rule_model.specs.Naming.{names_of, stores_of, mark_names, key_names}
-use Rattle.rule_model.specs.Numbers.{values_of, item_values, numbers_of, Numbers}
-use Rattle.rule_model.specs.Compiles.{Compiles, AreOrderedGroups, IsOrderedGroup, file_group, stands_before}
-use Rattle.rule_model.specs.WellNamed.{IsWellNamed, is_known_rule, is_known_pattern, is_known_output, is_known_key, is_known_group, have_own_lines}
-use Rattle.rule_model.specs.CharacterForm.{is_character, is_character_item, is_character_key, is_character_rule}
+use Rattle.compile_laws.specs.Numbers.{values_of, item_values, numbers_of, Numbers}
+use Rattle.compile_laws.specs.Compiles.{Compiles, AreOrderedGroups, IsOrderedGroup, file_group, stands_before}
+use Rattle.compile_laws.specs.WellNamed.{IsWellNamed, is_known_rule, is_known_pattern, is_known_output, is_known_key, is_known_group}
+use Rattle.rule_model.specs.OwnLines.{have_own_lines}
+use Rattle.kmn_compiler.specs.CharacterForm.{is_character, is_character_item, is_character_key, is_character_rule}
 use Rattle.kmn_compiler.specs.InOrder.{AreRecords}
 use Rattle.kmn_compiler.specs.Records.{record_of, group_with, tables_with}
 use Rattle.kmn_compiler.proofs.FormParts.{AreCharacterRules, IsFormRule, form_rule, IsFormGroup, IsFormProgram, program_of}

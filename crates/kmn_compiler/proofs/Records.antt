@@ -16,10 +16,10 @@ use Rattle.rule_model.specs.declared.tables.Out.{Out}
 use Rattle.rule_model.specs.declared.tables.Out.TheVariants as output
 use Rattle.rule_model.specs.declared.tables.Rule.{Rule}
 use Rattle.rule_model.specs.Naming.{rule_items, items_from}
-use Rattle.rule_model.specs.Numbers.{Numbers}
+use Rattle.compile_laws.specs.Numbers.{Numbers}
 use Rattle.rule_model.specs.Src.{is_plain, is_on_match, is_on_nomatch, is_plain_kind, is_match_kind, is_nomatch_kind}
-use Rattle.rule_model.specs.Compiles.{file_pattern, file_output, file_outputs, or_nul, file_record, own_key, keyed_records, rule_records}
-use Rattle.rule_model.specs.CharacterForm.{is_character, is_character_item, is_character_key, is_character_rule}
+use Rattle.compile_laws.specs.Compiles.{file_pattern, file_output, file_outputs, or_nul, file_record, own_key, keyed_records, rule_records}
+use Rattle.kmn_compiler.specs.CharacterForm.{is_character, is_character_item, is_character_key, is_character_rule}
 use Rattle.kmn_compiler.specs.Records.{context_item, output_item, record_key, record_of}
 use Rattle.kmn_compiler.proofs.FormParts.{AreCharacterRules, IsFormRule, form_rule}
 

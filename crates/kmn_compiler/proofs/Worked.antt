@@ -3,10 +3,10 @@ use Rattle.std.proofs.Common.{◌≡◌, ◌≢◌, ℕ, ◌^◌, ◌<◌, true,
 use Rattle.std.specs.List.{All}
 use Rattle.std.proofs.lemmas.List.Elements.{All-nil, All-cons, All-from_recursion}
 use Rattle.rule_model.specs.declared.program.RuleDef.{RuleDef}
-use Rattle.rule_model.specs.CharacterForm.{IsSoundGroup, IsSoundProgram}
-use Rattle.rule_model.specs.WellNamed.{have_own_lines}
-use Rattle.rule_model.specs.Writable.{IsWritableName}
-use Rattle.rule_model.proofs.FirstForm.{writable_name}
+use Rattle.kmn_compiler.specs.CharacterForm.{IsSoundGroup, IsSoundProgram}
+use Rattle.rule_model.specs.OwnLines.{have_own_lines}
+use Rattle.kmx_format.specs.Writable.{IsWritableName}
+use Rattle.kmx_format.proofs.WritableParts.{writable_name}
 use Rattle.kmn_compiler.specs.Worked.{worked_program}
 
 name_characters : All (λ c. (c ≢ 0) × (c < 128)) (codes "main")

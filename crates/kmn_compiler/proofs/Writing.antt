@@ -23,10 +23,10 @@ use Rattle.rule_model.specs.declared.tables.Out.TheVariants as output
 use Rattle.rule_model.specs.declared.tables.Rule.{Rule}
 use Rattle.rule_model.specs.declared.tables.Group.{Group}
 use Rattle.rule_model.specs.declared.tables.Tables.{Tables}
-use Rattle.rule_model.specs.FileUnits.{unit_item_of_pattern, unit_item_of_output}
-use Rattle.rule_model.specs.Writable.{IsWritable, IsWritableName, stores_of_pattern, PointsBack, PointsInto, IsWritableContext, IsWritableOutput, IsWritableKey, IsWritableRule, IsWritableGroup, IsWritableStore}
-use Rattle.rule_model.specs.CharacterForm.{is_character, is_character_item, is_character_key, is_character_rule, IsSoundGroup}
-use Rattle.rule_model.proofs.FirstForm.{characters_output, no_output}
+use Rattle.kmx_format.specs.FileUnits.{unit_item_of_pattern, unit_item_of_output}
+use Rattle.kmx_format.specs.Writable.{IsWritable, IsWritableName, stores_of_pattern, PointsBack, PointsInto, IsWritableContext, IsWritableOutput, IsWritableKey, IsWritableRule, IsWritableGroup, IsWritableStore}
+use Rattle.kmn_compiler.specs.CharacterForm.{is_character, is_character_item, is_character_key, is_character_rule, IsSoundGroup}
+use Rattle.kmx_format.proofs.WritableParts.{characters_output, no_output}
 use Rattle.kmn_compiler.specs.InOrder.{AreRecords}
 use Rattle.kmn_compiler.specs.Records.{context_item, output_item, record_key, record_of, group_with, tables_with}
 use Rattle.kmn_compiler.proofs.FormParts.{AreCharacterRules, IsFormRule, form_rule, IsFormGroup}

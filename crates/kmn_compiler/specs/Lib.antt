@@ -1,3 +1,4 @@
+pub mod CharacterForm
 pub mod Sound
 pub mod Source
 pub mod InOrder

@@ -5,7 +5,7 @@ use Rattle.kmn_base.specs.declared.refusals.CompileError.{CompileError}
 use Rattle.kmn_base.specs.declared.refusals.CompileError.TheVariants.{Refused, TooLarge, Memory}
 use Rattle.rule_model.specs.declared.program.Program.{Program}
 use Rattle.rule_model.specs.declared.tables.Tables.{Tables}
-use Rattle.rule_model.specs.Compiles.{Compiles}
+use Rattle.compile_laws.specs.Compiles.{Compiles}
 use Rattle.kmx_writer.specs.Excess.{excess}
 
 -- the file of the tables that a program compiles to would pass a limit, with this size

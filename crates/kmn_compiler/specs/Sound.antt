@@ -4,7 +4,7 @@ use Rattle.std.specs.List.{list_all}
 use Rattle.std.specs.Str.{is_utf8, chars}
 use Rattle.kmn_base.specs.declared.limits.TheConstants.{FILE_NAME_UNITS}
 use Rattle.kmn_base.specs.Spelling.{char_units}
-use Rattle.rule_model.specs.CharacterForm.{else_line, outside_form}
+use Rattle.kmn_compiler.specs.CharacterForm.{else_line, outside_form}
 use Rattle.rule_model.specs.declared.program.RuleDef.{RuleDef}
 use Rattle.rule_model.specs.declared.program.GroupDef.{GroupDef}
 use Rattle.rule_model.specs.declared.program.Program.{Program}

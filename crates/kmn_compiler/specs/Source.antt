@@ -8,11 +8,11 @@ use Rattle.kmn_compiler.specs.declared.compiling.Compiled.{Compiled}
 use Rattle.kmn_compiler.specs.Sound.{form_left}
 use Rattle.kmn_parser.specs.Source.{parsed}
 use Rattle.rule_model.specs.declared.program.Program.{Program}
-use Rattle.rule_model.specs.File.{file_of}
-use Rattle.rule_model.specs.Ordered.{compiled_tables}
+use Rattle.kmx_format.specs.File.{file_of}
+use Rattle.compile_laws.specs.Ordered.{compiled_tables}
 use Rattle.rule_model.specs.Tab.{tab}
-use Rattle.rule_model.specs.TablesOf.{tables_of}
-use Rattle.rule_model.specs.Writable.{IsFile, IsWritable}
+use Rattle.kmx_format.specs.TablesOf.{tables_of}
+use Rattle.kmx_format.specs.Writable.{IsFile, IsWritable}
 use Rattle.kmx_writer.specs.Excess.{excess}
 
 -- a program of the form that is compiled so far, or the line where it leaves it

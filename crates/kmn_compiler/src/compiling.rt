@@ -1,10 +1,10 @@
 ghost use Rattle.std.specs.Prelude.{◌≡◌, [], length, IfOk, IfErr};
-ghost use Rattle.rule_model.specs.CharacterForm.{IsCharacterForm, IsSoundProgram};
-ghost use Rattle.rule_model.specs.Compiles.{Compiles};
-ghost use Rattle.rule_model.specs.File.{file_of};
-ghost use Rattle.rule_model.specs.Means.{Means};
-ghost use Rattle.rule_model.specs.TablesOf.{tables_of, no_places};
-ghost use Rattle.rule_model.specs.Writable.{IsWritable, IsFile};
+ghost use Rattle.kmn_compiler.specs.CharacterForm.{IsCharacterForm, IsSoundProgram};
+ghost use Rattle.compile_laws.specs.Compiles.{Compiles};
+ghost use Rattle.kmx_format.specs.File.{file_of};
+ghost use Rattle.compile_laws.specs.Means.{Means};
+ghost use Rattle.kmx_format.specs.TablesOf.{tables_of, no_places};
+ghost use Rattle.kmx_format.specs.Writable.{IsWritable, IsFile};
 ghost use Rattle.kmx_writer.specs.Excess.{excess};
 ghost use Rattle.kmn_compiler.specs.Refusing.{HasNoFile};
 ghost use Rattle.kmn_compiler.specs.Source.{CompilesTo, compiled_program};

@@ -3,7 +3,7 @@
 ghost use Rattle.std.specs.Prelude.{◌≡◌, slice_get, option_map, not, find};
 ghost use Rattle.std.specs.List.{list_all};
 ghost use Rattle.kmn_base.specs.Names.{same_name};
-ghost use Rattle.rule_model.specs.CharacterForm.{is_character, is_character_item, is_character_key, is_character_rule, rule_line, earlier, outside_group, outside_groups, is_form_start, outside_start, outside_starts, outside_statement, outside_form};
+ghost use Rattle.kmn_compiler.specs.CharacterForm.{is_character, is_character_item, is_character_key, is_character_rule, rule_line, earlier, outside_group, outside_groups, is_form_start, outside_start, outside_starts, outside_statement, outside_form};
 
 use kmn_base::limits::{CONTEXT_ITEMS, OUTPUT_ITEMS, RECORDS};
 use rule_model::{BeginDef, GroupDef, Program, RuleDef, RuleKind, SrcItem};
@@ -176,7 +176,7 @@ fn outside_statement(program: &Program) -> Option<u32>
 
 /// Where a program leaves the form that is built: the line of the first statement that does, else 1 where there is no
 /// start statement or no group; None for a program of the form.
-#[tactic(auto, unfolding(rule_model::specs::CharacterForm::outside_form))]
+#[tactic(auto, unfolding(kmn_compiler::specs::CharacterForm::outside_form))]
 pub fn outside_form(program: &Program) -> Option<u32>
     ensures { result ≡ outside_form program.now }
 {

@@ -1,7 +1,7 @@
 //! The order of the records of a group.
 
 ghost use Rattle.std.specs.List.Sorted.{IsPermutation, IsSortedBy};
-ghost use Rattle.rule_model.specs.Compiles.{stands_before};
+ghost use Rattle.compile_laws.specs.Compiles.{stands_before};
 
 use kmn_base::Seq;
 use rule_model::Rule;

@@ -1,9 +1,9 @@
 //! The tables of a program of the form.
 
 ghost use Rattle.std.specs.Prelude.{◌≡◌, IfOk};
-ghost use Rattle.rule_model.specs.CharacterForm.{IsCharacterForm, IsSoundProgram};
-ghost use Rattle.rule_model.specs.Compiles.{Compiles};
-ghost use Rattle.rule_model.specs.Writable.{IsWritable};
+ghost use Rattle.kmn_compiler.specs.CharacterForm.{IsCharacterForm, IsSoundProgram};
+ghost use Rattle.compile_laws.specs.Compiles.{Compiles};
+ghost use Rattle.kmx_format.specs.Writable.{IsWritable};
 ghost use Rattle.kmn_compiler.specs.Records.{group_with, tables_with};
 ghost use Rattle.kmn_compiler.specs.InOrder.{AreRecords};
 

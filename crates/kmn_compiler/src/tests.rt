@@ -1,5 +1,5 @@
 ghost use Rattle.std.specs.Prelude.{◌≡◌, [], ◌∷◌, map, chars, IfOk};
-ghost use Rattle.rule_model.specs.CharacterForm.{IsSoundProgram};
+ghost use Rattle.kmn_compiler.specs.CharacterForm.{IsSoundProgram};
 ghost use Rattle.rule_model.specs.declared.program.SrcItem.TheVariants.{Char};
 ghost use Rattle.kmn_compiler.specs.Worked.{worked_rule, worked_program};
 

@@ -20,7 +20,7 @@ use Rattle.rule_model.specs.declared.program.BeginDef.{BeginDef}
 use Rattle.rule_model.specs.declared.program.RuleDef.{RuleDef}
 use Rattle.rule_model.specs.declared.program.GroupDef.{GroupDef}
 use Rattle.rule_model.specs.declared.program.Program.{Program}
-use Rattle.rule_model.specs.WellNamed.{have_own_lines}
+use Rattle.rule_model.specs.OwnLines.{have_own_lines}
 use Rattle.kmn_items.specs.declared.syntax.Fault.{Fault}
 use Rattle.kmn_parser.specs.declared.statement.Statement.{Statement}
 use Rattle.kmn_parser.specs.declared.statement.Statement.TheVariants as statement

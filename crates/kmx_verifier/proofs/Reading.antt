@@ -5,7 +5,7 @@ use Rattle.std.proofs.lemmas.Bool.{cond-false}
 use Rattle.std.proofs.lemmas.List.{take_at, take_all}
 use Rattle.kmn_base.specs.Spelling.{unit_bytes, whole_units}
 use Rattle.kmn_base.proofs.UnitBytes.{unit_bytes_joined, whole_units-unit_bytes}
-use Rattle.rule_model.specs.TablesOf.{before_zero}
+use Rattle.kmx_format.specs.TablesOf.{before_zero}
 
 -- the bytes before the rest are units of a string that goes on in the rest
 pub record Passed (bytes rest : List ℕ) : Type 0 where

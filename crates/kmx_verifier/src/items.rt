@@ -2,7 +2,7 @@
 
 ghost use Rattle.std.specs.Prelude.{◌≡◌, ◌-◌, ◌≤◌, length, IfOk};
 ghost use Rattle.kmn_base.specs.declared.limits.TheConstants.{FILE_BYTES};
-ghost use Rattle.rule_model.specs.TablesOf.{string_at, items_of, element_of_unit_item, comparison_of, pattern_of_unit_item, output_of_unit_item, elements_at, patterns_at, outputs_at};
+ghost use Rattle.kmx_format.specs.TablesOf.{string_at, items_of, element_of_unit_item, comparison_of, pattern_of_unit_item, output_of_unit_item, elements_at, patterns_at, outputs_at};
 
 use crate::strings::string_bytes;
 use item_codec::items_of;
@@ -11,7 +11,7 @@ use rule_model::{Out, Pat};
 use std::alloc::Global;
 
 /// The items of the string at an offset, up to the first place at which none is spelled.
-#[tactic(auto, unfolding(rule_model::specs::TablesOf::items_of))]
+#[tactic(auto, unfolding(kmx_format::specs::TablesOf::items_of))]
 fn items_at(alloc: Global, bytes: &[u8], offset: u32) -> Result<Vec<UnitItem>, Memory>
     requires { length bytes.now ≤ FILE_BYTES }
     ensures { IfOk result (λ items. items.items ≡ items_of (string_at bytes.now offset)) }

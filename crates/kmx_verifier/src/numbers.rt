@@ -1,10 +1,10 @@
 //! Numbers at a place of a file, little-endian, and 0 where they aren't wholly in it.
 
 ghost use Rattle.std.specs.Prelude.{◌≡◌, ◌<◌, ◌^◌};
-ghost use Rattle.rule_model.specs.TablesOf.{half_at, word_at};
+ghost use Rattle.kmx_format.specs.TablesOf.{half_at, word_at};
 
 /// The number in the two bytes at a place.
-#[tactic(auto, unfolding(rule_model::specs::TablesOf::half_at))]
+#[tactic(auto, unfolding(kmx_format::specs::TablesOf::half_at))]
 pub(crate) fn half_at(bytes: &[u8], place: usize) -> u16
     requires { place < 2 ^ 63 }
     ensures { result ≡ half_at bytes.now place }
@@ -17,7 +17,7 @@ pub(crate) fn half_at(bytes: &[u8], place: usize) -> u16
 }
 
 /// The number in the four bytes at a place.
-#[tactic(auto, unfolding(rule_model::specs::TablesOf::word_at))]
+#[tactic(auto, unfolding(kmx_format::specs::TablesOf::word_at))]
 pub(crate) fn word_at(bytes: &[u8], place: usize) -> u32
     requires { place < 2 ^ 63 }
     ensures { result ≡ word_at bytes.now place }

@@ -2,20 +2,15 @@
 
 ghost use Rattle.std.specs.Prelude.{◌≡◌, ◌<◌, ◌≤◌, ◌^◌, length, IfOk};
 ghost use Rattle.kmn_base.specs.declared.limits.TheConstants.{FILE_BYTES};
-ghost use Rattle.rule_model.specs.TablesOf.{store_at, stores_from, key_of, rule_at, rules_from, group_at, groups_from, tables_of};
+ghost use Rattle.kmx_format.specs.TablesOf.{store_at, stores_from, key_of, rule_at, rules_from, group_at, groups_from, tables_of};
 
 use crate::items::{elements_at, outputs_at, patterns_at};
 use crate::numbers::{half_at, word_at};
 use crate::strings::name_at;
 use kmn_base::{Memory, RuleKey, Seq};
+use kmx_format::sizes::{GROUP_BYTES, RULE_BYTES, STORE_BYTES};
 use rule_model::{Group, Rule, Store, Tables};
 use std::alloc::Global;
-
-const STORE_BYTES: usize = 12;
-
-const GROUP_BYTES: usize = 24;
-
-const RULE_BYTES: usize = 20;
 
 fn store_at(alloc: Global, bytes: &[u8], place: usize) -> Result<Store, Memory>
     requires place { place < 2 ^ 62 }
@@ -121,7 +116,7 @@ fn groups_from(alloc: Global, bytes: &[u8], place: u32, count: u32) -> Result<Se
 }
 
 /// The tables that the bytes have.
-#[tactic(auto, unfolding(rule_model::specs::TablesOf::tables_of))]
+#[tactic(auto, unfolding(kmx_format::specs::TablesOf::tables_of))]
 pub(crate) fn tables_of(alloc: Global, bytes: &[u8]) -> Result<Tables, Memory>
     requires { length bytes.now ≤ FILE_BYTES }
     ensures { IfOk result (λ tables. tables ≡ tables_of bytes.now) }

@@ -2,7 +2,7 @@
 
 ghost use Rattle.std.specs.Prelude.{◌≡◌, ◌≤◌, length, IfOk};
 ghost use Rattle.kmn_base.specs.Spelling.{unit_bytes, whole_units};
-ghost use Rattle.rule_model.specs.TablesOf.{before_zero, string_at, name_at};
+ghost use Rattle.kmx_format.specs.TablesOf.{before_zero, string_at, name_at};
 
 use kmn_base::{Memory, Seq, Text};
 use std::alloc::Global;
@@ -23,7 +23,7 @@ fn bytes_before_zero(bytes: &[u8]) -> &[u8]
 }
 
 /// The bytes of the string at an offset, of which 0 is the empty string, without its zero unit.
-#[tactic(auto, unfolding(rule_model::specs::TablesOf::string_at))]
+#[tactic(auto, unfolding(kmx_format::specs::TablesOf::string_at))]
 pub(crate) fn string_bytes(bytes: &[u8], offset: u32) -> &[u8]
     ensures units { result.now ≡ unit_bytes (string_at bytes.now offset) }
     ensures within { length result.now ≤ length bytes.now }
@@ -49,7 +49,7 @@ fn units_of(alloc: Global, bytes: &[u8]) -> Result<Vec<u16>, Memory>
 }
 
 /// The name at an offset, in UTF-8.
-#[tactic(auto, using(crate::proofs::Reading::units_again), unfolding(rule_model::specs::TablesOf::name_at))]
+#[tactic(auto, using(crate::proofs::Reading::units_again), unfolding(kmx_format::specs::TablesOf::name_at))]
 pub(crate) fn name_at(alloc: Global, bytes: &[u8], offset: u32) -> Result<Text, Memory>
     ensures { IfOk result (λ name. name ≡ name_at bytes.now offset) }
 {

@@ -1,11 +1,10 @@
-ghost use Rattle.std.specs.Prelude.{◌≡◌, ◌<◌, ◌^◌, length, IfOk};
-ghost use Rattle.std.specs.List.{flat_map};
-ghost use Rattle.rule_model.specs.File.{rules_of};
-ghost use Rattle.rule_model.specs.Writable.{IsFile};
+ghost use Rattle.std.specs.Prelude.{◌≡◌, length, IfOk};
+ghost use Rattle.kmx_format.specs.Writable.{IsFile};
 
 use crate::records::tables_of;
 use kmn_base::{Code, Memory};
-use rule_model::{Group, Tables};
+use kmx_format::rule_count;
+use rule_model::Tables;
 use std::alloc::Global;
 use std::marker::Model;
 use thiserror::Error;
@@ -37,8 +36,8 @@ pub struct Verified<'a> {
 
 impl<'a> Model for Verified<'a> {
     ghost use Rattle.std.specs.Prelude.{◌≡◌, ℕ, List};
-    ghost use Rattle.rule_model.specs.TablesOf.{tables_of};
-    ghost use Rattle.rule_model.specs.Writable.{IsWritable};
+    ghost use Rattle.kmx_format.specs.TablesOf.{tables_of};
+    ghost use Rattle.kmx_format.specs.Writable.{IsWritable};
 
     ghost Value = { List ℕ };
 
@@ -48,9 +47,9 @@ impl<'a> Model for Verified<'a> {
 }
 
 impl<'a> Verified<'a> {
-    ghost use Rattle.rule_model.specs.File.{all_rules};
-    ghost use Rattle.rule_model.specs.TablesOf.{tables_of};
-    ghost use Rattle.rule_model.specs.Writable.{IsWritable};
+    ghost use Rattle.kmx_format.specs.File.{all_rules};
+    ghost use Rattle.kmx_format.specs.TablesOf.{tables_of};
+    ghost use Rattle.kmx_format.specs.Writable.{IsWritable};
 
     /// The bytes of the file.
     pub fn bytes(&self) -> &'a [u8]
@@ -92,19 +91,8 @@ impl<'a> Verified<'a> {
     pub fn rule_count(&self) -> u32
         ensures { result ≡ length (all_rules (tables_of self.now)) }
     {
-        count_rules(self.tables.groups.as_slice())
+        rule_count(self.tables.groups.as_slice()) as u32
     }
-}
-
-fn count_rules(groups: &[Group]) -> u32
-    requires { length (flat_map rules_of groups.now) < 2 ^ 32 }
-    ensures { result ≡ length (flat_map rules_of groups.now) }
-{
-    let mut count = 0;
-    for group in groups {
-        count += group.rules.len() as u32;
-    }
-    count
 }
 
 /// Opens a file that was written here, without looking for faults.

@@ -5,8 +5,8 @@ use Rattle.std.proofs.lemmas.List.{drop_more}
 use Rattle.std.proofs.lemmas.List.Concat.{flat_map-append}
 use Rattle.rule_model.specs.declared.tables.Rule.{Rule}
 use Rattle.rule_model.specs.declared.tables.Group.{Group}
-use Rattle.rule_model.specs.File.{rules_of, rule_strings, rule_records}
-use Rattle.rule_model.proofs.FileRecords.{rule_records-append}
+use Rattle.kmx_format.specs.File.{rules_of, rule_strings, rule_records}
+use Rattle.kmx_format.proofs.FileRecords.{rule_records-append}
 
 -- the rules from a group on are its own and those of the groups behind it
 pub rules_from_group : (groups : List Group) (i : ℕ) (group : Group) → i < length groups → group ≡ get_or groups i group

@@ -3,10 +3,10 @@ use Rattle.std.proofs.Common.{◌≡◌, ℕ, suc, ◌+◌, ◌*◌, ◌<◌, �
 use Rattle.std.proofs.lemmas.List.{length-map}
 use Rattle.kmn_base.specs.declared.units.UnitItem.{UnitItem}
 use Rattle.kmn_base.specs.Spelling.{unit_bytes}
-use Rattle.rule_model.specs.File.{string, offset_of}
-use Rattle.rule_model.specs.FileUnits.{item_units}
-use Rattle.rule_model.proofs.FileItems.{length-item_units}
-use Rattle.rule_model.proofs.FileSize.{length-unit_bytes}
+use Rattle.kmx_format.specs.File.{string, offset_of}
+use Rattle.kmx_format.specs.FileUnits.{item_units}
+use Rattle.kmx_format.proofs.FileItems.{length-item_units}
+use Rattle.kmx_format.proofs.FileSize.{length-unit_bytes}
 use Rattle.kmx_writer.specs.Sizes.{string_size}
 
 pub length_string : (units : List ℕ) → length (string units) ≡ string_size (length units)

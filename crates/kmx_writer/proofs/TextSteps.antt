@@ -8,9 +8,9 @@ use Rattle.std.proofs.lemmas.Str.{IsUtf8-past_char, chars_past_char, chars-nil, 
 use Rattle.std.proofs.lemmas.Bool.{cases_lt}
 use Rattle.std.proofs.lemmas.List.Concat.{flat_map-append}
 use Rattle.kmn_base.specs.Spelling.{char_units, unit_bytes}
-use Rattle.rule_model.specs.File.{string}
-use Rattle.rule_model.specs.FileUnits.{name_units}
-use Rattle.rule_model.proofs.FileItems.{char_units_low, char_units_high}
+use Rattle.kmx_format.specs.File.{string}
+use Rattle.kmx_format.specs.FileUnits.{name_units}
+use Rattle.kmx_format.proofs.FileItems.{char_units_low, char_units_high}
 
 -- the units of a text's characters
 abbrev pub text_units : List ℕ → List ℕ

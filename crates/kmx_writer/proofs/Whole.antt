@@ -6,10 +6,10 @@ use Rattle.kmn_base.specs.declared.codes.Code.TheVariants.{C23}
 use Rattle.rule_model.specs.declared.tables.Rule.{Rule}
 use Rattle.rule_model.specs.declared.tables.Group.{Group}
 use Rattle.rule_model.specs.declared.tables.Tables.{Tables}
-use Rattle.rule_model.specs.File.{file_of, picture_place}
-use Rattle.rule_model.specs.Writable.{IsWritableRule, IsWritableGroup, IsWritable, IsFile}
-use Rattle.rule_model.proofs.FileLaw.{length-file_of}
-use Rattle.rule_model.proofs.FileSize.{picture_place_small}
+use Rattle.kmx_format.specs.File.{file_of, picture_place}
+use Rattle.kmx_format.specs.Writable.{IsWritableRule, IsWritableGroup, IsWritable, IsFile}
+use Rattle.kmx_format.proofs.FileLaw.{length-file_of}
+use Rattle.kmx_format.proofs.FileSize.{picture_place_small}
 use Rattle.kmx_writer.specs.Excess.{excess}
 use Rattle.kmx_writer.specs.Spellings.{IsSpellableRule, IsSpellableGroup, AreSpellable}
 

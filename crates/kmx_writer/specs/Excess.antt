@@ -6,7 +6,7 @@ use Rattle.kmn_base.specs.declared.codes.Code.TheVariants.{C23, C24}
 use Rattle.kmn_base.specs.declared.refusals.CompileError.{CompileError}
 use Rattle.kmn_base.specs.declared.refusals.CompileError.TheVariants.{Refused, TooLarge, Memory}
 use Rattle.rule_model.specs.declared.tables.Tables.{Tables}
-use Rattle.rule_model.specs.File.{file_of}
+use Rattle.kmx_format.specs.File.{file_of}
 
 -- the limit that is passed and the size that passes it: first the picture's limit, then the file's
 abbrev pub excess : Tables → List ℕ → Option (Code × ℕ)

@@ -1,7 +1,7 @@
 -- Where the parts of a file begin.
 use Rattle.std.specs.Prelude.{◌≡◌}
 use Rattle.rule_model.specs.declared.tables.Tables.{Tables}
-use Rattle.rule_model.specs.File.{groups_place, rules_place, store_strings_place, group_strings_place, rule_strings_place, picture_place}
+use Rattle.kmx_format.specs.File.{groups_place, rules_place, store_strings_place, group_strings_place, rule_strings_place, picture_place}
 use Rattle.kmx_writer.specs.declared.places.Places.{Places}
 
 -- the places are those of the parts of the tables' file

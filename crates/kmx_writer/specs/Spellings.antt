@@ -6,9 +6,9 @@ use Rattle.kmn_base.specs.Spelling.{IsSpellable}
 use Rattle.rule_model.specs.declared.tables.Rule.{Rule}
 use Rattle.rule_model.specs.declared.tables.Group.{Group}
 use Rattle.rule_model.specs.declared.tables.Tables.{Tables}
-use Rattle.rule_model.specs.File.{picture_place}
-use Rattle.rule_model.specs.FileUnits.{unit_item_of_pattern, unit_item_of_output}
-use Rattle.rule_model.specs.Writable.{IsWritableStore}
+use Rattle.kmx_format.specs.File.{picture_place}
+use Rattle.kmx_format.specs.FileUnits.{unit_item_of_pattern, unit_item_of_output}
+use Rattle.kmx_format.specs.Writable.{IsWritableStore}
 
 -- each item of a rule has a spelling
 pub record IsSpellableRule (rule : Rule) : Type 0 where

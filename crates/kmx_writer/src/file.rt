@@ -1,15 +1,16 @@
 ghost use Rattle.std.specs.Prelude.{◌≡◌, ◌+◌, ◌≤◌, ◌<◌, ◌++◌, length, IfOk, IfErr, OnOk};
-ghost use Rattle.rule_model.specs.File.{header, file_of, picture_place};
-ghost use Rattle.rule_model.specs.Writable.{IsWritable, IsFile};
+ghost use Rattle.kmx_format.specs.File.{header, file_of, picture_place};
+ghost use Rattle.kmx_format.specs.Writable.{IsWritable, IsFile};
 ghost use Rattle.kmx_writer.specs.Excess.{excess, IsExcess};
 ghost use Rattle.kmx_writer.specs.Places.{ArePlaces};
 ghost use Rattle.kmx_writer.specs.Spellings.{AreSpellable};
 
-use crate::places::{HEADER_BYTES, Places, places_of};
+use crate::places::{Places, places_of};
 use crate::units::{offset_of, put_words};
 use crate::{groups, stores};
 use kmn_base::limits::{FILE_BYTES, PICTURE_BYTES};
 use kmn_base::{Code, CompileError, Memory, Seq};
+use kmx_format::sizes::HEADER_BYTES;
 use rule_model::Tables;
 use std::alloc::Global;
 
@@ -50,7 +51,7 @@ fn put_header(
 }
 
 /// The file of the tables and a picture.
-#[tactic(auto, unfolding(rule_model::specs::File::file_of))]
+#[tactic(auto, unfolding(kmx_format::specs::File::file_of))]
 fn file(alloc: Global, tables: &Tables, places: &Places, picture: &[u8]) -> Result<Seq<u8>, Memory>
     requires spellable { AreSpellable tables.now }
     requires places { ArePlaces tables.now places.now }

@@ -2,7 +2,8 @@
 
 ghost use Rattle.std.specs.Prelude.{◌≡◌, ◌+◌, ◌*◌, ◌<◌, ◌^◌, ◌++◌, length, IfOk, OnOk};
 ghost use Rattle.std.specs.List.{All, flat_map};
-ghost use Rattle.rule_model.specs.File.{rules_of, rule_strings, group_strings, group_record, group_records, rule_records};
+ghost use Rattle.kmx_format.specs.declared.sizes.TheConstants.{RULE_BYTES};
+ghost use Rattle.kmx_format.specs.File.{rules_of, rule_strings, group_strings, group_record, group_records, rule_records};
 ghost use Rattle.kmx_writer.specs.Spellings.{IsSpellableGroup};
 
 use crate::names::{name_size, put_name};
@@ -10,9 +11,8 @@ use crate::rules;
 use crate::spelled::{put_string, string_size};
 use crate::units::{offset_of, put_words};
 use kmn_base::{Memory, Seq};
+use kmx_format::sizes::RULE_BYTES;
 use rule_model::Group;
-
-const RULE_BYTES: u32 = 20;
 
 /// How many bytes the strings of a group take.
 fn strings_size(group: &Group) -> u64
@@ -49,18 +49,6 @@ pub(crate) fn rule_strings_size(groups: &[Group]) -> u64
         size += rules::all_strings_size(group.rules.as_slice());
     }
     size
-}
-
-/// How many key records all groups have.
-pub(crate) fn rule_count(groups: &[Group]) -> u64
-    requires { length (flat_map rules_of groups.now) < 2 ^ 62 }
-    ensures { result ≡ length (flat_map rules_of groups.now) }
-{
-    let mut count = 0;
-    for group in groups {
-        count += group.rules.len() as u64;
-    }
-    count
 }
 
 /// Puts the record of a group whose key records and whose strings begin at two places, and answers the place behind
@@ -103,7 +91,7 @@ pub(crate) fn put_records(
     groups: &[Group],
 ) -> Result<(), Memory>
     requires spellable { All IsSpellableGroup groups.now }
-    requires rules_fit { rules_place + 20 * length (flat_map rules_of groups.now) < 2 ^ 32 }
+    requires rules_fit { rules_place + RULE_BYTES * length (flat_map rules_of groups.now) < 2 ^ 32 }
     requires fits { place + length (flat_map group_strings groups.now) < 2 ^ 32 }
     ensures { OnOk result (out.new ≡ out.old ++ group_records rules_place place groups.now) }
 {
@@ -111,7 +99,7 @@ pub(crate) fn put_records(
     let mut place = place;
     for group in groups {
         place = put_record(out, rules_place, place, group)?;
-        rules_place += RULE_BYTES * group.rules.len() as u32;
+        rules_place += (RULE_BYTES * group.rules.len()) as u32;
     }
     Ok(())
 }

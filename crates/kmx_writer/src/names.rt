@@ -3,8 +3,8 @@
 ghost use Rattle.std.specs.Prelude.{◌≡◌, ◌<◌, ◌^◌, ◌++◌, length, OnOk};
 ghost use Rattle.std.specs.Str.{IsUtf8};
 ghost use Rattle.kmn_base.specs.Spelling.{unit_bytes};
-ghost use Rattle.rule_model.specs.File.{string};
-ghost use Rattle.rule_model.specs.FileUnits.{name_units};
+ghost use Rattle.kmx_format.specs.File.{string};
+ghost use Rattle.kmx_format.specs.FileUnits.{name_units};
 
 use crate::units::{char_unit_count, put_char, put_units, size_of_units};
 use kmn_base::{Memory, Seq};
@@ -21,7 +21,7 @@ fn text_of(name: &[u8]) -> &str
 }
 
 /// How many units a name has.
-#[tactic(auto, unfolding(rule_model::specs::FileUnits::name_units))]
+#[tactic(auto, unfolding(kmx_format::specs::FileUnits::name_units))]
 fn name_unit_count(name: &[u8]) -> u64
     requires utf8 { IsUtf8 name.now }
     requires fits { length (name_units name.now) < 2 ^ 64 }
@@ -35,7 +35,7 @@ fn name_unit_count(name: &[u8]) -> u64
 }
 
 /// Puts the units of a name at the end.
-#[tactic(auto, unfolding(rule_model::specs::FileUnits::name_units))]
+#[tactic(auto, unfolding(kmx_format::specs::FileUnits::name_units))]
 fn put_name_units(out: &mut Seq<u8>, name: &[u8]) -> Result<(), Memory>
     requires { IsUtf8 name.now }
     ensures { OnOk result (out.new ≡ out.old ++ unit_bytes (name_units name.now)) }

@@ -2,15 +2,9 @@ ghost use Rattle.kmx_writer.specs.Places.{ArePlaces};
 ghost use Rattle.kmx_writer.specs.Spellings.{AreSpellable};
 
 use crate::{groups, stores};
+use kmx_format::rule_count;
+use kmx_format::sizes::{GROUP_BYTES, HEADER_BYTES, RULE_BYTES, STORE_BYTES};
 use rule_model::Tables;
-
-pub(crate) const HEADER_BYTES: u64 = 64;
-
-const STORE_BYTES: u64 = 12;
-
-const GROUP_BYTES: u64 = 24;
-
-const RULE_BYTES: u64 = 20;
 
 /// Where the parts of a file begin behind its header and its store array, in bytes.
 #[derive(Clone, Copy, Debug, PartialEq, Eq)]
@@ -28,9 +22,9 @@ pub(crate) fn places_of(tables: &Tables) -> Places
     requires { AreSpellable tables.now }
     ensures { ArePlaces tables.now result }
 {
-    let groups = HEADER_BYTES + STORE_BYTES * tables.stores.len() as u64;
-    let rules = groups + GROUP_BYTES * tables.groups.len() as u64;
-    let store_strings = rules + RULE_BYTES * groups::rule_count(tables.groups.as_slice());
+    let groups = HEADER_BYTES as u64 + STORE_BYTES as u64 * tables.stores.len() as u64;
+    let rules = groups + GROUP_BYTES as u64 * tables.groups.len() as u64;
+    let store_strings = rules + RULE_BYTES as u64 * rule_count(tables.groups.as_slice());
     let group_strings = store_strings + stores::all_strings_size(tables.stores.as_slice());
     let rule_strings = group_strings + groups::all_strings_size(tables.groups.as_slice());
     let picture = rule_strings + groups::rule_strings_size(tables.groups.as_slice());

@@ -2,7 +2,7 @@
 
 ghost use Rattle.std.specs.Prelude.{◌≡◌, ◌+◌, ◌<◌, ◌^◌, ◌++◌, length, IfOk, OnOk};
 ghost use Rattle.std.specs.List.{All, flat_map};
-ghost use Rattle.rule_model.specs.File.{key_code, key_flags, rule_fields, rule_strings, rule_record, rule_records};
+ghost use Rattle.kmx_format.specs.File.{key_code, key_flags, rule_fields, rule_strings, rule_record, rule_records};
 ghost use Rattle.kmx_writer.specs.Spellings.{IsSpellableRule};
 
 use crate::spelled::{put_string, string_size};

@@ -2,87 +2,17 @@
 
 ghost use Rattle.std.specs.Prelude.{◌≡◌, ◌+◌, ◌<◌, ◌^◌, ◌++◌, length, map, OnOk};
 ghost use Rattle.std.specs.List.{All};
-ghost use Rattle.kmn_base.specs.declared.units.UnitItem.{UnitItem};
 ghost use Rattle.kmn_base.specs.Spelling.{IsSpellable, unit_bytes};
-ghost use Rattle.rule_model.specs.File.{string};
-ghost use Rattle.rule_model.specs.FileUnits.{unit_item_of_element, unit_item_of_pattern, unit_item_of_output, item_units};
+ghost use Rattle.kmx_format.specs.File.{string};
+ghost use Rattle.kmx_format.specs.FileUnits.{item_units};
 
 use crate::units::{put_units, size_of_units, unit_count};
 use item_codec::spell;
-use kmn_base::{Element, Memory, Seq, UnitItem};
-use rule_model::{Out, Pat};
-
-/// What stands in a string as an item of it.
-pub(crate) trait Spelled {
-    ghost spelled: { Self → UnitItem };
-
-    /// The item as it is spelled.
-    fn unit_item(&self) -> UnitItem
-        requires { IsSpellable (spelled self.now) }
-        ensures { result ≡ spelled self.now };
-}
-
-impl Spelled for Element {
-    ghost spelled = { unit_item_of_element };
-
-    fn unit_item(&self) -> UnitItem {
-        match *self {
-            Element::Char(c) => UnitItem::Char(c),
-            Element::Mark(mark) => UnitItem::Dead(mark),
-            Element::Key { flags, code } => UnitItem::Key(flags, code),
-        }
-    }
-}
-
-/// A store or group number as a file has it, from 1.
-fn from_one(number: u32) -> u16
-    requires { number + 1 < 2 ^ 16 }
-    ensures { result ≡ number + 1 }
-{
-    number as u16 + 1
-}
-
-impl Spelled for Pat {
-    ghost spelled = { unit_item_of_pattern };
-
-    fn unit_item(&self) -> UnitItem {
-        match *self {
-            Pat::Char(c) => UnitItem::Char(c),
-            Pat::Mark(mark) => UnitItem::Dead(mark),
-            Pat::Any(store) => UnitItem::Any(from_one(store)),
-            Pat::NotAny(store) => UnitItem::NotAny(from_one(store)),
-            Pat::Index(store, offset) => UnitItem::Index(from_one(store), offset as u16),
-            Pat::ContextAt(offset) => UnitItem::ContextAt(offset as u16),
-            Pat::Equal(store, value) => UnitItem::Test(from_one(store), 2, from_one(value)),
-            Pat::Unequal(store, value) => UnitItem::Test(from_one(store), 1, from_one(value)),
-            Pat::Nul => UnitItem::Nul,
-        }
-    }
-}
-
-impl Spelled for Out {
-    ghost spelled = { unit_item_of_output };
-
-    fn unit_item(&self) -> UnitItem {
-        match *self {
-            Out::Char(c) => UnitItem::Char(c),
-            Out::Mark(mark) => UnitItem::Dead(mark),
-            Out::Index(store, offset) => UnitItem::Index(from_one(store), offset as u16),
-            Out::Context => UnitItem::Context,
-            Out::ContextAt(offset) => UnitItem::ContextAt(offset as u16),
-            Out::Enter(group) => UnitItem::Enter(from_one(group)),
-            Out::Set(store, value) => UnitItem::Set(from_one(store), from_one(value)),
-            Out::Save(store) => UnitItem::Save(from_one(store)),
-            Out::Reset(store) => UnitItem::Reset(from_one(store)),
-            Out::Nul => UnitItem::Nul,
-            Out::Beep => UnitItem::Beep,
-            Out::Stop => UnitItem::Stop,
-        }
-    }
-}
+use kmn_base::{Memory, Seq};
+use kmx_format::Spelled;
 
 /// How many units the items have.
-#[tactic(auto, unfolding(rule_model::specs::FileUnits::item_units))]
+#[tactic(auto, unfolding(kmx_format::specs::FileUnits::item_units))]
 fn item_unit_count<T: Spelled>(items: &[T]) -> u64
     requires spellable { All (λ item. IsSpellable (T.spelled item)) items.now }
     requires fits { length (item_units (map T.spelled items.now)) < 2 ^ 64 }
@@ -96,7 +26,7 @@ fn item_unit_count<T: Spelled>(items: &[T]) -> u64
 }
 
 /// Puts the units of items at the end.
-#[tactic(auto, unfolding(rule_model::specs::FileUnits::item_units))]
+#[tactic(auto, unfolding(kmx_format::specs::FileUnits::item_units))]
 fn put_items<T: Spelled>(out: &mut Seq<u8>, items: &[T]) -> Result<(), Memory>
     requires { All (λ item. IsSpellable (T.spelled item)) items.now }
     ensures { OnOk result (out.new ≡ out.old ++ unit_bytes (item_units (map T.spelled items.now))) }

@@ -2,8 +2,8 @@
 
 ghost use Rattle.std.specs.Prelude.{◌≡◌, ◌+◌, ◌<◌, ◌^◌, ◌++◌, length, IfOk, OnOk};
 ghost use Rattle.std.specs.List.{All, flat_map};
-ghost use Rattle.rule_model.specs.File.{store_strings, store_record, store_records};
-ghost use Rattle.rule_model.specs.Writable.{IsWritableStore};
+ghost use Rattle.kmx_format.specs.File.{store_strings, store_record, store_records};
+ghost use Rattle.kmx_format.specs.Writable.{IsWritableStore};
 
 use crate::names::{name_size, put_name};
 use crate::spelled::{put_string, string_size};

@@ -1,5 +1,5 @@
 ghost use Rattle.std.specs.Prelude.{◌≡◌, ◌∷◌, [], IfOk};
-ghost use Rattle.rule_model.specs.WorkedFiles.{plain_rule, main_tables, one_rule, two_keys};
+ghost use Rattle.kmx_format.specs.WorkedFiles.{plain_rule, main_tables, one_rule, two_keys};
 
 use crate::write;
 use kmn_base::{Code, CompileError, Element, Memory, RuleKey, Seq, Text};

@@ -2,19 +2,19 @@
 
 ghost use Rattle.std.specs.Prelude.{◌≡◌, ◌<◌, ◌^◌, ◌++◌, length, nat_eq, if◌then◌else◌, OnOk};
 ghost use Rattle.kmn_base.specs.Spelling.{char_units, spelling, unit_bytes};
-ghost use Rattle.rule_model.specs.File.{half, words};
+ghost use Rattle.kmx_format.specs.File.{half, words};
 ghost use Rattle.kmx_writer.specs.Sizes.{string_size};
 
 use kmn_base::{Memory, Seq, UnitItem};
 
-#[tactic(auto, unfolding(rule_model::specs::File::half))]
+#[tactic(auto, unfolding(kmx_format::specs::File::half))]
 pub(crate) fn put_half(out: &mut Seq<u8>, number: u16) -> Result<(), Memory>
     ensures { OnOk result (out.new ≡ out.old ++ half number) }
 {
     out.extend_from_slice(&number.to_le_bytes())
 }
 
-#[tactic(auto, unfolding(rule_model::specs::File::word))]
+#[tactic(auto, unfolding(kmx_format::specs::File::word))]
 pub(crate) fn put_words(out: &mut Seq<u8>, numbers: &[u32]) -> Result<(), Memory>
     ensures { OnOk result (out.new ≡ out.old ++ words numbers.now) }
 {

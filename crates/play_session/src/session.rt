@@ -1,7 +1,7 @@
 ghost use Rattle.std.specs.Prelude.{◌≡◌, ◌≤◌, length, IfOk, IfErr, IsTrue, IsSome, Ok};
 ghost use Rattle.kmn_base.specs.declared.events.Event.TheVariants as event;
 ghost use Rattle.kmn_base.specs.Lists.{characters, window};
-ghost use Rattle.rule_model.specs.TablesOf.{tables_of};
+ghost use Rattle.kmx_format.specs.TablesOf.{tables_of};
 ghost use Rattle.rule_model.specs.Event.{whole_text, event_refusal, event_of};
 ghost use Rattle.rule_model.specs.Tab.{tab};
 ghost use Rattle.rule_model.specs.Trace.{first_state};

@@ -1,6 +1,6 @@
 ghost use Rattle.std.specs.Prelude.{◌≡◌, ◌-◌, ◌<◌, ◌^◌, length, drop, IfOk, MatchResult};
 ghost use Rattle.kmn_base.specs.Lists.{window};
-ghost use Rattle.rule_model.specs.TablesOf.{tables_of};
+ghost use Rattle.kmx_format.specs.TablesOf.{tables_of};
 ghost use Rattle.rule_model.specs.KeyEvent.{common_prefix};
 
 use crate::first::{first_current, first_saved};

@@ -1,19 +1,8 @@
 pub mod Bounds
 pub mod Budget
 pub mod Choosing
-pub mod CompiledExamples
 pub mod Edits
 pub mod Examples
-pub mod FileContents
-pub mod FileGroups
-pub mod FileItems
-pub mod FileLaw
-pub mod FileRecords
-pub mod FileSize
-pub mod FileStands
-pub mod FileStrings
-pub mod FileWritable
-pub mod FirstForm
 pub mod Insertions
 pub mod Kept
 pub mod LeftLists
@@ -26,4 +15,3 @@ pub mod PlainSteps
 pub mod PlainWords
 pub mod Soundness
 pub mod Steps
-pub mod WorkedFiles

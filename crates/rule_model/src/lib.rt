@@ -1,14 +1,11 @@
 //! What a keyboard is, as a source states it and as a compiled file has it.
 //!
-//! It stands on `kmn_base`, `virtual_keys` and `item_codec`, whose definitions say how a string of a file is read. `program` has the statements of a source, `tables` those of a file, and
+//! It stands on `kmn_base` and `virtual_keys`. `program` has the statements of a source, `tables` those of a file, and
 //! `state` what a keyboard acts on. The meaning stands in `specs/` (`docs/MEANING.md` tells it in words), `step_laws` has
-//! its laws. `after_key` computes over tables what a key press does, and `plain_event` whole events. `specs/File` has the bytes of a compiled
-//! file, `specs/TablesOf` what is read of it, `specs/Writable` which tables it can have, and `file_laws` that these fit
-//! together.
+//! its laws. `after_key` computes over tables what a key press does, and `plain_event` whole events.
 #![tactic(auto)]
 
 mod acting;
-pub mod file_laws;
 mod left;
 mod plain;
 mod program;

@@ -1,6 +1,6 @@
 use Rattle.std.proofs.Common.{◌≡◌, ◌+◌, ◌∙◌, ap, refl, rules, arith}
 use Rattle.rule_model.specs.Act.{one_more}
-use Rattle.rule_model.specs.TablesOf.{tables_of}
+use Rattle.kmx_format.specs.TablesOf.{tables_of}
 use Rattle.keyman_tool.specs.declared.playing.PlayEnd.TheVariants as play
 use Rattle.keyman_tool.specs.Playing.{Plays, entry_line}
 use Rattle.keyman_tool.proofs.PrintingLaws.{none_begun}

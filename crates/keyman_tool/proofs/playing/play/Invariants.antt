@@ -1,6 +1,6 @@
 use Rattle.std.proofs.Common.{◌≡◌, [], drop, IsTrue}
 use Rattle.rule_model.specs.Tab.{tab}
-use Rattle.rule_model.specs.TablesOf.{tables_of}
+use Rattle.kmx_format.specs.TablesOf.{tables_of}
 use Rattle.rule_model.specs.Trace.{trace}
 use Rattle.rule_model.specs.Transcript.{events_of, transcript}
 use Rattle.keyman_tool.specs.Playing.{steps_left, lines_left}

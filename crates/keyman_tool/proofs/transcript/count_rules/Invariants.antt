@@ -1,6 +1,6 @@
 use Rattle.std.proofs.Common.{◌≡◌, ◌+◌, length, drop}
 use Rattle.std.specs.List.{flat_map}
-use Rattle.rule_model.specs.File.{rules_of}
+use Rattle.kmx_format.specs.File.{rules_of}
 use Rattle.keyman_tool.proofs.transcript.count_rules.Given as goal
 
 abbrev pub invariant-loop-group : goal.invariant-loop-group

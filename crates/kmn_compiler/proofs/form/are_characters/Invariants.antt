@@ -1,6 +1,6 @@
 use Rattle.std.proofs.Common.{◌≡◌, drop}
 use Rattle.std.specs.List.{list_all}
-use Rattle.rule_model.specs.CharacterForm.{is_character_item}
+use Rattle.kmn_compiler.specs.CharacterForm.{is_character_item}
 use Rattle.kmn_compiler.proofs.form.are_characters.Given as goal
 
 abbrev pub invariant-loop-item : goal.invariant-loop-item

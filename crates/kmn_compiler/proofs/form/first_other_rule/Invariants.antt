@@ -1,6 +1,6 @@
 use Rattle.std.proofs.Common.{◌≡◌, drop}
 use Rattle.std.specs.Prelude.{find, not}
-use Rattle.rule_model.specs.CharacterForm.{is_character_rule}
+use Rattle.kmn_compiler.specs.CharacterForm.{is_character_rule}
 use Rattle.kmn_compiler.proofs.form.first_other_rule.Given as goal
 
 abbrev pub invariant-loop-rule : goal.invariant-loop-rule

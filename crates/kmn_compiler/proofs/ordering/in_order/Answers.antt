@@ -2,7 +2,7 @@ use Rattle.std.proofs.Common.{length, rules, sym, subst}
 use Rattle.std.specs.List.Sorted.{IsSortedBy}
 use Rattle.std.proofs.lemmas.List.Sorted.{answers_always}
 use Rattle.rule_model.specs.declared.tables.Rule.{Rule}
-use Rattle.rule_model.specs.Compiles.{stands_before}
+use Rattle.compile_laws.specs.Compiles.{stands_before}
 use Rattle.kmn_compiler.proofs.ordering.in_order.Goals as goal
 
 pub returns-clause-in_order : goal.returns-clause-in_order

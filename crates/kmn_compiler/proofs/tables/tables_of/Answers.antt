@@ -1,7 +1,7 @@
 use Rattle.std.proofs.Common.{◌≡◌, ◌≤◌, length, ap, sym, subst, arith}
 use Rattle.std.proofs.lemmas.Result.{IfOk-weaker}
-use Rattle.rule_model.specs.Compiles.{Compiles}
-use Rattle.rule_model.specs.Writable.{IsWritable}
+use Rattle.compile_laws.specs.Compiles.{Compiles}
+use Rattle.kmx_format.specs.Writable.{IsWritable}
 use Rattle.kmn_compiler.proofs.FormParts.{some_group}
 use Rattle.kmn_compiler.proofs.FormTables.{form_compiles, form_writable}
 use Rattle.kmn_compiler.proofs.tables.tables_of.Goals as goal

@@ -1,7 +1,7 @@
 use Rattle.std.proofs.Common.{sym, ap, subst, ◌∙◌}
 use Rattle.std.proofs.lemmas.Result.{IfOk-weaker}
 use Rattle.rule_model.specs.declared.program.RuleDef.{RuleDef}
-use Rattle.rule_model.specs.CharacterForm.{IsSoundProgram}
+use Rattle.kmn_compiler.specs.CharacterForm.{IsSoundProgram}
 use Rattle.kmn_compiler.proofs.Worked.{sound_one}
 use Rattle.kmn_compiler.proofs.tests.one_rule.Goals as goal
 

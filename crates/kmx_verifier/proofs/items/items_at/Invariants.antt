@@ -1,7 +1,7 @@
 use Rattle.std.proofs.Common.{◌≡◌, ◌++◌}
 use Rattle.kmn_base.specs.Spelling.{unit_bytes}
 use Rattle.item_codec.specs.Walk.{items_given, results_of}
-use Rattle.rule_model.specs.TablesOf.{string_at}
+use Rattle.kmx_format.specs.TablesOf.{string_at}
 use Rattle.kmx_verifier.proofs.items.items_at.Given as goal
 
 abbrev pub invariant-loop-read : goal.invariant-loop-read

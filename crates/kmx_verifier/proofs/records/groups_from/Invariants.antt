@@ -1,5 +1,5 @@
 use Rattle.std.proofs.Common.{◌≡◌, ◌+◌, ◌-◌, ◌*◌, ◌++◌}
-use Rattle.rule_model.specs.TablesOf.{groups_from}
+use Rattle.kmx_format.specs.TablesOf.{groups_from}
 use Rattle.kmx_verifier.proofs.records.groups_from.Given as goal
 
 abbrev pub invariant-loop-i : goal.invariant-loop-i

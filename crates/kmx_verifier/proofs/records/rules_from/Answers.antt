@@ -1,5 +1,5 @@
 use Rattle.std.proofs.Common.{refl}
-use Rattle.rule_model.specs.TablesOf.{rule_at, rules_from}
+use Rattle.kmx_format.specs.TablesOf.{rule_at, rules_from}
 use Rattle.kmx_verifier.proofs.Reading.{records-more}
 use Rattle.kmx_verifier.proofs.records.rules_from.Goals as goal
 

@@ -1,5 +1,5 @@
 use Rattle.std.proofs.Common.{◌≡◌, ◌+◌, ◌-◌, ◌*◌, ◌++◌}
-use Rattle.rule_model.specs.TablesOf.{rules_from}
+use Rattle.kmx_format.specs.TablesOf.{rules_from}
 use Rattle.kmx_verifier.proofs.records.rules_from.Given as goal
 
 abbrev pub invariant-loop-i : goal.invariant-loop-i

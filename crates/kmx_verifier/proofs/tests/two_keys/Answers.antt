@@ -1,4 +1,4 @@
-use Rattle.rule_model.proofs.WorkedFiles.{two_keys_is_file}
+use Rattle.kmx_format.proofs.WorkedFiles.{two_keys_is_file}
 use Rattle.kmx_verifier.proofs.tests.two_keys.Goals as goal
 
 pub adopt-requires : goal.adopt-requires

@@ -1,6 +1,6 @@
 use Rattle.std.proofs.Common.{sym, subst}
-use Rattle.rule_model.specs.Writable.{IsWritable}
-use Rattle.rule_model.proofs.FileWritable.{files_have_writable_tables}
+use Rattle.kmx_format.specs.Writable.{IsWritable}
+use Rattle.kmx_format.proofs.FileWritable.{files_have_writable_tables}
 use Rattle.kmx_verifier.proofs.verified.adopt.Goals as goal
 
 pub invariant_of-result : goal.invariant_of-result

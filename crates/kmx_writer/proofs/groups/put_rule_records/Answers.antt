@@ -2,7 +2,7 @@ use Rattle.std.proofs.Common.{◌+◌, ◌++◌, List, drop, sym, ap, ◌∙◌}
 use Rattle.std.specs.List.{flat_map}
 use Rattle.std.proofs.lemmas.List.Elements.{All-same}
 use Rattle.rule_model.specs.declared.tables.Rule.{Rule}
-use Rattle.rule_model.specs.File.{rules_of}
+use Rattle.kmx_format.specs.File.{rules_of}
 use Rattle.kmx_writer.specs.Spellings.{IsSpellableRule, IsSpellableGroup}
 use Rattle.kmx_writer.proofs.RuleSteps.{rules_from_group, puts_on}
 use Rattle.kmx_writer.proofs.groups.put_rule_records.Goals as goal

@@ -1,6 +1,6 @@
 use Rattle.std.proofs.Common.{◌+◌, ◌++◌, length, drop}
 use Rattle.std.specs.List.{flat_map}
-use Rattle.rule_model.specs.File.{rules_of, rule_strings, rule_records}
+use Rattle.kmx_format.specs.File.{rules_of, rule_strings, rule_records}
 use Rattle.kmx_writer.proofs.RuleSteps.{PutsOn}
 use Rattle.kmx_writer.proofs.groups.put_rule_records.Given as goal
 

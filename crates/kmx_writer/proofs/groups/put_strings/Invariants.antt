@@ -1,6 +1,6 @@
 use Rattle.std.proofs.Common.{◌≡◌, ◌++◌, drop}
 use Rattle.std.specs.List.{flat_map}
-use Rattle.rule_model.specs.File.{group_strings}
+use Rattle.kmx_format.specs.File.{group_strings}
 use Rattle.kmx_writer.proofs.groups.put_strings.Given as goal
 
 abbrev pub invariant-loop-group : goal.invariant-loop-group

@@ -1,6 +1,6 @@
 use Rattle.std.proofs.Common.{ap, length, arith}
 use Rattle.std.specs.Str.Iter.{chars_rest}
-use Rattle.rule_model.specs.FileUnits.{name_units}
+use Rattle.kmx_format.specs.FileUnits.{name_units}
 use Rattle.kmx_writer.proofs.TextSteps.{steps_over, units_step, no_text}
 use Rattle.kmx_writer.proofs.names.name_unit_count.Goals as goal
 

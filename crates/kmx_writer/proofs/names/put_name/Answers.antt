@@ -1,7 +1,7 @@
 use Rattle.std.proofs.Common.{◌≡◌, ◌<◌, [], ◌∷◌, length, sym, ◌∙◌, append-nil, append_assoc, arith, eqb-true}
 use Rattle.std.proofs.lemmas.Bool.{eqb-false}
 use Rattle.kmn_base.specs.Spelling.{unit_bytes}
-use Rattle.rule_model.specs.FileUnits.{name_units}
+use Rattle.kmx_format.specs.FileUnits.{name_units}
 use Rattle.kmx_writer.proofs.Strings.{string_units}
 use Rattle.kmx_writer.proofs.TextSteps.{has_units, no_units}
 use Rattle.kmx_writer.proofs.names.put_name.Goals as goal

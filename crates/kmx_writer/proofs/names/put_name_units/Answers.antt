@@ -1,5 +1,5 @@
 use Rattle.std.specs.Str.Iter.{chars_rest}
-use Rattle.rule_model.specs.FileUnits.{name_units}
+use Rattle.kmx_format.specs.FileUnits.{name_units}
 use Rattle.kmx_writer.proofs.TextSteps.{steps_over, put_more, put_all}
 use Rattle.kmx_writer.proofs.names.put_name_units.Goals as goal
 

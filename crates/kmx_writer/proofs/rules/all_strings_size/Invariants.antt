@@ -1,6 +1,6 @@
 use Rattle.std.proofs.Common.{◌≡◌, ◌+◌, length, drop}
 use Rattle.std.specs.List.{flat_map}
-use Rattle.rule_model.specs.File.{rule_strings}
+use Rattle.kmx_format.specs.File.{rule_strings}
 use Rattle.kmx_writer.proofs.rules.all_strings_size.Given as goal
 
 abbrev pub invariant-loop-rule : goal.invariant-loop-rule

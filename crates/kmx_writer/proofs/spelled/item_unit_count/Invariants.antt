@@ -1,5 +1,5 @@
 use Rattle.std.proofs.Common.{◌≡◌, ◌+◌, length, map, drop}
-use Rattle.rule_model.specs.FileUnits.{item_units}
+use Rattle.kmx_format.specs.FileUnits.{item_units}
 use Rattle.kmx_writer.proofs.spelled.item_unit_count.Given as goal
 
 abbrev pub invariant-loop-item : goal.invariant-loop-item

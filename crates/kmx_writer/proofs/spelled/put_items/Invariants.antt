@@ -1,6 +1,6 @@
 use Rattle.std.proofs.Common.{◌≡◌, ◌++◌, map, drop}
 use Rattle.kmn_base.specs.Spelling.{unit_bytes}
-use Rattle.rule_model.specs.FileUnits.{item_units}
+use Rattle.kmx_format.specs.FileUnits.{item_units}
 use Rattle.kmx_writer.proofs.spelled.put_items.Given as goal
 
 abbrev pub invariant-loop-item : goal.invariant-loop-item

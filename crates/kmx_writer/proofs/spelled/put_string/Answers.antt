@@ -1,7 +1,7 @@
 use Rattle.std.proofs.Common.{◌≡◌, ◌<◌, [], ◌∷◌, length, map, sym, ◌∙◌, append-nil, append_assoc, arith, eqb-true}
 use Rattle.std.proofs.lemmas.Bool.{eqb-false}
 use Rattle.kmn_base.specs.Spelling.{unit_bytes}
-use Rattle.rule_model.specs.FileUnits.{item_units}
+use Rattle.kmx_format.specs.FileUnits.{item_units}
 use Rattle.kmx_writer.proofs.Strings.{string_units, has_units, no_units}
 use Rattle.kmx_writer.proofs.spelled.put_string.Goals as goal
 

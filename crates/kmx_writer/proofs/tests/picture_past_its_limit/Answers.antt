@@ -1,6 +1,6 @@
 use Rattle.std.proofs.Common.{sym, subst}
-use Rattle.rule_model.specs.Writable.{IsWritable}
-use Rattle.rule_model.proofs.WorkedFiles.{one_rule_is_writable}
+use Rattle.kmx_format.specs.Writable.{IsWritable}
+use Rattle.kmx_format.proofs.WorkedFiles.{one_rule_is_writable}
 use Rattle.kmx_writer.proofs.tests.picture_past_its_limit.Goals as goal
 
 pub write-refused-requires : goal.write-refused-requires

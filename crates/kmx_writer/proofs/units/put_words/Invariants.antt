@@ -1,5 +1,5 @@
 use Rattle.std.proofs.Common.{◌≡◌, ◌++◌, drop}
-use Rattle.rule_model.specs.File.{words}
+use Rattle.kmx_format.specs.File.{words}
 use Rattle.kmx_writer.proofs.units.put_words.Given as goal
 
 abbrev pub invariant-loop-number : goal.invariant-loop-number

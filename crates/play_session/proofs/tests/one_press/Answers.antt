@@ -1,4 +1,4 @@
-use Rattle.rule_model.proofs.WorkedFiles.{one_rule_is_file}
+use Rattle.kmx_format.proofs.WorkedFiles.{one_rule_is_file}
 use Rattle.play_session.proofs.tests.one_press.Goals as goal
 
 pub adopt-requires : goal.adopt-requires

@@ -1,0 +1,11 @@
+pub mod FileContents
+pub mod FileGroups
+pub mod FileItems
+pub mod FileLaw
+pub mod FileRecords
+pub mod FileSize
+pub mod FileStands
+pub mod FileStrings
+pub mod FileWritable
+pub mod WorkedFiles
+pub mod WritableParts

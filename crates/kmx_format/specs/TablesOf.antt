@@ -1,0 +1,179 @@
+-- The tables that bytes have, each field read at its place. What stands outside the bytes is read as 0, and a string
+-- that no zero unit ends goes to the last whole unit.
+use Rattle.std.specs.Prelude.{ℕ, zero, suc, ◌+◌, ◌-◌, Bool, not, nat_eq, nat_le, if◌then◌else◌, List, [], ◌∷◌, length, take, drop, map, Option, Some, None}
+use Rattle.std.specs.List.{filter_map}
+use Rattle.std.specs.Int.{w16, w32, from_le_bytes}
+use Rattle.std.specs.Str.{encode_utf8_all}
+use Rattle.std.specs.Char.Utf16.{utf16_lossy_chars}
+use Rattle.kmn_base.specs.declared.items.Element.{Element}
+use Rattle.kmn_base.specs.declared.items.Element.TheVariants as element
+use Rattle.kmn_base.specs.declared.keys.RuleKey.{RuleKey}
+use Rattle.kmn_base.specs.declared.keys.RuleKey.TheVariants as key
+use Rattle.kmn_base.specs.declared.units.UnitItem.{UnitItem}
+use Rattle.kmn_base.specs.declared.units.UnitItem.TheVariants as spelled
+use Rattle.kmn_base.specs.Spelling.{unit_bytes, whole_units}
+use Rattle.item_codec.specs.Walk.{items_given, results_of}
+use Rattle.rule_model.specs.declared.tables.Pat.{Pat}
+use Rattle.rule_model.specs.declared.tables.Pat.TheVariants as pattern
+use Rattle.rule_model.specs.declared.tables.Out.{Out}
+use Rattle.rule_model.specs.declared.tables.Out.TheVariants as output
+use Rattle.rule_model.specs.declared.tables.Rule.{Rule}
+use Rattle.rule_model.specs.declared.tables.Store.{Store}
+use Rattle.rule_model.specs.declared.tables.Group.{Group}
+use Rattle.rule_model.specs.declared.tables.Tables.{Tables}
+use Rattle.kmx_format.specs.declared.sizes.TheConstants.{STORE_BYTES, GROUP_BYTES, RULE_BYTES}
+
+-- the number in the two bytes at a place
+unfoldable pub half_at : List ℕ → ℕ → ℕ
+half_at bytes place = if nat_le (place + 2) (length bytes) then from_le_bytes w16 (take 2 (drop place bytes)) else 0
+
+-- the number in the four bytes at a place
+unfoldable pub word_at : List ℕ → ℕ → ℕ
+word_at bytes place = if nat_le (place + 4) (length bytes) then from_le_bytes w32 (take 4 (drop place bytes)) else 0
+
+-- the units before the first zero unit
+abbrev pub before_zero : List ℕ → List ℕ
+before_zero [] = []
+before_zero (unit ∷ units) = if nat_eq unit 0 then [] else unit ∷ before_zero units
+
+-- the units of the string at an offset; offset 0 is the empty string
+unfoldable pub string_at : List ℕ → ℕ → List ℕ
+string_at bytes offset = if nat_eq offset 0 then [] else before_zero (whole_units (drop offset bytes))
+
+-- the items that the units spell, up to the first place at which none stands
+unfoldable pub items_of : List ℕ → List UnitItem
+items_of units = items_given (results_of (unit_bytes units))
+
+-- the element of a store that is spelled so
+abbrev pub element_of_unit_item : UnitItem → Option Element
+element_of_unit_item (spelled.Char c) = Some (element.Char c)
+element_of_unit_item (spelled.Dead mark) = Some (element.Mark mark)
+element_of_unit_item (spelled.Key flags code) = Some (element.Key flags code)
+element_of_unit_item _ = None
+
+-- a comparison: 1 for unequal, 2 for equal
+abbrev pub comparison_of : ℕ → ℕ → ℕ → Option Pat
+comparison_of store comparison value =
+    if nat_eq comparison 1 then Some (pattern.Unequal (store - 1) (value - 1))
+    else if nat_eq comparison 2 then Some (pattern.Equal (store - 1) (value - 1))
+    else None
+
+-- the item of a context that is spelled so
+abbrev pub pattern_of_unit_item : UnitItem → Option Pat
+pattern_of_unit_item (spelled.Char c) = Some (pattern.Char c)
+pattern_of_unit_item (spelled.Dead mark) = Some (pattern.Mark mark)
+pattern_of_unit_item (spelled.Any store) = Some (pattern.Any (store - 1))
+pattern_of_unit_item (spelled.NotAny store) = Some (pattern.NotAny (store - 1))
+pattern_of_unit_item (spelled.Index store offset) = Some (pattern.Index (store - 1) offset)
+pattern_of_unit_item (spelled.ContextAt offset) = Some (pattern.ContextAt offset)
+pattern_of_unit_item (spelled.Test store comparison value) = comparison_of store comparison value
+pattern_of_unit_item spelled.Nul = Some pattern.Nul
+pattern_of_unit_item _ = None
+
+-- the item of an output that is spelled so
+abbrev pub output_of_unit_item : UnitItem → Option Out
+output_of_unit_item (spelled.Char c) = Some (output.Char c)
+output_of_unit_item (spelled.Dead mark) = Some (output.Mark mark)
+output_of_unit_item (spelled.Index store offset) = Some (output.Index (store - 1) offset)
+output_of_unit_item spelled.Context = Some output.Context
+output_of_unit_item (spelled.ContextAt offset) = Some (output.ContextAt offset)
+output_of_unit_item (spelled.Enter group) = Some (output.Enter (group - 1))
+output_of_unit_item (spelled.Set store value) = Some (output.Set (store - 1) (value - 1))
+output_of_unit_item (spelled.Save store) = Some (output.Save (store - 1))
+output_of_unit_item (spelled.Reset store) = Some (output.Reset (store - 1))
+output_of_unit_item spelled.Nul = Some output.Nul
+output_of_unit_item spelled.Beep = Some output.Beep
+output_of_unit_item spelled.Stop = Some output.Stop
+output_of_unit_item _ = None
+
+-- a name: UTF-16, with U+FFFD for a surrogate without its partner, given in UTF-8
+unfoldable pub name_at : List ℕ → ℕ → List ℕ
+name_at bytes offset = encode_utf8_all (utf16_lossy_chars (string_at bytes offset))
+
+-- the elements that the string at an offset spells, without what may not stand in a store
+abbrev pub elements_at : List ℕ → ℕ → List Element
+elements_at bytes offset = filter_map element_of_unit_item (items_of (string_at bytes offset))
+
+-- the context that the string at an offset spells, without what may not stand in one
+abbrev pub patterns_at : List ℕ → ℕ → List Pat
+patterns_at bytes offset = filter_map pattern_of_unit_item (items_of (string_at bytes offset))
+
+-- the output that the string at an offset spells, without what may not stand in one
+abbrev pub outputs_at : List ℕ → ℕ → List Out
+outputs_at bytes offset = filter_map output_of_unit_item (items_of (string_at bytes offset))
+
+-- the store whose record stands at a place
+abbrev pub store_at : List ℕ → ℕ → Store
+store_at bytes place = record {
+  system = word_at bytes place;
+  name = name_at bytes (word_at bytes (place + 4));
+  elements = elements_at bytes (word_at bytes (place + 8));
+}
+
+-- so many stores, whose records stand one after the other
+abbrev pub stores_from : List ℕ → ℕ → ℕ → List Store
+stores_from bytes place zero = []
+stores_from bytes place (suc count) = store_at bytes place ∷ stores_from bytes (place + STORE_BYTES) count
+
+-- the key of a record: a character where it has no flags
+abbrev pub key_of : Bool → ℕ → ℕ → RuleKey
+key_of using_keys code flags =
+    if not using_keys then key.Any
+    else if nat_eq flags 0 then key.Char code
+    else key.Virtual flags code
+
+-- the key record at a place; a file doesn't keep the place in a key store
+abbrev pub rule_at : List ℕ → Bool → ℕ → Rule
+rule_at bytes using_keys place = record {
+  line = word_at bytes (place + 4);
+  place = 0;
+  key = key_of using_keys (half_at bytes place) (word_at bytes (place + 8));
+  context = patterns_at bytes (word_at bytes (place + 16));
+  output = outputs_at bytes (word_at bytes (place + 12));
+}
+
+-- so many key records, one after the other
+abbrev pub rules_from : List ℕ → Bool → ℕ → ℕ → List Rule
+rules_from bytes using_keys place zero = []
+rules_from bytes using_keys place (suc count) = rule_at bytes using_keys place ∷ rules_from bytes using_keys (place + RULE_BYTES) count
+
+-- whether the group whose record stands at a place uses keys
+abbrev pub uses_keys_at : List ℕ → ℕ → Bool
+uses_keys_at bytes place = not (nat_eq (word_at bytes (place + 20)) 0)
+
+-- the group whose record stands at a place
+abbrev pub group_at : List ℕ → ℕ → Group
+group_at bytes place = record {
+  name = name_at bytes (word_at bytes place);
+  using_keys = uses_keys_at bytes place;
+  rules = rules_from bytes (uses_keys_at bytes place) (word_at bytes (place + 4)) (word_at bytes (place + 16));
+  on_match = outputs_at bytes (word_at bytes (place + 8));
+  on_nomatch = outputs_at bytes (word_at bytes (place + 12));
+}
+
+-- so many groups, whose records stand one after the other
+abbrev pub groups_from : List ℕ → ℕ → ℕ → List Group
+groups_from bytes place zero = []
+groups_from bytes place (suc count) = group_at bytes place ∷ groups_from bytes (place + GROUP_BYTES) count
+
+-- the tables that the bytes have; the version is the low half of its word, which no version passes
+unfoldable pub tables_of : List ℕ → Tables
+tables_of bytes = record {
+  version = half_at bytes 4;
+  start_ansi = word_at bytes 40;
+  start_unicode = word_at bytes 44;
+  stores = stores_from bytes (word_at bytes 32) (word_at bytes 24);
+  groups = groups_from bytes (word_at bytes 36) (word_at bytes 28);
+}
+
+-- a rule as a file keeps it: without the place of its key in a key store
+abbrev pub rule_without_place : Rule → Rule
+rule_without_place rule = record rule { place = 0 }
+
+-- a group as a file keeps it
+abbrev pub group_without_places : Group → Group
+group_without_places group = record group { rules = map rule_without_place group.rules }
+
+-- tables as a file keeps them: without the places of keys in key stores
+abbrev pub no_places : Tables → Tables
+no_places tables = record tables { groups = map group_without_places tables.groups }

@@ -1,0 +1,19 @@
+//! Laws of the compiled file, each the contract of a function with an empty body.
+
+ghost use Rattle.kmx_format.specs.WorkedFiles.{AreWorkedFiles};
+ghost use Rattle.kmx_format.specs.FileLaws.{ReadingGivesBack, FilesHaveWritableTables};
+
+/// Reading a file gives back the tables that were written.
+pub fn reading_gives_back()
+    ensures { ReadingGivesBack }
+{}
+
+/// The tables that a file is read as are again tables that a file can have.
+pub fn files_have_writable_tables()
+    ensures { FilesHaveWritableTables }
+{}
+
+/// The definition of a file gives the bytes of two files that were worked out by hand.
+pub fn worked_files()
+    ensures { AreWorkedFiles }
+{}

@@ -1,7 +1,0 @@
-use Rattle.std.proofs.Common.{◌≡◌, ◌+◌, length, drop}
-use Rattle.std.specs.List.{flat_map}
-use Rattle.rule_model.specs.File.{rules_of}
-use Rattle.kmx_writer.proofs.groups.rule_count.Given as goal
-
-abbrev pub invariant-loop-group : goal.invariant-loop-group
-invariant-loop-group l = l.count + length (flat_map rules_of (drop l.group-index l.groups)) ≡ length (flat_map rules_of l.groups)
