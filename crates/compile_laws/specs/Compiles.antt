@@ -125,8 +125,8 @@ file_group numbers group =
       on_nomatch = statement_outputs numbers (find is_on_nomatch group.rules);
     }
 
--- a record stands before another: its context is longer; or as long, and its line earlier; or its line the same, and its
--- place in the key store earlier
+-- a record stands before another: its context is longer; or as long, and its line earlier; or its line the same, and
+-- its place in the key store earlier
 abbrev pub stands_before : Rule → Rule → Bool
 stands_before a b =
     is_lt (ordering_then (ordering_then (nat_cmp (length b.context) (length a.context)) (nat_cmp a.line b.line)) (nat_cmp a.place b.place))

@@ -1,4 +1,4 @@
--- The numbers that a program's stores, groups and values have in its compiled file, and the stores that are added there.
+-- The numbers that a program's stores, groups and values have in its compiled file, and the stores added there.
 use Rattle.std.specs.Prelude.{ℕ, ◌+◌, Bool, nat_eq, List, [], ◌∷◌, ◌++◌, length, map, flat_map, find, position, codes, Option, Some, None, option_map, unwrap_or}
 use Rattle.std.specs.List.{join_with_byte}
 use Rattle.std.specs.Str.{bytes_eq, chars}
@@ -39,7 +39,7 @@ dictionary_stores (name ∷ names) = record { system = 34; name = []; elements =
 abbrev pub compiled_stores : Program → List Store
 compiled_stores program = stores_of program ++ (dictionary_stores (names_of program).keys ++ map value_store (values_of program))
 
--- what a program's numbers are found by: its names, stores, groups and values, and the number of the first value's store
+-- what a program's numbers are found by: its names, stores, groups and values, and the number of the first value store
 pub record Numbers : Type 0 where
   pub names : SourceNames
   pub stores : List Store

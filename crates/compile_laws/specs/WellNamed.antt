@@ -86,8 +86,8 @@ abbrev pub is_known_start : Program → Option BeginDef → Bool
 is_known_start program None = false
 is_known_start program (Some start) = is_group program start.group
 
--- a program whose tables keep its meaning: it has a Unicode start group, what its rules name is stated, the names of its
--- key dictionary are words, and no store of a statement is a key dictionary
+-- a program whose tables keep its meaning: it has a Unicode start group, what its rules name is stated, the names of
+-- its key dictionary are words, and no store of a statement is a key dictionary
 pub record IsWellNamed (program : Program) : Type 0 where
   pub start : is_known_start program (find is_unicode program.begins) ≡ true
   pub groups : list_all (is_known_group program) program.groups ≡ true

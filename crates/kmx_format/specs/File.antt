@@ -141,8 +141,8 @@ rule_strings_place tables = group_strings_place tables + length (flat_map group_
 abbrev pub picture_place : Tables → ℕ
 picture_place tables = rule_strings_place tables + length (flat_map rule_strings (all_rules tables))
 
--- the words of the header: identifier, version, four that are not looked at, counts, arrays, start groups, flags, hotkey,
--- picture
+-- the words of the header: identifier, version, four that are not looked at, counts, arrays, start groups, flags,
+-- hotkey, picture
 abbrev pub header_words : Tables → List ℕ → List ℕ
 header_words tables picture =
     0x5354_584B ∷ tables.version ∷ 0 ∷ 0 ∷ 0 ∷ 0

@@ -1,8 +1,9 @@
 //! The form of a compiled keyboard file: its bytes, what is read of them, and which tables it can have.
 //!
 //! It stands on `kmn_base`, `item_codec` and `rule_model`. `specs/File` has the bytes of the file of tables,
-//! `specs/TablesOf` the tables that bytes have, `specs/Writable` which tables a file can have, and `laws` that these fit
-//! together. Writer and reader take the sizes of records, the count of key records and the spelling of items from here.
+//! `specs/TablesOf` the tables that bytes have, `specs/Writable` which tables a file can have, and `laws` says that
+//! these fit together. Writer and reader take the sizes of records, the count of key records and the spelling of items
+//! from here.
 #![tactic(auto)]
 
 mod counts;
