@@ -176,7 +176,7 @@ fn outside_statement(program: &Program) -> Option<u32>
 
 /// Where a program leaves the form that is built: the line of the first statement that does, else 1 where there is no
 /// start statement or no group; None for a program of the form.
-#[tactic(auto, unfolding(kmn_compiler::specs::CharacterForm::outside_form))]
+#[tactic(auto, unfolding(crate::specs::CharacterForm::outside_form))]
 pub fn outside_form(program: &Program) -> Option<u32>
     ensures { result ≡ outside_form program.now }
 {
