@@ -4,6 +4,7 @@ ghost use Rattle.kmn_base.specs.Spelling.{char_units, spelling, IsSpellable, uni
 use crate::units::{KEY_END, SENTINEL, put_units};
 use kmn_base::{Memory, Seq, UnitItem};
 
+/// Appends the units of a character.
 fn put_char(out: &mut Seq<u8>, c: char) -> Result<(), Memory>
     ensures { MatchResult result (λ _. out.new ≡ out.old ++ unit_bytes (char_units c)) (λ _. out.new ≡ out.old) }
 {

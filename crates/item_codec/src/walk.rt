@@ -47,13 +47,13 @@ impl<'a> Iterator for Items<'a> {
                 self.rest = behind;
                 Some(Ok(item))
             }
-            Err(fault) => {
+            Err(bad) => {
                 let at = self.at;
                 self.rest = &[];
                 Some(Err(BadUnits {
-                    kind: fault.kind,
+                    kind: bad.kind,
                     at,
-                    code: fault.code,
+                    code: bad.code,
                 }))
             }
         }

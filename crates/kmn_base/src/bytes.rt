@@ -1,6 +1,6 @@
 //! The kinds of bytes that sources and scripts are made of.
 
-ghost use Rattle.std.specs.Prelude.{◌≡◌};
+ghost use Rattle.std.specs.Prelude.{◌≡◌, ◌<◌, IfSome};
 ghost use Rattle.kmn_base.specs.Bytes.{is_blank, is_quote, decimal_digit, hex_digit};
 
 /// Whether a byte is a space or a tab.
@@ -19,7 +19,8 @@ pub fn is_quote(byte: u8) -> bool
 
 /// The value of a decimal digit.
 pub fn decimal_digit(byte: u8) -> Option<u32>
-    ensures { result ≡ decimal_digit byte }
+    ensures value { result ≡ decimal_digit byte }
+    ensures below { IfSome result (λ value. value < 10) }
 {
     match byte {
         b'0'..=b'9' => Some(u32::from(byte) - 48),
@@ -29,7 +30,8 @@ pub fn decimal_digit(byte: u8) -> Option<u32>
 
 /// The value of a hexadecimal digit, in either case.
 pub fn hex_digit(byte: u8) -> Option<u32>
-    ensures { result ≡ hex_digit byte }
+    ensures value { result ≡ hex_digit byte }
+    ensures below { IfSome result (λ value. value < 16) }
 {
     match byte {
         b'0'..=b'9' => Some(u32::from(byte) - 48),

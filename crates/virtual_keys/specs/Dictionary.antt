@@ -1,18 +1,19 @@
 -- Names that compare without ASCII case, the names that stand for characters, and the dictionary of a keyboard's own keys.
-use Rattle.std.specs.Prelude.{◌≡◌, ℕ, false, ◌+◌, ◌-◌, ◌*◌, Bool, ◌&&◌, not, nat_eq, nat_lt, nat_le, if◌then◌else◌, List, [], ◌∷◌, ◌++◌, length, take, drop, codes, fold, map, position, Option, Some, None, is_some, option_map, slice_get}
+use Rattle.std.specs.Prelude.{◌≡◌, ℕ, false, ◌+◌, ◌-◌, ◌*◌, Bool, ◌&&◌, not, nat_eq, nat_lt, nat_le, if◌then◌else◌, List, [], ◌∷◌, ◌++◌, length, take, drop, codes, fold, map, position, Option, Some, None, is_some, unwrap_or, option_map, slice_get}
 use Rattle.std.specs.List.{AllPairs, list_all, slice_split}
-use Rattle.std.specs.Char.{digit_value, is_digit}
 use Rattle.std.specs.Str.{byte}
 use lib.Utf8.{scalar}
+use Rattle.kmn_base.specs.declared.limits.TheConstants.{SOURCE_NAME_CHARS}
+use Rattle.kmn_base.specs.Bytes.{hex_digit}
 use Rattle.kmn_base.specs.Names.{same_name}
 
 -- whether a byte is a hexadecimal digit
 abbrev pub is_hex_digit : ℕ → Bool
-is_hex_digit byte = is_digit byte 16
+is_hex_digit byte = is_some (hex_digit byte)
 
 -- the number that hexadecimal digits write
 abbrev pub hex_value : List ℕ → ℕ
-hex_value digits = fold (λ value digit. 16 * value + digit_value digit) 0 digits
+hex_value digits = fold (λ value digit. 16 * value + unwrap_or (hex_digit digit) 0) 0 digits
 
 -- a Unicode scalar value other than U+0000 and U+FFFF
 abbrev pub is_nameable : ℕ → Bool
@@ -37,7 +38,7 @@ group_chars parts = if list_all is_group parts then Some (map hex_value parts) e
 -- the characters of a name of the form U_ and groups of 4 to 6 hexadecimal digits parted by _, of at most 80 characters;
 -- None for any other name
 unfoldable pub name_chars : List ℕ → Option (List ℕ)
-name_chars name = if nat_le (length name) 80 && same_name (take 2 name) (codes "U_") then group_chars (groups (drop 2 name)) else None
+name_chars name = if nat_le (length name) SOURCE_NAME_CHARS && same_name (take 2 name) (codes "U_") then group_chars (groups (drop 2 name)) else None
 
 -- no name of a list is the same as an earlier one
 abbrev pub AreDistinct : List (List ℕ) → Type 0

@@ -51,7 +51,7 @@ impl KeyDictionary {
 
     /// Whether no further name can be added: each code has 16 bits.
     pub fn is_full(&self) -> bool
-        ensures { result ≡ nat_le 65280 (length self.now) }
+        ensures { result ≡ nat_le NAMES (length self.now) }
     {
         self.names.len() >= NAMES
     }
@@ -59,7 +59,7 @@ impl KeyDictionary {
     /// Adds a name where no name is the same, and answers the code of the name.
     #[tactic(auto, unfolding(crate::specs::Dictionary::code_in))]
     pub fn add(&mut self, name: &[u8]) -> Result<u16, Memory>
-        requires { length self.old < 65280 }
+        requires { length self.old < NAMES }
         ensures names { MatchResult result (λ code. (self.new ≡ with_name self.old name.now) × (code_in self.new name.now ≡ Some code)) (λ _. self.new ≡ self.old) }
         ensures distinct { AreDistinct self.new }
         ensures grows { length self.new ≤ length self.old + 1 }
@@ -92,11 +92,11 @@ impl KeyDictionary {
 
     /// Appends a new name, and answers its place.
     fn append(&mut self, name: &[u8]) -> Result<usize, Memory>
-        requires room { length self.old < 65280 }
+        requires room { length self.old < NAMES }
         requires new { place_in self.old name.now ≡ None }
         ensures names { MatchResult result (λ place. self.new ≡ self.old ++ name.now ∷ []) (λ _. self.new ≡ self.old) }
         ensures place { IfOk result (λ place. place_in self.new name.now ≡ Some place) }
-        ensures few { IfOk result (λ place. place < 65280) }
+        ensures few { IfOk result (λ place. place < NAMES) }
         ensures distinct { AreDistinct self.new }
     {
         let written = Vec::from_slice(self.alloc, name)?;
@@ -109,7 +109,7 @@ impl KeyDictionary {
     /// The place of a name.
     fn place_of(&self, name: &[u8]) -> Option<usize>
         ensures place { result ≡ place_in self.now name.now }
-        ensures few { IfSome result (λ place. place < 65280) }
+        ensures few { IfSome result (λ place. place < NAMES) }
         ensures distinct { AreDistinct self.now }
     {
         if name.len() > HASHED_BYTES {
@@ -141,7 +141,7 @@ fn compared_place(names: &IndexMap<Vec<u8>, Vec<u8>>, name: &[u8]) -> Option<usi
 /// The place of a name that fits a buffer, by the hash of the name in lower case.
 fn hashed_place(names: &IndexMap<Vec<u8>, Vec<u8>>, name: &[u8]) -> Option<usize>
     requires entries { AreEntries names.now.entries }
-    requires fits { length name.now ≤ 320 }
+    requires fits { length name.now ≤ HASHED_BYTES }
     ensures place { result ≡ place_in (written names.now.entries) name.now }
 {
     let mut buffer = [0; HASHED_BYTES];

@@ -1,10 +1,10 @@
 //! The keys of the product: their names and codes, the characters that they give on the US layout, which presses the
 //! key of a rule fits, and the names of a keyboard's own keys.
 //!
-//! It stands on `kmn_base` for the types of keys, on `arrayvec` for the characters of a name and on `indexmap` for the
-//! dictionary. No look-up takes memory. The layer above uses `fits` and `char_of`, whose answers are `key_fits` and
-//! `char_of_press` of `specs/Fits`, the tables of `specs/Keys`, and `KeyDictionary`, which contracts see as the list of
-//! its names; `specs/Dictionary` has the words for names.
+//! It stands on `kmn_base` for the types of keys and for comparing names, on `arrayvec` for the characters of a name
+//! and on `indexmap` for the dictionary. No look-up takes memory. The layer above uses `fits` and `char_of`, whose
+//! answers are `key_fits` and `char_of_press` of `specs/Fits`, the tables of `specs/Keys`, and `KeyDictionary`, which
+//! contracts see as the list of its names by the words of `specs/Dictionary`. `codes` names the keys that edit.
 #![tactic(auto)]
 
 pub mod codes;

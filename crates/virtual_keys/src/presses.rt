@@ -62,12 +62,10 @@ fn letter(code: u16, upper: bool) -> char
 fn character_in(table: &[(u16, char, char)], code: u16, shifted: bool) -> Option<char>
     ensures { result ≡ character_in table.now code shifted }
 {
-    for row in table {
-        if row.0 == code {
-            return Some(if shifted { row.2 } else { row.1 });
-        }
-    }
-    None
+    table
+        .iter()
+        .find(|row| row.0 == code)
+        .map(|row| if shifted { row.2 } else { row.1 })
 }
 
 /// The character that a key other than a letter gives on the US layout.

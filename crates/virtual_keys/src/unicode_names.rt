@@ -4,6 +4,7 @@ ghost use Rattle.virtual_keys.specs.Dictionary.{is_hex_digit, hex_value, is_name
 ghost use Rattle.virtual_keys.specs.Groups.{groups_left, bytes_left};
 
 use arrayvec::ArrayVec;
+use kmn_base::bytes::hex_digit;
 use kmn_base::limits::SOURCE_NAME_CHARS;
 use kmn_base::names::same_name;
 
@@ -14,7 +15,7 @@ fn hex_value(digits: &[u8]) -> Option<u32>
 {
     let mut value = 0;
     for digit in digits {
-        value = 16 * value + char::from(*digit).to_digit(16)?;
+        value = 16 * value + hex_digit(*digit)?;
     }
     Some(value)
 }

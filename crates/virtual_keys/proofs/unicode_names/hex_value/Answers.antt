@@ -6,4 +6,4 @@ pub overflow_mul-value : goal.overflow_mul-value
 overflow_mul-value c = let few = few_digits c.loop-digit.value c.loop-digit.digit-index c.loop-digit.invariant.bound (omega arith) in omega arith
 
 pub overflow_add-value : goal.overflow_add-value
-overflow_add-value c = let few = few_digits c.loop-digit.value c.loop-digit.digit-index c.loop-digit.invariant.bound (omega arith) in omega (arith, c.in_ok-value.ensures.value)
+overflow_add-value c = let few = few_digits c.loop-digit.value c.loop-digit.digit-index c.loop-digit.invariant.bound (omega arith) in omega (arith, c.in_ok-value.ensures.below)
