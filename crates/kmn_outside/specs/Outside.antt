@@ -21,6 +21,13 @@ ReadCounts before after (Err read.Failed) = Rose before after
 ReadCounts before after (Err (read.Over n)) = after ≡ before
 ReadCounts before after (Err read.Memory) = after ≡ before
 
+-- a read answers no more bytes than the limit, and of a longer file the limit and one
+abbrev pub IsLimited : ℕ → Result (List ℕ) ReadError → Type 0
+IsLimited limit (Ok bytes) = length bytes ≤ limit
+IsLimited limit (Err read.Failed) = Unit {0}
+IsLimited limit (Err (read.Over n)) = n ≡ limit + 1
+IsLimited limit (Err read.Memory) = Unit {0}
+
 -- a write counts its faults
 abbrev pub WriteCounts : {X : Type 0} → ℕ → ℕ → Result X WriteError → Type 0
 WriteCounts before after (Ok x) = after ≡ before

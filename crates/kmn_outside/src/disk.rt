@@ -1,5 +1,6 @@
-ghost use Rattle.std.specs.Prelude.{◌≡◌, ◌≢◌, ℕ, ◌+◌, ◌≤◌, Err, length, IfOk};
-ghost use Rattle.kmn_outside.specs.Outside.{ReadCounts, WriteCounts};
+ghost use Rattle.std.specs.Prelude.{◌≡◌, ◌≢◌, Err};
+ghost use Rattle.std.specs.Str.{IsUtf8};
+ghost use Rattle.kmn_outside.specs.Outside.{ReadCounts, WriteCounts, IsLimited};
 
 use crate::{Folder, ReadError, WriteError};
 use kmn_base::Seq;
@@ -47,46 +48,63 @@ impl<R: Files> Folder for DiskFolder<R> {
     /// Reads no more than one byte past the limit. Each error of the system is a fault, but for want of memory.
     fn read(&mut self, alloc: Global, name: &[u8], limit: usize) -> Result<Seq<u8>, ReadError>
         ensures counts { ReadCounts self.old self.new result }
-        ensures within { IfOk result (λ bytes. length bytes ≤ limit) }
-        ensures over { (n : ℕ) → result ≡ Err (ReadError.Over n) → n ≡ limit + 1 }
+        ensures limited { IsLimited limit result }
+        ensures no_path { ¬ IsUtf8 name.now → result ≡ Err ReadError.Failed }
     {
-        match read_file(&self.runtime, alloc, name, limit as u64) {
-            Ok(bytes) if bytes.len() > limit => Err(ReadError::Over(limit as u64 + 1)),
-            Ok(bytes) => Ok(Seq::from_vec(bytes)),
-            Err(error) if error.kind() == ErrorKind::OutOfMemory => Err(ReadError::Memory),
-            Err(_) => {
-                self.faults = self.faults.saturating_add(1);
-                Err(ReadError::Failed)
-            }
+        let answer = read_file(&self.runtime, alloc, name, limit);
+        if let Err(ReadError::Failed) = answer {
+            self.faults = self.faults.saturating_add(1);
         }
+        answer
     }
 
     /// Makes the whole file anew. It takes no memory of its own, so each error is a fault.
     fn write(&mut self, _alloc: Global, name: &[u8], bytes: &[u8]) -> Result<(), WriteError>
         ensures counts { WriteCounts self.old self.new result }
         ensures memory { result ≢ Err WriteError.Memory }
+        ensures no_path { ¬ IsUtf8 name.now → result ≡ Err WriteError.Failed }
     {
-        if write_file(&self.runtime, name, bytes).is_err() {
-            self.faults = self.faults.saturating_add(1);
-            return Err(WriteError::Failed);
+        match str::from_utf8(name) {
+            Ok(path) if fs::write(&self.runtime, path, bytes).is_ok() => Ok(()),
+            _ => {
+                self.faults = self.faults.saturating_add(1);
+                Err(WriteError::Failed)
+            }
         }
-        Ok(())
     }
 }
 
-/// The bytes of a file, no more than one past the limit.
-fn read_file<R: Files>(runtime: &R, alloc: Global, name: &[u8], limit: u64) -> io::Result<Vec<u8>> {
-    let file = File::open(runtime, path_of(name)?)?;
+/// The bytes of a file. A name is a path where it is UTF-8, and else no file has it.
+fn read_file<R: Files>(
+    runtime: &R,
+    alloc: Global,
+    name: &[u8],
+    limit: usize,
+) -> Result<Seq<u8>, ReadError>
+    ensures limited { IsLimited limit result }
+    ensures no_path { ¬ IsUtf8 name.now → result ≡ Err ReadError.Failed }
+{
+    let Ok(path) = str::from_utf8(name) else {
+        return Err(ReadError::Failed);
+    };
+    match first_bytes(runtime, alloc, path, (limit as u64).saturating_add(1)) {
+        Ok(bytes) if bytes.len() > limit => Err(ReadError::Over(limit as u64 + 1)),
+        Ok(bytes) => Ok(Seq::from_vec(bytes)),
+        Err(error) if error.kind() == ErrorKind::OutOfMemory => Err(ReadError::Memory),
+        Err(_) => Err(ReadError::Failed),
+    }
+}
+
+/// The first bytes of a file, as many as a count at most.
+fn first_bytes<R: Files>(
+    runtime: &R,
+    alloc: Global,
+    path: &str,
+    count: u64,
+) -> io::Result<Vec<u8>> {
     let mut bytes = Vec::new(alloc);
-    file.take(limit.saturating_add(1)).read_to_end(&mut bytes)?;
+    File::open(runtime, path)?
+        .take(count)
+        .read_to_end(&mut bytes)?;
     Ok(bytes)
-}
-
-fn write_file<R: Files>(runtime: &R, name: &[u8], bytes: &[u8]) -> io::Result<()> {
-    fs::write(runtime, path_of(name)?, bytes)
-}
-
-/// A name as a path, which is UTF-8.
-fn path_of(name: &[u8]) -> io::Result<&str> {
-    str::from_utf8(name).map_err(|_| io::Error::from(ErrorKind::InvalidInput))
 }

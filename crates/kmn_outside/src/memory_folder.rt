@@ -1,7 +1,7 @@
 ghost use Rattle.std.specs.Prelude.{◌≡◌, ◌≢◌, ◌<◌, Ok, Err, Some, [], ◌∷◌, ◌++◌, true, length, All, vec_len, vec_capacity, IsTrue, MatchResult, option_map, if◌then◌else◌};
 ghost use Rattle.std.specs.List.{position};
 ghost use Rattle.std.specs.Str.{bytes_eq};
-ghost use Rattle.kmn_outside.specs.Outside.{ReadCounts, WriteCounts, Reads, Writes, call_of};
+ghost use Rattle.kmn_outside.specs.Outside.{ReadCounts, IsLimited, WriteCounts, Reads, Writes, call_of};
 ghost use Rattle.kmn_outside.specs.Memory.{is_due, are_distinct, file_of, put_file, listed, read_answer, after_read, after_write};
 
 use crate::counts::is_due;
@@ -135,6 +135,7 @@ impl Folder for MemoryFolder {
 
     fn read(&mut self, alloc: Global, name: &[u8], limit: usize) -> Result<Seq<u8>, ReadError>
         ensures counts { ReadCounts self.old.faults self.new.faults result }
+        ensures limited { IsLimited limit result }
         ensures reads { Reads (file_of self.old.files) (file_of self.new.files) self.old.calls self.new.calls name.now limit result }
         ensures answer { result ≢ Err ReadError.Memory → result ≡ read_answer self.old name.now limit }
         ensures after { self.new ≡ after_read self.old name.now result }

@@ -1,5 +1,5 @@
 ghost use Rattle.std.specs.Prelude.{◌≡◌, ℕ, ◌<◌, ◌≤◌, Bool, List, Option, length, IfOk, IsTrue};
-ghost use Rattle.kmn_outside.specs.Outside.{ReadCounts, WriteCounts, Reads, Writes, Puts};
+ghost use Rattle.kmn_outside.specs.Outside.{ReadCounts, IsLimited, WriteCounts, Reads, Writes, Puts};
 
 use kmn_base::{Memory, Seq, Text};
 use std::alloc::Global;
@@ -69,9 +69,10 @@ pub trait Folder {
     /// How many faults came, standing still at the end of a 64-bit number.
     ghost faults: { Self → ℕ };
 
-    /// Reads a whole file of at most `limit` bytes.
+    /// Reads a whole file of at most `limit` bytes. No file is over the greatest limit.
     fn read(&mut self, alloc: Global, name: &[u8], limit: usize) -> Result<Seq<u8>, ReadError>
         ensures counts { ReadCounts (faults self.old) (faults self.new) result }
+        ensures limited { IsLimited limit result }
         ensures told { told self.new ≡ told self.old }
         ensures reads { IsTrue (told self.old) → Reads (files self.old) (files self.new) (calls self.old) (calls self.new) name.now limit result };
 
