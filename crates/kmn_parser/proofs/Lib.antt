@@ -1,3 +1,9 @@
 pub mod LineLemmas
 pub mod StatedLines
 pub mod SourceLines
+pub mod CleanTexts
+pub mod SoundTokens
+pub mod SoundKeys
+pub mod ReadItems
+pub mod ReadStatements
+pub mod ReadPrograms

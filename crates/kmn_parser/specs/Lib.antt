@@ -1,3 +1,4 @@
 pub mod Line
 pub mod Source
 pub mod SourceLaws
+pub mod ProgramLaws

@@ -1,0 +1,338 @@
+-- The statement that is read of a line's sound tokens.
+use Rattle.std.proofs.Common.{◌≡◌, ◌≢◌, ℕ, suc, ◌+◌, ◌-◌, Bool, true, false, not, ◌&&◌, ◌||◌, if◌then◌else◌, nat_lt, nat_le, nat_eq, List, [], ◌∷◌, length, take, drop, codes, Option, None, Some, is_some, option_map, unwrap_or, Result, Ok, Err, refl, sym, ◌∙◌, subst, arith}
+use Rattle.std.specs.Prelude.{All, IfSome}
+use Rattle.std.proofs.lemmas.Bool.{and_parts, cond_both, eqb-false, ne_eqb, ltb-true, leb-true, not-true}
+use Rattle.std.proofs.lemmas.List.Elements.{All-nil, All-drop, All-take, All-weaker}
+use Rattle.kmn_base.specs.declared.codes.Code.{Code}
+use Rattle.kmn_base.specs.declared.codes.Code.TheVariants as code
+use Rattle.kmn_lines.specs.Bytes.{or_else}
+use Rattle.kmn_base.specs.Names.{named_in}
+use Rattle.rule_model.specs.declared.program.SrcItem.{SrcItem}
+use Rattle.rule_model.specs.declared.program.RuleDef.{RuleDef}
+use Rattle.rule_model.specs.declared.program.RuleKind.{RuleKind}
+use Rattle.rule_model.specs.declared.program.RuleKind.TheVariants.{Plain, OnMatch, OnNoMatch}
+use Rattle.kmn_items.specs.declared.syntax.Fault.{Fault}
+use Rattle.kmn_items.specs.declared.syntax.Slot.{Slot}
+use Rattle.kmn_items.specs.declared.syntax.Slot.TheVariants as slot
+use Rattle.kmn_items.specs.declared.syntax.Where.{Where}
+use Rattle.kmn_items.specs.declared.syntax.Where.TheVariants as section
+use Rattle.kmn_parser.specs.declared.statement.Sign.TheVariants as sign
+use Rattle.kmn_parser.specs.declared.statement.Statement.{Statement}
+use Rattle.kmn_parser.specs.declared.statement.Statement.TheVariants as statement
+use Rattle.kmn_items.specs.Told.{LineToken, fault, text_at, begins_open, is_wordy, and_then}
+use Rattle.kmn_items.specs.Words.{character_count, is_system_name, bare_name, is_name}
+use Rattle.kmn_items.specs.Slots.{unless, broken}
+use Rattle.kmn_items.specs.Item.{unseen, read_items, read_key}
+use Rattle.kmn_parser.specs.Line.{place_of, begins_word, is_none_left, checked, first_of, behind_close, system_stores, store_system, store_form, store_fault, store_def, read_store, begin_head, begin_fault, read_begin, group_head, group_fault, read_group, no_group, no_output, match_fault, read_match, begins_rule, rule_head, rule_key, rule_body, earliest, rule_at, read_rule, read_tokens, read_line}
+use Rattle.kmn_parser.specs.ProgramLaws.{IsName, IsReadItem, StandsAsKey, IsLine, IsReadStore, IsReadBegin, IsReadRule}
+use Rattle.kmn_parser.proofs.CleanTexts.{clean-characters, counted-characters}
+use Rattle.kmn_parser.proofs.SoundTokens.{either-none, IsSoundToken}
+use Rattle.kmn_parser.proofs.SoundKeys.{row-found}
+use Rattle.kmn_parser.proofs.ReadItems.{IsClean, text-clean, no-fault, text_at-drop, IsReadIn, AllRead, items-read, KeyRead, one_key-read}
+
+-- a name of 1 to 80 characters
+name-read : (text : List ℕ) → IsClean text → is_name text ≡ true → IsName text
+name-read text clean named =
+    let both = and_parts (nat_lt 0 (character_count text)) (nat_le (character_count text) 80) named in
+    let some = ltb-true 0 (character_count text) both.0 in
+    let few = leb-true (character_count text) 80 both.1 in
+    let same = counted-characters text clean.utf8 in
+    record {
+      utf8 = clean.utf8;
+      characters = clean-characters text clean.utf8 clean.clean;
+      some = omega (arith, some, same);
+      few = omega (arith, few, same);
+    }
+
+-- the name that stands first of the tokens of a form
+form-named : (last at : ℕ) (slots : List Slot) (tokens : List LineToken) → broken last at (slot.Name ∷ slots) tokens ≡ None → is_name (text_at 0 tokens) ≡ true
+form-named last at slots [] whole = cc
+form-named last at slots (token ∷ tokens) whole =
+    let here = no-fault at (is_wordy token.kind && is_name token.text) code.S02 (broken last (at + 1) slots tokens) whole in
+    (and_parts (is_wordy token.kind) (is_name token.text) here).1
+
+form-store : (last at : ℕ) (slots : List Slot) (tokens : List LineToken) → broken last at (slot.StoreName ∷ slots) tokens ≡ None → is_name (bare_name (text_at 0 tokens)) ≡ true
+form-store last at slots [] whole = cc
+form-store last at slots (token ∷ tokens) whole =
+    let here = no-fault at (is_wordy token.kind && is_name (bare_name token.text)) code.S02 (broken last (at + 1) slots tokens) whole in
+    (and_parts (is_wordy token.kind) (is_name (bare_name token.text)) here).1
+
+-- the name at a place of a line
+named-at : (last at place : ℕ) (slots : List Slot) (tokens : List LineToken) → All IsSoundToken tokens
+    → broken last at (slot.Name ∷ slots) (drop place tokens) ≡ None → IsName (text_at place tokens)
+named-at last at place slots tokens sound whole =
+    name-read (text_at place tokens) (text-clean place tokens sound)
+    (subst (λ (text : List ℕ). is_name text ≡ true) (text_at-drop place tokens) (form-named last at slots (drop place tokens) whole))
+
+-- the items of a section
+section-read : (place : Where) (items : List SrcItem) → All (IsReadIn place) items → All IsReadItem items
+section-read place items read = All-weaker (IsReadIn place) IsReadItem (λ item in_place. in_place.itself) items read
+
+-- what is read of a line with a number, behind a group
+abbrev pub IsReadStatement : Option Bool → Statement → Type 0
+IsReadStatement group statement.Nothing = Unit {0}
+IsReadStatement group (statement.Store store) = IsReadStore store
+IsReadStatement group (statement.Begin start) = IsReadBegin start
+IsReadStatement group (statement.Group opened) = IsLine opened.line × IsName opened.name × (opened.rules ≡ [])
+IsReadStatement group (statement.Rule rule) = (using_keys : Bool) × (group ≡ Some using_keys) × IsReadRule using_keys rule
+
+abbrev pub StatementRead : Option Bool → Result Statement Fault → Type 0
+StatementRead group (Ok stated) = IsReadStatement group stated
+StatementRead group (Err found) = Unit {0}
+
+checked-read : (group : Option Bool) (found : Option Fault) (read : Result Statement Fault) → (found ≡ None → StatementRead group read) → StatementRead group (checked found read)
+checked-read group None read whole = whole refl
+checked-read group (Some found) read whole = tt
+
+then-read : (group : Option Bool) (place : Where) (items : Result (List SrcItem) Fault) (next : List SrcItem → Result Statement Fault) → AllRead place items
+    → ((xs : List SrcItem) → All IsReadItem xs → StatementRead group (next xs)) → StatementRead group (and_then items next)
+then-read group place (Ok items) next read more = more items (section-read place items read)
+then-read group place (Err found) next read more = tt
+
+first-none : (head : Option Code) (later : Option Fault) → first_of head later ≡ None → (head ≡ None) × (later ≡ None)
+first-none None later e = (refl, e)
+first-none (Some head) later e = cc
+
+unless-none : (test : Bool) (wrong : Code) → unless test wrong ≡ None → test ≡ true
+unless-none true wrong e = refl
+unless-none false wrong e = cc
+
+mapped-none : {A B : Type 0} (f : A → B) (o : Option A) → option_map f o ≡ None → o ≡ None
+mapped-none f None e = refl
+mapped-none f (Some x) e = cc
+
+-- the id of a system store in a file
+abbrev is_id : ℕ → Bool
+is_id id = nat_lt 0 id && (nat_lt id 0x1_0000 && not (nat_eq id 34))
+
+system-store : (line : ℕ) (name : List ℕ) (items : List SrcItem) (found : Option ℕ) → IsLine line → All IsReadItem items
+    → named_in system_stores name ≡ found → is_some found ≡ true
+    → IsReadStore (record { line = line; system = unwrap_or found 0; name = []; items = items })
+unfolding system_stores
+system-store line name items None placed read e known = cc
+system-store line name items (Some id) placed read e known =
+    let both = and_parts (nat_lt 0 id) (nat_lt id 0x1_0000 && not (nat_eq id 34)) (row-found is_id system_stores name id e refl) in
+    let more = and_parts (nat_lt id 0x1_0000) (not (nat_eq id 34)) both.1 in
+    let some = ltb-true 0 id both.0 in
+    let fits = ltb-true id 0x1_0000 more.0 in
+    record {
+      line = placed;
+      system = omega (arith, fits);
+      no_dictionary = eqb-false id 34 (not-true (nat_eq id 34) more.1);
+      named = λ ordinary. absurd (omega (arith, some, ordinary));
+      unnamed = λ other. refl;
+      items = read;
+    }
+
+ordinary-store : (line : ℕ) (name : List ℕ) (items : List SrcItem) → IsLine line → All IsReadItem items → IsName name
+    → IsReadStore (record { line = line; system = 0; name = name; items = items })
+ordinary-store line name items placed read named = record {
+  line = placed;
+  system = omega arith;
+  no_dictionary = λ e. omega (arith, e);
+  named = λ ordinary. named;
+  unnamed = λ other. absurd (other refl);
+  items = read;
+}
+
+abbrev bare : Bool → List ℕ → List ℕ
+bare system name = if system then drop 1 name else name
+
+abbrev id_of : Bool → List ℕ → Option ℕ
+id_of system name = if system then named_in system_stores (bare system name) else Some 0
+
+store-read : (line : ℕ) (name : List ℕ) (items : List SrcItem) → IsLine line → All IsReadItem items → IsClean name
+    → is_name (bare_name name) ≡ true → is_some (store_system name) ≡ true → IsReadStore (store_def line name items)
+store-read line name items placed read clean named known =
+    (elim (is_system_name name) as (λ (system : Bool). is_name (bare system name) ≡ true → is_some (id_of system name) ≡ true → IsReadStore (record { line = line; system = unwrap_or (id_of system name) 0; name = if system then [] else name; items = items })) [
+      | true ↦ λ e f. system-store line (drop 1 name) items (named_in system_stores (drop 1 name)) placed read refl f
+      | false ↦ λ e f. ordinary-store line name items placed read (name-read name clean e)
+    ]) named known
+
+-- a form that goes on is not at its end
+goes-on : (last at : ℕ) (wanted : Slot) (tokens : List LineToken) → broken last at (wanted ∷ []) tokens ≡ None → is_none_left tokens ≡ false
+goes-on last at wanted [] whole = cc
+goes-on last at wanted (token ∷ tokens) whole = ne_eqb (suc (length tokens)) 0 (λ e. omega (arith, e))
+
+known-then : (end known : Bool) → (end || known) ≡ true → end ≡ false → known ≡ true
+known-then true known e f = cc
+known-then false known e f = e
+
+store-of-form : (line last : ℕ) (tokens : List LineToken) (items : List SrcItem) → IsLine line → All IsSoundToken tokens → store_form last tokens ≡ None → All IsReadItem items
+    → IsReadStore (store_def line (text_at 2 tokens) items)
+store-of-form line last tokens items placed sound whole read =
+    let name : List ℕ = text_at 2 tokens in
+    let first = either-none (broken last 2 (slot.StoreName ∷ []) (drop 2 tokens)) _ whole in
+    let second = either-none (option_map (fault 2) (unless (is_none_left (drop 3 tokens) || is_some (store_system name)) code.S12)) (broken last 3 (slot.Close ∷ []) (drop 3 tokens)) first.1 in
+    let either = unless-none (is_none_left (drop 3 tokens) || is_some (store_system name)) code.S12 (mapped-none (fault 2) _ second.0) in
+    store-read line name items placed read (text-clean 2 tokens sound)
+    (subst (λ (text : List ℕ). is_name (bare_name text) ≡ true) (text_at-drop 2 tokens) (form-store last 2 [] (drop 2 tokens) first.0))
+    (known-then (is_none_left (drop 3 tokens)) (is_some (store_system name)) either (goes-on last 3 slot.Close (drop 3 tokens) second.1))
+
+store-line : (group : Option Bool) (line last : ℕ) (tokens : List LineToken) → IsLine line → All IsSoundToken tokens → StatementRead group (read_store line last tokens)
+unfolding read_store store_fault
+store-line group line last tokens placed sound =
+    checked-read group (store_fault last tokens) _
+    (λ whole.
+    then-read group section.Store (read_items section.Store unseen last 0 4 (drop 4 tokens)) (λ items. Ok (statement.Store (store_def line (text_at 2 tokens) items)))
+    (items-read section.Store unseen last 0 4 (drop 4 tokens) (All-drop IsSoundToken 4 tokens sound))
+    (λ items read. store-of-form line last tokens items placed sound (first-none (unless (begins_open (drop 1 tokens)) code.S01) (store_form last tokens) whole).1 read))
+
+begin-line : (group : Option Bool) (line last : ℕ) (tokens : List LineToken) → IsLine line → All IsSoundToken tokens → StatementRead group (read_begin line last tokens)
+unfolding read_begin begin_fault
+begin-line group line last tokens placed sound =
+    checked-read group (begin_fault last tokens) _
+    (λ whole.
+    let form = (first-none (begin_head (place_of sign.Arrow tokens) tokens) (broken last 5 (slot.Name ∷ slot.Close ∷ []) (drop 5 tokens)) whole).1 in
+    record { line = placed; group = named-at last 5 5 (slot.Close ∷ []) tokens sound form })
+
+group-line : (group : Option Bool) (line last : ℕ) (tokens : List LineToken) → IsLine line → All IsSoundToken tokens → StatementRead group (read_group line last tokens)
+unfolding read_group group_fault
+group-line group line last tokens placed sound =
+    checked-read group (group_fault last tokens) _
+    (λ whole.
+    let form = (first-none (group_head tokens (behind_close (drop 2 tokens))) (broken last 2 (slot.Name ∷ slot.Close ∷ []) (drop 2 tokens)) whole).1 in
+    (placed, named-at last 2 2 (slot.Close ∷ []) tokens sound form, refl))
+
+-- a group that stands before a line
+some-group : (group : Option Bool) → no_group group ≡ None → (using_keys : Bool) × (group ≡ Some using_keys)
+some-group None e = cc
+some-group (Some using_keys) e = (using_keys, refl)
+
+bare-rule : (using_keys : Bool) (line : ℕ) (kind : RuleKind) (output : List SrcItem) → IsLine line → kind ≢ Plain → All IsReadItem output
+    → IsReadRule using_keys (record { line = line; kind = kind; context = []; key = None; output = output })
+bare-rule using_keys line kind output placed other read = record {
+  line = placed;
+  context = All-nil IsReadItem;
+  key = tt;
+  output = read;
+  keyed = λ plain. absurd (other plain);
+  bare = λ e. (refl, refl);
+}
+
+match-line : (kind : RuleKind) (group : Option Bool) (line last : ℕ) (tokens : List LineToken) → kind ≢ Plain → IsLine line → All IsSoundToken tokens
+    → StatementRead group (read_match kind group line last tokens)
+unfolding read_match match_fault
+match-line kind group line last tokens other placed sound =
+    checked-read group (match_fault group (place_of sign.Arrow tokens) tokens) _
+    (λ whole.
+    let head = (first-none (or_else (no_group group) (no_output (place_of sign.Arrow tokens) tokens)) _ whole).0 in
+    let opened = some-group group (either-none (no_group group) (no_output (place_of sign.Arrow tokens) tokens) head).0 in
+    then-read group section.Output (read_items section.Output unseen last 0 2 (drop 2 tokens)) _
+    (items-read section.Output unseen last 0 2 (drop 2 tokens) (All-drop IsSoundToken 2 tokens sound))
+    (λ output read. (opened.0, opened.1, bare-rule opened.0 line kind output placed other read)))
+
+-- the key of a rule, which stands there exactly behind a +, and only in a group with keys
+abbrev RuleKeyRead : Bool → Bool → Result (Option SrcItem) Fault → Type 0
+RuleKeyRead using_keys plus (Ok key) = IfSome key (λ item. StandsAsKey item × IsReadItem item) × (is_some key ≡ plus) × (plus ≡ true → using_keys ≡ true)
+RuleKeyRead using_keys plus (Err found) = Unit {0}
+
+key-if : (using_keys plus : Bool) (read : Result SrcItem Fault) (wrong : Fault) → KeyRead read
+    → RuleKeyRead using_keys plus (if not plus then Ok None else (if using_keys then and_then read (λ key. Ok (Some key)) else Err wrong))
+key-if using_keys false read wrong known = (tt, refl, λ e. cc)
+key-if false true read wrong known = tt
+key-if true true (Ok item) wrong known = ((known.stands, known.itself), refl, λ e. refl)
+key-if true true (Err found) wrong known = tt
+
+-- a plain rule with a number
+record IsPlainRule (using_keys plus : Bool) (line : ℕ) (rule : RuleDef) : Type 0 where
+  at : rule.line ≡ line
+  plain : rule.kind ≡ Plain
+  context : All IsReadItem rule.context
+  key : IfSome rule.key (λ item. StandsAsKey item × IsReadItem item)
+  output : All IsReadItem rule.output
+  keyed : is_some rule.key ≡ plus
+  keys : plus ≡ true → using_keys ≡ true
+
+abbrev BodyRead : Bool → Bool → ℕ → Result RuleDef Fault → Type 0
+BodyRead using_keys plus line (Ok rule) = IsPlainRule using_keys plus line rule
+BodyRead using_keys plus line (Err found) = Unit {0}
+
+body-of : (using_keys plus : Bool) (line : ℕ) (contexts : Result (List SrcItem) Fault) (keys : Result (Option SrcItem) Fault) (outputs : Result (List SrcItem) Fault)
+    → AllRead section.Context contexts → RuleKeyRead using_keys plus keys → AllRead section.Output outputs
+    → BodyRead using_keys plus line (and_then contexts (λ context. and_then keys (λ key. and_then outputs (λ output. Ok (record { line = line; kind = Plain; context = context; key = key; output = output })))))
+body-of using_keys plus line (Err found) keys outputs c k o = tt
+body-of using_keys plus line (Ok context) (Err found) outputs c k o = tt
+body-of using_keys plus line (Ok context) (Ok key) (Err found) c k o = tt
+body-of using_keys plus line (Ok context) (Ok key) (Ok output) c k o = record {
+  at = refl;
+  plain = refl;
+  context = section-read section.Context context c;
+  key = k.0;
+  output = section-read section.Output output o;
+  keyed = k.1;
+  keys = k.2;
+}
+
+body-read : (using_keys : Bool) (line last arrow plus : ℕ) (tokens : List LineToken) → All IsSoundToken tokens
+    → BodyRead using_keys (nat_lt plus arrow) line (rule_body (Some using_keys) line last arrow plus tokens)
+unfolding rule_body rule_key
+body-read using_keys line last arrow plus tokens sound =
+    let key_tokens = drop (plus + 1) (take arrow tokens) in
+    let read = one_key-read last (plus + 1) key_tokens (All-drop IsSoundToken (plus + 1) (take arrow tokens) (All-take IsSoundToken arrow tokens sound)) in
+    body-of using_keys (nat_lt plus arrow) line _ (rule_key (Some using_keys) last arrow plus tokens) _
+    (items-read section.Context unseen last 0 0 (take plus tokens) (All-take IsSoundToken plus tokens sound))
+    (key-if using_keys (nat_lt plus arrow) (read_key last (plus + 1) key_tokens) (fault plus code.S07) read)
+    (items-read section.Output unseen last 0 (arrow + 1) (drop (arrow + 1) tokens) (All-drop IsSoundToken (arrow + 1) tokens sound))
+
+-- a key exactly where the group uses keys
+same-keys : (using_keys plus key : Bool) → key ≡ plus → (plus ≡ true → using_keys ≡ true) → (not using_keys || plus) ≡ true → key ≡ using_keys
+same-keys true plus key e f g = e ∙ g
+same-keys false true key e f g = let no : false ≡ true = f refl in absurd (cc)
+same-keys false false key e f g = e
+
+rule-of : (using_keys plus : Bool) (line : ℕ) (rule : RuleDef) → IsLine line → (not using_keys || plus) ≡ true → IsPlainRule using_keys plus line rule → IsReadRule using_keys rule
+rule-of using_keys plus line rule placed needed read = record {
+  line = subst IsLine (sym read.at) placed;
+  context = read.context;
+  key = read.key;
+  output = read.output;
+  keyed = λ plain. same-keys using_keys plus (is_some rule.key) read.keyed read.keys needed;
+  bare = λ other. absurd (other read.plain);
+}
+
+earliest-read : (using_keys plus : Bool) (line : ℕ) (head : Option Code) (body : Result RuleDef Fault) → IsLine line → (head ≡ None → (not using_keys || plus) ≡ true)
+    → BodyRead using_keys plus line body → StatementRead (Some using_keys) (earliest head body)
+earliest-read using_keys plus line None (Ok rule) placed needed read = (using_keys, refl, rule-of using_keys plus line rule placed (needed refl) read)
+earliest-read using_keys plus line None (Err found) placed needed read = tt
+earliest-read using_keys plus line (Some head) (Ok rule) placed needed read = tt
+earliest-read using_keys plus line (Some head) (Err found) placed needed read = tt
+
+earliest-refused : (first : Option Code) (head : Code) (body : Result RuleDef Fault) → StatementRead None (earliest (or_else first (Some head)) body)
+earliest-refused None head (Ok rule) = tt
+earliest-refused None head (Err found) = tt
+earliest-refused (Some c) head (Ok rule) = tt
+earliest-refused (Some c) head (Err found) = tt
+
+rule-line : (group : Option Bool) (line last arrow plus : ℕ) (tokens : List LineToken) → IsLine line → All IsSoundToken tokens
+    → StatementRead group (rule_at group line last arrow plus tokens)
+unfolding rule_head
+rule-line None line last arrow plus tokens placed sound =
+    earliest-refused (unless (nat_lt arrow (length tokens) || begins_rule tokens) code.S01) code.S03 (rule_body None line last arrow plus tokens)
+rule-line (Some using_keys) line last arrow plus tokens placed sound =
+    earliest-read using_keys (nat_lt plus arrow) line (rule_head (Some using_keys) arrow plus tokens) (rule_body (Some using_keys) line last arrow plus tokens) placed
+    (λ whole.
+    let second = (either-none (unless (nat_lt arrow (length tokens) || begins_rule tokens) code.S01) _ whole).1 in
+    let third = (either-none (no_output arrow tokens) (unless (not using_keys || nat_lt plus arrow) code.S08) second).1 in
+    unless-none (not using_keys || nat_lt plus arrow) code.S08 third)
+    (body-read using_keys line last arrow plus tokens sound)
+
+rule-read : (group : Option Bool) (line last : ℕ) (tokens : List LineToken) → IsLine line → All IsSoundToken tokens → StatementRead group (read_rule group line last tokens)
+unfolding read_rule
+rule-read group line last tokens placed sound =
+    let arrow = place_of sign.Arrow tokens in rule-line group line last arrow (place_of sign.Plus (take arrow tokens)) tokens placed sound
+
+tokens-read : (group : Option Bool) (line last : ℕ) (tokens : List LineToken) → IsLine line → All IsSoundToken tokens → StatementRead group (read_tokens group line last tokens)
+tokens-read group line last tokens placed sound =
+    let P : Result Statement Fault → Type 0 = StatementRead group in
+    cond_both (begins_word (codes "store") tokens) _ _ P (λ e. store-line group line last tokens placed sound)
+    (λ e. cond_both (begins_word (codes "begin") tokens) _ _ P (λ f. begin-line group line last tokens placed sound)
+    (λ f. cond_both (begins_word (codes "group") tokens) _ _ P (λ g. group-line group line last tokens placed sound)
+    (λ g. cond_both (begins_word (codes "match") tokens) _ _ P (λ h. match-line OnMatch group line last tokens (λ same. cc) placed sound)
+    (λ h. cond_both (begins_word (codes "nomatch") tokens) _ _ P (λ i. match-line OnNoMatch group line last tokens (λ same. cc) placed sound)
+    (λ i. rule-read group line last tokens placed sound)))))
+
+-- the statement of a line
+pub line-read : (group : Option Bool) (line : ℕ) (tokens : List LineToken) → IsLine line → All IsSoundToken tokens → StatementRead group (read_line group line tokens)
+line-read group line tokens placed sound =
+    cond_both (is_none_left tokens) _ _ (StatementRead group) (λ e. tt) (λ e. tokens-read group line (length tokens - 1) tokens placed sound)
