@@ -1,10 +1,12 @@
 -- What a line's sections have of its tokens, what a walk over lines has left, and where a rule goes.
-use Rattle.std.proofs.Common.{◌≡◌, ℕ, ◌+◌, ◌≤◌, Bool, true, false, if◌then◌else◌, nat_lt, List, [], ◌∷◌, ◌++◌, length, Err, refl, sym, ap, cond, not, ◌∙◌, arith}
+use Rattle.std.proofs.Common.{◌≡◌, ℕ, ◌+◌, ◌≤◌, Bool, true, false, if◌then◌else◌, nat_lt, List, [], ◌∷◌, ◌++◌, length, Option, None, Some, Result, Ok, Err, refl, sym, ap, cond, not, ◌∙◌, arith}
 use Rattle.std.specs.Prelude.{IsUtf8}
 use Rattle.std.specs.Str.{is_utf8}
 use Rattle.std.proofs.lemmas.Bool.Decides.{nat_tests}
 use Rattle.std.proofs.lemmas.Str.{is_utf8-from_IsUtf8, IsUtf8-from_is_utf8}
 use Rattle.kmn_base.specs.declared.codes.Code.TheVariants.{L01, L05}
+use Rattle.kmn_base.specs.declared.refusals.Refusal.{Refusal}
+use Rattle.kmn_lines.specs.declared.logical.Logical.{Logical}
 use Rattle.kmn_base.specs.declared.limits.TheConstants.{TEXT_BYTES}
 use Rattle.kmn_lines.specs.Tokens.{refusal}
 use Rattle.std.specs.List.{All, AllByRecursion, position_or_len}
@@ -12,10 +14,14 @@ use Rattle.std.proofs.lemmas.List.Elements.{All-head, All-tail}
 use Rattle.kmn_lines.specs.declared.token.Token.{Token}
 use Rattle.rule_model.specs.declared.program.RuleDef.{RuleDef}
 use Rattle.rule_model.specs.declared.program.GroupDef.{GroupDef}
+use Rattle.rule_model.specs.declared.program.Program.{Program}
+use Rattle.kmn_parser.specs.declared.reading.Reading.{Reading}
+use Rattle.kmn_parser.specs.declared.statement.Statement.{Statement}
 use Rattle.kmn_parser.specs.declared.statement.Sign.{Sign}
 use Rattle.kmn_items.specs.Told.{told}
 use Rattle.kmn_parser.specs.Line.{is_sign, place_of}
-use Rattle.kmn_parser.specs.Source.{with_rule, read_text, parsed}
+use Rattle.kmn_parser.specs.Source.{line_statement, group_after, with_statement, read_lines, with_rule, read_text, parsed}
+use Rattle.kmn_parser.specs.Reading.{read_further, reading_after, read_behind}
 
 -- a sign stands at the same place among the tokens with their texts
 pub place_told : (source : List ℕ) (wanted : Sign) (tokens : List Token) → place_of wanted (told source tokens) ≡ position_or_len (λ (token : Token). is_sign wanted token.kind) tokens
@@ -26,6 +32,21 @@ place_told source wanted (token ∷ tokens) = ap (λ n. cond (not (is_sign wante
 pub by_recursion : {X : Type 0} (P : X → Type 0) (xs : List X) → All P xs → AllByRecursion P xs
 by_recursion P [] all = tt
 by_recursion P (x ∷ xs) all = (All-head P x xs all, by_recursion P xs (All-tail P x xs all))
+
+read_one : (group : Option Bool) (program : Program) (refused : Option Refusal) (source : List ℕ) (line : Logical) (lines : List Logical)
+    → let reading : Reading = record { program = program; group = group; refused = refused } in
+    read_behind source (reading_after source reading line) lines ≡ read_behind source reading (line ∷ lines)
+read_one group program None source line lines =
+    elim (line_statement source group line) as (λ (read : Result Statement Refusal). read_behind source (read_further group program read) lines ≡ elim read [
+      | Ok statement ↦ read_lines source (group_after group statement) (with_statement program statement) lines
+      | Err found ↦ Err found
+    ]) [ Ok statement ↦ refl | Err found ↦ refl ]
+read_one group program (Some found) source line lines = refl
+
+-- a line more is the first of those that were left
+pub reads_on : (source : List ℕ) (reading : Reading) (line : Logical) (lines : List Logical)
+    → read_behind source (reading_after source reading line) lines ≡ read_behind source reading (line ∷ lines)
+reads_on source reading line lines = read_one reading.group reading.program reading.refused source line lines
 
 -- a rule goes to the last group
 pub rule_goes_last : (groups : List GroupDef) (group : GroupDef) (rule : RuleDef)

@@ -1,16 +1,14 @@
-ghost use Rattle.std.specs.Prelude.{◌≡◌, ◌≤◌, ◌∷◌, ◌++◌, [], length, None, OnOk};
-ghost use Rattle.kmn_lines.specs.Lines.{logicals};
-ghost use Rattle.kmn_lines.specs.Tokens.{line_refusal, tokens_refusal};
-ghost use Rattle.kmn_lines.specs.Answers.{Answers};
-ghost use Rattle.kmn_lines.specs.Places.{IsPlaced};
-ghost use Rattle.kmn_parser.specs.Source.{parsed, read_text, read_lines, line_statement, group_after, with_rule, with_statement, no_program, Parses};
+ghost use Rattle.std.specs.Prelude.{◌≡◌, ◌≤◌, ◌<◌, ◌^◌, length, OnOk};
+ghost use Rattle.kmn_lines.specs.Tokens.{line_tokens};
+ghost use Rattle.kmn_parser.specs.Source.{parsed, read_text, group_after, with_rule, with_statement, Parses};
+ghost use Rattle.kmn_parser.specs.Reading.{reading_after};
 
 use crate::line::read_line;
 use crate::statement::Statement;
 use kmn_base::limits::TEXT_BYTES;
 use kmn_base::{Code, CompileError, Memory, Refusal, Seq};
 use kmn_items::Trouble;
-use kmn_lines::{Logical, lines};
+use kmn_lines::{Logical, Token, lines};
 use kmn_tokens::tokens;
 use rule_model::{GroupDef, Program, RuleDef};
 use std::alloc::Global;
@@ -40,78 +38,71 @@ fn refused(line: u32, code: Code) -> CompileError
     CompileError::Refused(Refusal { line, code })
 }
 
-/// Reads a source of characters: the tokens of all lines first, then the statements.
+/// What the lines of a source come to so far: the program of their statements with what is known of its last group, or
+/// the first refusal among these. A refused source is read on, since the tokens of all lines come before any statement.
+#[derive(Drop)]
+struct Reading {
+    program: Program,
+    group: Option<bool>,
+    refused: Option<Refusal>,
+}
+
+/// Reads a source of characters, each line once.
+#[tactic(auto, using(crate::proofs::LineLemmas::by_recursion, crate::proofs::LineLemmas::reads_on))]
 fn read_text(alloc: Global, source: &str) -> Result<Program, CompileError>
     requires { length source.now ≤ TEXT_BYTES }
     ensures { Parses (read_text source.now) result }
 {
-    match check_tokens(alloc, source) {
-        Ok(()) => read_lines(alloc, source),
-        Err(error) => Err(error),
-    }
-}
-
-/// Looks at the tokens of all lines.
-#[tactic(auto, using(crate::proofs::LineLemmas::by_recursion))]
-fn check_tokens(alloc: Global, source: &str) -> Result<(), CompileError>
-    requires { length source.now ≤ TEXT_BYTES }
-    ensures { Answers (tokens_refusal source.now (logicals source.now)) tt result }
-{
+    let mut reading = Reading {
+        program: Program {
+            stores: Seq::new(alloc),
+            begins: Seq::new(alloc),
+            groups: Seq::new(alloc),
+        },
+        group: None,
+        refused: None,
+    };
     for logical in lines(source) {
         match tokens(alloc, source, logical) {
-            Ok(_) => {}
+            Ok(tokens) => read_on(alloc, source, &mut reading, logical, tokens.as_slice())?,
             Err(error) => return Err(error),
         }
     }
-    Ok(())
-}
-
-/// Reads the statements of a source whose tokens were looked at.
-#[tactic(auto, using(crate::proofs::LineLemmas::by_recursion))]
-fn read_lines(alloc: Global, source: &str) -> Result<Program, CompileError>
-    requires short { length source.now ≤ TEXT_BYTES }
-    requires whole { tokens_refusal source.now (logicals source.now) ≡ None }
-    ensures { Parses (read_lines source.now None no_program (logicals source.now)) result }
-{
-    let mut program = Program {
-        stores: Seq::new(alloc),
-        begins: Seq::new(alloc),
-        groups: Seq::new(alloc),
-    };
-    let mut group = None;
-    for logical in lines(source) {
-        match line_statement(alloc, source, group, logical) {
-            Ok(statement) => {
-                group = group_after(group, &statement);
-                add_statement(&mut program, statement)?;
-            }
-            Err(error) => return Err(error),
-        }
+    match reading.refused {
+        Some(refusal) => Err(CompileError::Refused(refusal)),
+        None => Ok(reading.program),
     }
-    Ok(program)
 }
 
-/// The statement of a logical line, behind a group.
-fn line_statement(
+/// Reads the tokens of one line more. Want of memory leaves the reading as it may be.
+fn read_on(
     alloc: Global,
     source: &str,
-    group: Option<bool>,
+    reading: &mut Reading,
     logical: Logical,
-) -> Result<Statement, CompileError>
-    requires short { length source.now ≤ TEXT_BYTES }
-    requires placed { IsPlaced source.now logical }
-    requires whole { line_refusal source.now logical ≡ None }
-    ensures { Parses (line_statement source.now group logical) result }
+    tokens: &[Token],
+) -> Result<(), Memory>
+    requires few { length tokens.now < 2 ^ 59 }
+    requires whole { tokens.now ≡ line_tokens source.now logical }
+    ensures { OnOk result (reading.new ≡ reading_after source.now reading.old logical) }
 {
+    if reading.refused.is_some() {
+        return Ok(());
+    }
     let line = logical.first_line;
-    let tokens = match tokens(alloc, source, logical) {
-        Ok(tokens) => tokens,
-        Err(error) => return Err(error),
-    };
-    match read_line(alloc, source.as_bytes(), group, line, tokens.as_slice()) {
-        Ok(statement) => Ok(statement),
-        Err(Trouble::Broken(fault)) => Err(refused(line, fault.code)),
-        Err(Trouble::NoMemory) => Err(CompileError::Memory),
+    match read_line(alloc, source.as_bytes(), reading.group, line, tokens) {
+        Ok(statement) => {
+            reading.group = group_after(reading.group, &statement);
+            add_statement(&mut reading.program, statement)
+        }
+        Err(Trouble::Broken(fault)) => {
+            reading.refused = Some(Refusal {
+                line,
+                code: fault.code,
+            });
+            Ok(())
+        }
+        Err(Trouble::NoMemory) => Err(Memory),
     }
 }
 

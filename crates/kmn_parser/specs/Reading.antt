@@ -1,0 +1,27 @@
+-- Reading in one walk over the lines: statements are read up to the first refusal among them, tokens to the end.
+use Rattle.std.specs.Prelude.{ℕ, Bool, List, Option, None, Some, Result, Ok, Err}
+use Rattle.kmn_base.specs.declared.refusals.Refusal.{Refusal}
+use Rattle.kmn_lines.specs.declared.logical.Logical.{Logical}
+use Rattle.rule_model.specs.declared.program.Program.{Program}
+use Rattle.kmn_parser.specs.declared.reading.Reading.{Reading}
+use Rattle.kmn_parser.specs.declared.statement.Statement.{Statement}
+use Rattle.kmn_parser.specs.Source.{line_statement, group_after, with_statement, read_lines}
+
+-- a program behind a group, with one statement more or with its refusal
+abbrev pub read_further : Option Bool → Program → Result Statement Refusal → Reading
+read_further group program (Ok statement) = record { program = with_statement program statement; group = group_after group statement; refused = None }
+read_further group program (Err found) = record { program = program; group = group; refused = Some found }
+
+-- what is read, and one line more; behind a refusal nothing is added
+abbrev pub reading_after : List ℕ → Reading → Logical → Reading
+reading_after source reading line = elim reading.refused [
+  | None ↦ read_further reading.group reading.program (line_statement source reading.group line)
+  | Some found ↦ reading
+]
+
+-- what is read, and all lines that are left
+abbrev pub read_behind : List ℕ → Reading → List Logical → Result Program Refusal
+read_behind source reading lines = elim reading.refused [
+  | None ↦ read_lines source reading.group reading.program lines
+  | Some found ↦ Err found
+]
