@@ -201,6 +201,7 @@ A:store(&layer) 'x' ⇒ S12 1
 A:store(&baselayout) 'x' ⇒ S12 1
 A:store(&names) 'x' ⇒ S12 1
 A:store(a) ⇒ 1 store a:
+A:store(\) 'x' ⇒ 1 store \: 78
 A:STORE(A) 'x'¶Begin UNICODE > USE(A)¶begin ansi > use(B)¶GROUP(a) Using Keys ⇒ 1 store A: 78; 2 Unicode A; 3 ANSI B; 4 group a keys
 A:store(&bitmap) 'a'¶store(&Copyright)¶store(&HOTKEY)¶store(&message)¶store(&name)¶store(&version)¶store(&mnemoniclayout) ⇒ 1 store 1: 61; 2 store 2:; 3 store 3:; 4 store 6:; 5 store 7:; 6 store 8:; 7 store 17:
 A:store(&visualkeyboard)¶store(&layoutfile)¶store(&keyboardversion)¶store(&targets) ⇒ 1 store 24:; 2 store 35:; 3 store 36:; 4 store 38:
