@@ -2,9 +2,9 @@
 //! count, with fakes in memory and adapters over real files and writers.
 //!
 //! It stands on `kmn_base` and `thiserror`. The layer above uses the traits `Folder` and `Sink`: an answer of a fault
-//! comes only where the count of faults rose, and where folder and sink tell their contents, each call says what it read
-//! or wrote. `MemoryFolder` and `MemorySink` tell all, and say which of their calls fail. `DiskFolder` and `StreamSink`
-//! tell nothing of bytes, which no proof can see outside; they count each error.
+//! comes only where the count of faults rose, a read keeps to its limit, and where folder and sink tell their contents,
+//! each call says what it read or wrote. `MemoryFolder` and `MemorySink` tell all, and say which of their calls fail.
+//! `DiskFolder` and `StreamSink` tell nothing of bytes, which no proof can see outside.
 #![tactic(auto)]
 
 mod counts;
