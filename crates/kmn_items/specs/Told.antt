@@ -1,7 +1,8 @@
 -- The tokens of a line with their texts, and what it means that code reads them.
-use Rattle.std.specs.Prelude.{◌≡◌, ℕ, ◌-◌, Bool, true, false, ◌||◌, if◌then◌else◌, List, [], ◌∷◌, map, length, take, drop, chars, slice_get, unwrap_or, option_map, Result, Ok, Err}
+use Rattle.std.specs.Prelude.{ℕ, ◌-◌, Bool, true, false, ◌||◌, if◌then◌else◌, List, [], ◌∷◌, map, length, take, drop, chars, slice_get, unwrap_or, Option, Some, None, option_map, Result}
 use Rattle.std.specs.Str.{is_utf8}
 use Rattle.kmn_base.specs.declared.codes.Code.{Code}
+use Rattle.kmn_base.specs.Answers.{AnswersBy}
 use Rattle.kmn_lines.specs.declared.token.Token.{Token}
 use Rattle.kmn_lines.specs.declared.token.TokenKind.{TokenKind}
 use Rattle.kmn_lines.specs.declared.token.TokenKind.TheVariants as kind
@@ -91,13 +92,11 @@ quoted text = decoded (inside text)
 abbrev pub fault : ℕ → Code → Fault
 fault at code = record { at = at; code = code }
 
+-- the fault that a trouble tells; want of memory tells none
+abbrev pub told_fault : Trouble → Option Fault
+told_fault (trouble.Broken fault) = Some fault
+told_fault trouble.NoMemory = None
+
 -- what code answers of a reading: its value or its first fault, exactly, or want of memory at any time
 abbrev pub Reads : {A : Type 0} → Result A Fault → Result A Trouble → Type 0
-Reads read (Ok value) = read ≡ Ok value
-Reads read (Err (trouble.Broken fault)) = read ≡ Err fault
-Reads read (Err trouble.NoMemory) = Unit {0}
-
--- a reading, then another of its value
-abbrev pub and_then : {A B : Type 0} → Result A Fault → (A → Result B Fault) → Result B Fault
-and_then (Ok value) next = next value
-and_then (Err fault) next = Err fault
+Reads read answer = AnswersBy told_fault read answer
