@@ -39,7 +39,7 @@ fn joined(items: Seq<SrcItem>, more: Seq<SrcItem>) -> Result<Seq<SrcItem>, Memor
 
 /// The items of a section. `at` is the place of its first token in the line, and `last` that of the line's last token,
 /// where an item breaks off at the latest.
-#[tactic(auto, using(crate::proofs::ToldLemmas::drop_told, crate::proofs::ToldLemmas::length_told, crate::proofs::ItemLemmas::items_step, crate::proofs::ItemLemmas::items_stop))]
+#[tactic(auto, using(crate::proofs::ToldLemmas::drop_told, crate::proofs::ToldLemmas::length_told, crate::proofs::ItemLemmas::items_step))]
 pub fn read_items(
     alloc: Global,
     source: &[u8],
