@@ -42,7 +42,8 @@ use Rattle.kmx_format.specs.FileUnits.{name_units}
 use Rattle.rule_model.specs.declared.program.RuleDef.{RuleDef}
 use Rattle.std.proofs.lemmas.Bool.{and_parts}
 use Rattle.std.specs.Prelude.{flat_map}
-use Rattle.kmn_parser.specs.Source.{parsed, Parses}
+use Rattle.kmn_base.specs.Answers.{Answers}
+use Rattle.kmn_parser.specs.Source.{parsed}
 use Rattle.kmn_compiler.specs.InOrder.{AreRecords}
 use Rattle.kmn_compiler.specs.Records.{record_of, group_with, tables_with}
 use Rattle.kmn_compiler.specs.Refusing.{HasNoFile, IsTooLarge}
@@ -223,7 +224,7 @@ compiled_from program compiled h compile bytes writes file within read =
     }
 
 -- a source that isn't read is not compiled
-pub unread : (source : List ℕ) (e : CompileError) → Parses (parsed source) (Err e) → CompilesTo (compiled_program source) (Err e)
+pub unread : (source : List ℕ) (e : CompileError) → Answers (parsed source) (Err e) → CompilesTo (compiled_program source) (Err e)
 unread source (error.Refused refusal) read = compiled_refused source refusal read
 unread source (error.TooLarge code size) read = absurd read
 unread source error.Memory read = tt

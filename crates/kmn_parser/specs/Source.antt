@@ -1,11 +1,9 @@
 -- The program of a source, or its first refusal.
-use Rattle.std.specs.Prelude.{◌≡◌, ℕ, nat_lt, Bool, not, if◌then◌else◌, List, [], ◌∷◌, ◌++◌, length, Option, None, Some, Result, Ok, Err}
+use Rattle.std.specs.Prelude.{ℕ, nat_lt, Bool, not, if◌then◌else◌, List, [], ◌∷◌, ◌++◌, length, Option, None, Some, Result, Ok, Err}
 use Rattle.std.specs.Str.{is_utf8}
 use Rattle.kmn_base.specs.declared.codes.Code.TheVariants.{L01, L05}
 use Rattle.kmn_base.specs.declared.limits.TheConstants.{TEXT_BYTES}
 use Rattle.kmn_base.specs.declared.refusals.Refusal.{Refusal}
-use Rattle.kmn_base.specs.declared.refusals.CompileError.{CompileError}
-use Rattle.kmn_base.specs.declared.refusals.CompileError.TheVariants as error
 use Rattle.kmn_lines.specs.Lines.{logicals}
 use Rattle.kmn_lines.specs.Tokens.{line_tokens, refusal, tokens_refusal}
 use Rattle.kmn_lines.specs.declared.logical.Logical.{Logical}
@@ -71,10 +69,3 @@ unfoldable pub parsed : List ℕ → Result Program Refusal
 parsed source =
     if nat_lt TEXT_BYTES (length source) then Err (refusal 1 L05)
     else (if not (is_utf8 source) then Err (refusal 1 L01) else read_text source)
-
--- what code answers of a reading: its value or its refusal, exactly, or want of memory at any time
-abbrev pub Parses : {A : Type 0} → Result A Refusal → Result A CompileError → Type 0
-Parses read (Ok value) = read ≡ Ok value
-Parses read (Err (error.Refused found)) = read ≡ Err found
-Parses read (Err (error.TooLarge code size)) = ⊥
-Parses read (Err error.Memory) = Unit {0}

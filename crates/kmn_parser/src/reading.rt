@@ -1,6 +1,7 @@
 ghost use Rattle.std.specs.Prelude.{◌≡◌, ◌≤◌, ◌<◌, ◌^◌, length, OnOk};
+ghost use Rattle.kmn_base.specs.Answers.{Answers};
 ghost use Rattle.kmn_lines.specs.Tokens.{line_tokens};
-ghost use Rattle.kmn_parser.specs.Source.{parsed, read_text, group_after, with_rule, with_statement, Parses};
+ghost use Rattle.kmn_parser.specs.Source.{parsed, read_text, group_after, with_rule, with_statement};
 ghost use Rattle.kmn_parser.specs.Reading.{reading_after};
 
 use crate::line::read_line;
@@ -20,7 +21,7 @@ use std::str;
 /// Keyman language reference; which fault is the first, and what it leaves open, is our own choice (`docs/LANGUAGE.md`).
 #[tactic(auto, unfolding(crate::specs::Source::parsed))]
 pub fn parse(alloc: Global, source: &[u8]) -> Result<Program, CompileError>
-    ensures { Parses (parsed source.now) result }
+    ensures { Answers (parsed source.now) result }
 {
     if source.len() > TEXT_BYTES {
         return Err(refused(1, Code::L05));
@@ -51,7 +52,7 @@ struct Reading {
 #[tactic(auto, using(crate::proofs::LineLemmas::by_recursion, crate::proofs::LineLemmas::reads_on))]
 fn read_text(alloc: Global, source: &str) -> Result<Program, CompileError>
     requires { length source.now ≤ TEXT_BYTES }
-    ensures { Parses (read_text source.now) result }
+    ensures { Answers (read_text source.now) result }
 {
     let mut reading = Reading {
         program: Program {
