@@ -6,3 +6,7 @@ pub mod Whole
 pub mod Numbered
 pub mod TextTokens
 pub mod TextLines
+pub mod Cuts
+pub mod LineTexts
+pub mod Prefixes
+pub mod CutExamples

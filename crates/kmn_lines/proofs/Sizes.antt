@@ -59,7 +59,7 @@ quoted_size-within quote (byte ∷ bytes) =
     let shorter = quoted_size-within quote bytes in
     both (λ n. n ≤ suc (length bytes)) (byte == quote) _ _ (λ e. omega arith) (λ e. omega arith)
 
-take-one : (n byte : ℕ) (bytes : List ℕ) → take (1 + n) (byte ∷ bytes) ≡ byte ∷ take n bytes
+pub take-one : (n byte : ℕ) (bytes : List ℕ) → take (1 + n) (byte ∷ bytes) ≡ byte ∷ take n bytes
 take-one n byte bytes = let e : 1 + n ≡ suc n = omega arith in ap (λ (k : ℕ). take k (byte ∷ bytes)) e
 
 -- each byte of a word is plain

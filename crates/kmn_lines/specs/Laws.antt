@@ -1,8 +1,9 @@
 -- The laws of lines and tokens, in words that do not speak of how a text is read.
-use Rattle.std.specs.Prelude.{◌≡◌, ℕ, zero, suc, ◌+◌, ◌-◌, ◌<◌, ◌≤◌, ◌==◌, Bool, true, false, not, ◌&&◌, ◌||◌, if◌then◌else◌, List, [], ◌∷◌, ◌++◌, length, take, drop, flat_map, All, IsUtf8, is_some}
+use Rattle.std.specs.Prelude.{◌≡◌, ℕ, zero, suc, ◌+◌, ◌-◌, ◌<◌, ◌≤◌, ◌==◌, ◌⊎◌, Bool, true, false, not, ◌&&◌, ◌||◌, if◌then◌else◌, List, [], ◌∷◌, ◌++◌, length, take, drop, flat_map, Option, None, Some, is_some, All, IsUtf8, codes}
 use Rattle.std.specs.List.{list_all}
 use Rattle.kmn_base.specs.Bytes.{is_blank, is_quote}
-use Rattle.kmn_lines.specs.Lines.{physical_lines_at, mark_size, logicals, parts_in}
+use Rattle.kmn_base.specs.Names.{same_name}
+use Rattle.kmn_lines.specs.Lines.{physical_lines_at, mark_size, logicals, is_skipped, dropped, opening_parts, parts_in}
 use Rattle.kmn_lines.specs.Places.{IsPlaced}
 use Rattle.kmn_lines.specs.Tokens.{single, part_text, line_tokens}
 use Rattle.kmn_lines.specs.declared.line_state.PhysicalLine.{PhysicalLine}
@@ -88,3 +89,99 @@ LinesAreNumbered = (source : List ℕ) → All (λ (l : Logical). l.first_line �
 -- the tokens of the lines of a UTF-8 source are UTF-8: each begins and ends between characters
 abbrev pub TokensAreText : Type 0
 TokensAreText = (source : List ℕ) → IsUtf8 source → All (λ (l : Logical). All (λ (t : Token). IsUtf8 (bytes_between source t.from t.to)) (line_tokens source l)) (logicals source)
+
+-- the quote that is open behind a byte: a quote opens, and the same quote closes
+abbrev pub quote_behind : Option ℕ → ℕ → Option ℕ
+quote_behind None byte = if is_quote byte then Some byte else None
+quote_behind (Some quote) byte = if byte == quote then None else Some quote
+
+-- the quote that is open behind a text
+abbrev pub open_quote : Option ℕ → List ℕ → Option ℕ
+open_quote quote [] = quote
+open_quote quote (byte ∷ bytes) = open_quote (quote_behind quote byte) bytes
+
+-- the first and the last byte of a text; where there is none, a given one
+abbrev pub first_or : ℕ → List ℕ → ℕ
+first_or other [] = other
+first_or other (byte ∷ bytes) = byte
+
+abbrev pub last_or : ℕ → List ℕ → ℕ
+last_or other [] = other
+last_or other (byte ∷ bytes) = last_or byte bytes
+
+-- a place of a physical line stands outside quotes
+abbrev pub is_outside : List ℕ → ℕ → Bool
+is_outside line at = not (is_some (open_quote None (take at line)))
+
+-- a c or C, and then a blank or nothing
+abbrev pub is_lone_c : List ℕ → Bool
+is_lone_c [] = false
+is_lone_c (byte ∷ bytes) = ((byte == 99) || (byte == 67)) && is_blank (first_or 32 bytes)
+
+-- a comment begins at a place of a physical line: outside quotes, behind a blank or at the start, a c or C before a blank or the end
+abbrev pub comment_at : List ℕ → ℕ → Bool
+comment_at line at = is_outside line at && (is_blank (last_or 32 (take at line)) && is_lone_c (drop at line))
+
+-- a backslash, and then blanks alone
+abbrev pub is_lone_backslash : List ℕ → Bool
+is_lone_backslash [] = false
+is_lone_backslash (byte ∷ bytes) = (byte == 92) && list_all is_blank bytes
+
+-- a joining backslash stands at a place of a physical line: outside quotes, with blanks alone behind it
+abbrev pub joint_at : List ℕ → ℕ → Bool
+joint_at line at = is_outside line at && is_lone_backslash (drop at line)
+
+-- a byte of a line: no LF and no CR
+abbrev pub IsInLine : ℕ → Type 0
+IsInLine byte = ((byte == 10) || (byte == 13)) ≡ false
+
+-- the end of a physical line, before a text: LF, CR LF, a CR that no LF follows, or nothing at the end of the source
+abbrev pub IsLineEnd : List ℕ → List ℕ → Type 0
+IsLineEnd end behind = (end ≡ 10 ∷ []) ⊎ ((end ≡ 13 ∷ 10 ∷ []) ⊎ (((end ≡ 13 ∷ []) × ((first_or 32 behind == 10) ≡ false)) ⊎ ((end ≡ []) × (behind ≡ []))))
+
+-- the text of a physical line has the bytes before the first place where a comment begins or a joining backslash stands,
+-- and all where there is none; the backslash alone joins
+pub record IsCut (line : List ℕ) (size : ℕ) (joined : Bool) : Type 0 where
+  pub within : size ≤ length line
+  pub no_comment : (k : ℕ) → k < size → comment_at line k ≡ false
+  pub no_joint : (k : ℕ) → k < size → joint_at line k ≡ false
+  pub here : ((size ≡ length line) × (joined ≡ false)) ⊎ (((comment_at line size ≡ true) × (joined ≡ false)) ⊎ ((joint_at line size ≡ true) × (joined ≡ true)))
+
+-- a physical line of a source: its bytes are a line and the line's end, and its text is cut from the line
+pub record IsPhysicalLine (source : List ℕ) (p : PhysicalLine) : Type 0 where
+  pub line : List ℕ
+  pub end : List ℕ
+  pub whole : bytes_between source p.from p.next ≡ line ++ end
+  pub in_line : All IsInLine line
+  pub ended : IsLineEnd end (drop p.next source)
+  pub size : ℕ
+  pub to : p.to ≡ p.from + size
+  pub cut : IsCut line size p.joined
+
+-- a physical line is joined where another follows in its logical line; the last one only where the source ends
+abbrev pub IsJoined : List ℕ → PhysicalLine → List PhysicalLine → Type 0
+IsJoined source p [] = p.joined ≡ true → p.next ≡ length source
+IsJoined source p (q ∷ qs) = p.joined ≡ true
+
+-- physical lines of a source, one behind the other between two places, numbered and joined
+abbrev pub AreJoined : List ℕ → ℕ → ℕ → ℕ → List PhysicalLine → Type 0
+AreJoined source line at end [] = at ≡ end
+AreJoined source line at end (p ∷ ps) =
+    (p.line ≡ line) × (p.from ≡ at) × IsPhysicalLine source p × IsJoined source p ps
+    × AreJoined source (line + 1) p.next end ps
+
+-- the parts of a logical line are the texts of its physical lines, but for its prefix
+abbrev pub PartsAreTexts : Type 0
+PartsAreTexts = (source : List ℕ) → All (λ (l : Logical). (ps : List PhysicalLine) × AreJoined source l.first_line l.from l.to ps × (parts_in source l ≡ opening_parts source ps)) (logicals source)
+
+-- a text begins with blanks and a word, in any ASCII case, which are its first n bytes
+abbrev pub IsPrefix : List ℕ → List ℕ → ℕ → Type 0
+IsPrefix word text n = (k : ℕ) × (n ≡ k + length word) × IsBlankText (take k text) × (same_name (take (length word) (drop k text)) word ≡ true)
+
+-- what the first text that is not blank drops is nothing, or blanks and $keyman: or $keymanonly:; and a text with which
+-- a line is skipped begins with blanks and $keymanweb: or $kmfl:
+abbrev pub PrefixesAreDropped : Type 0
+PrefixesAreDropped =
+    (text : List ℕ)
+    → ((dropped text ≡ 0) ⊎ (IsPrefix (codes "$keyman:") text (dropped text) ⊎ IsPrefix (codes "$keymanonly:") text (dropped text)))
+    × (is_skipped text ≡ true → (n : ℕ) × (IsPrefix (codes "$keymanweb:") text n ⊎ IsPrefix (codes "$kmfl:") text n))

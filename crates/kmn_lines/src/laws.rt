@@ -1,6 +1,6 @@
 //! Laws of the definitions in `specs/`, each the contract of a function with an empty body.
 
-ghost use Rattle.kmn_lines.specs.Laws.{TokensCoverParts, WordsArePlain, PartsStandInOrder, PhysicalLinesMakeTheSource, LinesMakeTheSource, LinesAreNumbered, TokensAreText};
+ghost use Rattle.kmn_lines.specs.Laws.{TokensCoverParts, WordsArePlain, PartsStandInOrder, PhysicalLinesMakeTheSource, LinesMakeTheSource, LinesAreNumbered, PartsAreTexts, PrefixesAreDropped, TokensAreText};
 
 /// The tokens of a line stand in its parts in rising order and do not overlap, each has a byte and bears the number of
 /// its part, and every byte of a part that is in no token is a blank.
@@ -37,6 +37,21 @@ pub fn lines_make_the_source()
 #[tactic(auto, using(crate::proofs::Numbered::lines_are_numbered))]
 pub fn lines_are_numbered()
     ensures { LinesAreNumbered }
+{}
+
+/// The physical lines of a logical line stand one behind the other, each but the last joined to the next. The parts are
+/// their texts, of which a prefix is left out: of each physical line all but the comment, the joining backslash with the
+/// blanks behind it, and the line end. A comment is a `c` or `C` outside quotes, behind a blank or the line's start and
+/// before a blank or the line's end, with all behind it up to the end of the physical line.
+#[tactic(auto, using(crate::proofs::LineTexts::parts_are_texts))]
+pub fn parts_are_texts()
+    ensures { PartsAreTexts }
+{}
+
+/// The prefix that is left out is blanks and `$keyman:` or `$keymanonly:`, and a line is skipped from blanks and
+/// `$keymanweb:` or `$kmfl:` on.
+pub fn prefixes_are_dropped()
+    ensures { PrefixesAreDropped }
 {}
 
 /// The tokens of the lines of a UTF-8 source are UTF-8.
