@@ -9,7 +9,7 @@ use Rattle.kmn_base.specs.declared.keys.KeyPress.{KeyPress}
 use Rattle.kmn_base.specs.Lists.{without_last}
 use Rattle.kmn_base.specs.Names.{same_name}
 use Rattle.virtual_keys.specs.Dictionary.{name_in}
-use Rattle.rule_model.specs.declared.acting.Acting.{Acting}
+use Rattle.rule_model.specs.declared.event_state.EventState.{EventState}
 use Rattle.rule_model.specs.declared.program.Program.{Program}
 use Rattle.rule_model.specs.declared.program.GroupDef.{GroupDef}
 use Rattle.rule_model.specs.declared.program.RuleDef.{RuleDef}
@@ -37,7 +37,7 @@ use Rattle.compile_laws.proofs.Places.{position-map, FirstPlace, first_place, at
 use Rattle.compile_laws.proofs.Outputs.{SameEntry, outputs-same}
 use Rattle.compile_laws.proofs.Choices.{ChosenRule, best_now, best-map, best_known, BestKnown, src_chosen, tab_chosen, choice-kept}
 
-default-same : (a b : Keyboard) → a.dictionary ≡ b.dictionary → (press : KeyPress) (s : Acting) → by_default a press s ≡ by_default b press s
+default-same : (a b : Keyboard) → a.dictionary ≡ b.dictionary → (press : KeyPress) (s : EventState) → by_default a press s ≡ by_default b press s
 unfolding by_default
 default-same a b e press s = λ i. default_of press (name_in (e i) press.code) s
 
@@ -52,8 +52,8 @@ with_table p g table = record (file_group (numbers_of p) g) { rules = table }
 pub ordered_group : (p : Program) (g : GroupDef) (h : Group) → IsOrderedGroup (file_group (numbers_of p) g) h → h ≡ with_table p g h.rules
 ordered_group p g h o = λ i. record { name = o.name i; using_keys = o.using_keys i; rules = h.rules; on_match = o.on_match i; on_nomatch = o.on_nomatch i }
 
-module _ (p : Program) (t : Tables) (l : Linked p t) (d : (tab t).dictionary ≡ (src p).dictionary) (press : KeyPress) (e f : Ref → Acting → Acting) (same : SameEntry p e f) where
-  statement-same : (o : Option RuleDef) → KnownStatement p o → (s : Acting) →
+module _ (p : Program) (t : Tables) (l : Linked p t) (d : (tab t).dictionary ≡ (src p).dictionary) (press : KeyPress) (e f : Ref → EventState → EventState) (same : SameEntry p e f) where
+  statement-same : (o : Option RuleDef) → KnownStatement p o → (s : EventState) →
       act_if_any (tab t) f (output_if_any (map (tab_output t.stores) (statement_outputs (numbers_of p) o))) s
       ≡ act_if_any (src p) e (option_map (src_outputs (names_of p)) o) s
   statement-same None known s = refl
@@ -61,7 +61,7 @@ module _ (p : Program) (t : Tables) (l : Linked p t) (d : (tab t).dictionary ≡
       ap (λ o. act_if_any (tab t) f o s) (some_output (tab_output t.stores) (flat_map (file_output (numbers_of p) 0 None) r.output))
       ∙ outputs-same p t l e f same nothing 0 refl r.output known.0 known.1 s
 
-  unmatched-same : (o : Option RuleDef) → KnownStatement p o → (using_keys : Bool) (s : Acting) →
+  unmatched-same : (o : Option RuleDef) → KnownStatement p o → (using_keys : Bool) (s : EventState) →
       do_unmatched (tab t) f press (output_if_any (map (tab_output t.stores) (statement_outputs (numbers_of p) o))) using_keys s
       ≡ do_unmatched (src p) e press (option_map (src_outputs (names_of p)) o) using_keys s
   unmatched-same None known using_keys s = λ i. if using_keys then default-same (tab t) (src p) d press s i else s
@@ -70,31 +70,31 @@ module _ (p : Program) (t : Tables) (l : Linked p t) (d : (tab t).dictionary ≡
       ∙ outputs-same p t l e f same nothing 0 refl r.output known.0 known.1 s
 
   module _ (g : GroupDef) (known : KnownGroup p g) (table : List Rule) where
-    do_same : (s : Acting) (o : Option ChosenRule) → ((x : ChosenRule) → o ≡ Some x → BestKnown p t l s.current s.left press g.using_keys x) →
+    do_same : (s : EventState) (o : Option ChosenRule) → ((x : ChosenRule) → o ≡ Some x → BestKnown p t l s.current s.left press g.using_keys x) →
         do_group (tab t) f press (tab_group t.stores (with_table p g table)) (option_map (tab_chosen p t l s.current s.left press g.using_keys) o) s
         ≡ do_group (src p) e press (src_group (names_of p) g) (option_map (src_chosen (names_of p)) o) s
     do_same s None h = unmatched-same (find is_on_nomatch g.rules) known.on_nomatch g.using_keys s
     do_same s (Some x) h =
         let b = h x refl in
-        let taken : Acting = record s { left = without_last (length (items_caught x.1)) s.left } in
+        let taken : EventState = record s { left = without_last (length (items_caught x.1)) s.left } in
         ap (act_if_any (tab t) f (output_if_any (map (tab_output t.stores) (statement_outputs (numbers_of p) (find is_on_match g.rules)))))
         (outputs-same p t l e f same x.1 (length x.0.context) b.count x.0.output b.known.output b.known.output_values taken)
         ∙ statement-same (find is_on_match g.rules) known.on_match _
 
-  chosen_src : (g : GroupDef) (s : Acting) →
+  chosen_src : (g : GroupDef) (s : EventState) →
       chosen_in (src p) press (src_group (names_of p) g) s ≡ option_map (src_chosen (names_of p)) (best_now p t l s.current s.left press g.using_keys (filter is_plain g.rules))
   chosen_src g s =
       (λ i. choose (src_choice p i) (holds (content (src p).stores s.current) s.left press) (map (src_rule (names_of p)) (filter is_plain g.rules)))
       ∙ best-map (names_of p) (holds (content (src p).stores s.current) s.left press) (filter is_plain g.rules)
 
-  chosen_tab : (g : GroupDef) → KnownGroup p g → (h : Group) → IsOrderedGroup (file_group (numbers_of p) g) h → (s : Acting) →
+  chosen_tab : (g : GroupDef) → KnownGroup p g → (h : Group) → IsOrderedGroup (file_group (numbers_of p) g) h → (s : EventState) →
       chosen_in (tab t) press (tab_group t.stores (with_table p g h.rules)) s
       ≡ option_map (tab_chosen p t l s.current s.left press g.using_keys) (best_now p t l s.current s.left press g.using_keys (filter is_plain g.rules))
   chosen_tab g known h o s =
       (λ i. choose (tab_choice t i) (holds (content (tab t).stores s.current) s.left press) (map (tab_rule t.stores g.using_keys) h.rules))
       ∙ choice-kept p t l s.current s.left press g.using_keys (filter is_plain g.rules) known.rules known.lines h.rules o.records o.in_order
 
-  pub group-same : (g : GroupDef) → KnownGroup p g → (h : Group) → IsOrderedGroup (file_group (numbers_of p) g) h → (s : Acting) →
+  pub group-same : (g : GroupDef) → KnownGroup p g → (h : Group) → IsOrderedGroup (file_group (numbers_of p) g) h → (s : EventState) →
       in_group (tab t) f press (Some (tab_group t.stores h)) s ≡ in_group (src p) e press (Some (src_group (names_of p) g)) s
   group-same g known h o s =
       let best = best_now p t l s.current s.left press g.using_keys (filter is_plain g.rules) in
@@ -157,7 +157,7 @@ pub level-same : (p : Program) (t : Tables) → IsWellNamed p → Compiles p t �
 level-same p t ok c l d press zero name h s = refl
 level-same p t ok c l d press (suc n) name h s =
     let place = group_place p t ok c name h in
-    let entered : Acting = record s { entered = s.entered + 1 } in
+    let entered : EventState = record s { entered = s.entered + 1 } in
     ap (λ o. in_group (tab t) (enter_group n (tab t) press) press o entered) place.numbered
     ∙ (group-same p t l d press (enter_group n (src p) press) (enter_group n (tab t) press) (level-same p t ok c l d press n) place.stated place.known place.compiled place.ordered entered
     ∙ sym (ap (λ o. in_group (src p) (enter_group n (src p) press) press o entered) place.named))

@@ -3,7 +3,7 @@ use Rattle.std.proofs.Common.{◌≡◌, refl}
 use Rattle.std.specs.Prelude.{map, find, List}
 use Rattle.kmn_base.specs.declared.events.Event.{Event}
 use Rattle.kmn_base.specs.declared.keys.KeyPress.{KeyPress}
-use Rattle.rule_model.specs.declared.acting.Acting.{Acting}
+use Rattle.rule_model.specs.declared.event_state.EventState.{EventState}
 use Rattle.rule_model.specs.declared.program.Program.{Program}
 use Rattle.rule_model.specs.declared.tables.Tables.{Tables}
 use Rattle.rule_model.specs.Keyboard.{Keyboard, Numbered, Best, First}
@@ -13,7 +13,7 @@ use Rattle.rule_model.specs.Src.{src, src_group, start_named, is_unicode}
 use Rattle.rule_model.specs.Tab.{tab, tab_group, tab_dictionary, tab_options, with_options}
 use Rattle.rule_model.specs.Enter.{enter_group}
 use Rattle.rule_model.specs.KeyEvent.{after_key}
-use Rattle.rule_model.specs.Trace.{trace, steps_from, first_state}
+use Rattle.rule_model.specs.Trace.{trace, trace_of, steps_from, first_state}
 
 pub src_start : (p : Program) → (src p).start ≡ start_named (find is_unicode p.begins)
 unfolding src
@@ -55,10 +55,10 @@ pub tab_choice : (t : Tables) → (tab t).choice ≡ First
 unfolding tab
 tab_choice t = refl
 
-pub after_key-enters : (kb : Keyboard) (press : KeyPress) (s : Acting) → after_key kb press s ≡ enter_group 50 kb press kb.start s
+pub after_key-enters : (kb : Keyboard) (press : KeyPress) (s : EventState) → after_key kb press s ≡ enter_group 50 kb press kb.start s
 unfolding after_key
 after_key-enters kb press s = refl
 
-pub trace-steps : (kb : Keyboard) (events : List Event) → trace kb events ≡ steps_from kb 1 events (first_state kb)
+pub trace-steps : (kb : Keyboard) (events : List Event) → trace kb events ≡ trace_of (first_state kb) (steps_from kb 1 events (first_state kb))
 unfolding trace
 trace-steps kb events = refl

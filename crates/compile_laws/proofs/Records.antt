@@ -12,8 +12,8 @@ use Rattle.kmn_base.specs.declared.keys.KeyPress.{KeyPress}
 use Rattle.kmn_base.specs.declared.keys.RuleKey.{RuleKey}
 use Rattle.kmn_base.specs.declared.keys.RuleKey.TheVariants as key
 use Rattle.virtual_keys.specs.Fits.{key_fits}
-use Rattle.rule_model.specs.declared.acting.Catch.{Catch}
-use Rattle.rule_model.specs.declared.acting.Caught.{Caught}
+use Rattle.rule_model.specs.declared.event_state.Catch.{Catch}
+use Rattle.rule_model.specs.declared.event_state.Caught.{Caught}
 use Rattle.rule_model.specs.declared.program.Program.{Program}
 use Rattle.rule_model.specs.declared.program.RuleDef.{RuleDef}
 use Rattle.rule_model.specs.declared.program.SrcItem.{SrcItem}

@@ -15,7 +15,8 @@ use Rattle.rule_model.specs.Trace.{trace}
 use Rattle.rule_model.specs.Transcript.{transcript}
 use Rattle.rule_model.specs.declared.script.Entry.{Entry}
 
--- the tables that a well-named program compiles to take the same steps as the program, whatever the events
+-- the tables that a well-named program compiles to begin in the same state as the program and take the same steps,
+-- whatever the events
 abbrev pub MeaningIsKept : Type 0
 MeaningIsKept =
     (program : Program) (tables : Tables) → IsWellNamed program → Compiles program tables →

@@ -1,7 +1,7 @@
 -- What contracts see of an editor, and what a passed key makes of its text.
 use Rattle.std.specs.Prelude.{ℕ, List, if◌then◌else◌}
 use Rattle.kmn_base.specs.declared.keys.KeyPress.{KeyPress}
-use Rattle.rule_model.specs.Enter.{is_plain_press}
+use Rattle.virtual_keys.specs.Fits.{is_plain}
 use Rattle.rule_model.specs.Event.{editor_left, editor_right}
 
 -- the text before the caret, the text after it, and for how many more characters there is room
@@ -12,8 +12,8 @@ pub record EditorText : Type 0 where
 
 -- the text before the caret after a passed key, which does something only without control and alt
 abbrev pub left_after : KeyPress → List ℕ → List ℕ → List ℕ
-left_after press left right = if is_plain_press press then editor_left press.code left right else left
+left_after press left right = if is_plain press then editor_left press.code left right else left
 
 -- the text after the caret then
 abbrev pub right_after : KeyPress → List ℕ → List ℕ → List ℕ
-right_after press left right = if is_plain_press press then editor_right press.code left right else right
+right_after press left right = if is_plain press then editor_right press.code left right else right

@@ -1,26 +1,12 @@
 ghost use Rattle.std.specs.Prelude.{◌≡◌, ◌+◌, ◌-◌, ◌≤◌, ◌<◌, [], ◌∷◌, ◌++◌, length, take, drop, OnOk, IfOk};
 ghost use Rattle.kmn_base.specs.Lists.{without_last};
-ghost use Rattle.rule_model.specs.Enter.{is_plain_press};
 ghost use Rattle.editor_model.specs.Text.{left_after, right_after};
 
 use kmn_base::{KeyPress, Memory};
 use std::alloc::Global;
 use std::marker::Model;
-
-// The keys that an editor handles by itself.
-const TAB: u16 = 9;
-
-const ENTER: u16 = 13;
-
-const END: u16 = 35;
-
-const HOME: u16 = 36;
-
-const LEFT: u16 = 37;
-
-const RIGHT: u16 = 39;
-
-const DELETE: u16 = 46;
+use virtual_keys::codes::{K_DEL, K_END, K_ENTER, K_HOME, K_LEFT, K_RIGHT, K_TAB};
+use virtual_keys::is_plain;
 
 /// A text with a caret in it, and room at the caret.
 #[derive(Drop)]
@@ -122,13 +108,13 @@ impl Editor {
             return;
         }
         match press.code {
-            ENTER => self.apply(0, &['\n']),
-            TAB => self.apply(0, &['\t']),
-            LEFT => self.back(self.left().len().min(1)),
-            RIGHT => self.forth(self.right().len().min(1)),
-            HOME => self.back(self.left().len()),
-            END => self.forth(self.right().len()),
-            DELETE => self.delete_after(),
+            K_ENTER => self.apply(0, &['\n']),
+            K_TAB => self.apply(0, &['\t']),
+            K_LEFT => self.back(self.left().len().min(1)),
+            K_RIGHT => self.forth(self.right().len().min(1)),
+            K_HOME => self.back(self.left().len()),
+            K_END => self.forth(self.right().len()),
+            K_DEL => self.delete_after(),
             _ => (),
         }
     }
@@ -173,13 +159,6 @@ impl Editor {
             self.end += 1;
         }
     }
-}
-
-/// Whether neither control nor alt is held.
-fn is_plain(press: KeyPress) -> bool
-    ensures { result ≡ is_plain_press press }
-{
-    press.mods % 16 == 0
 }
 
 /// Two texts with room between them, and the place behind the room.

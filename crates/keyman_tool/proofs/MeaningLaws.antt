@@ -12,7 +12,7 @@ use Rattle.compile_laws.specs.Means.{Means}
 use Rattle.compile_laws.specs.Ordered.{compiled_tables}
 use Rattle.rule_model.specs.Src.{src}
 use Rattle.rule_model.specs.Tab.{tab}
-use Rattle.rule_model.specs.Trace.{Steps, trace}
+use Rattle.rule_model.specs.Trace.{trace}
 use Rattle.rule_model.specs.Transcript.{events_of}
 use Rattle.kmn_compiler.specs.Source.{compiled_program}
 use Rattle.keyman_tool.specs.declared.reason.Reason.{Reason}

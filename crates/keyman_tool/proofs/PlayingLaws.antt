@@ -9,12 +9,12 @@ use Rattle.kmn_base.specs.declared.events.Event.TheVariants as event
 use Rattle.kmn_base.specs.declared.items.Element.{Element}
 use Rattle.kmn_base.specs.declared.items.Element.TheVariants as element
 use Rattle.kmn_base.specs.declared.keys.KeyPress.{KeyPress}
-use Rattle.rule_model.specs.declared.acting.Acting.{Acting}
+use Rattle.rule_model.specs.declared.event_state.EventState.{EventState}
 use Rattle.rule_model.specs.declared.script.Entry.{Entry}
 use Rattle.rule_model.specs.declared.script.Entry.TheVariants.{Act, Expect}
 use Rattle.rule_model.specs.declared.tables.Tables.{Tables}
 use Rattle.rule_model.specs.Act.{one_more}
-use Rattle.rule_model.specs.Enter.{is_plain_press}
+use Rattle.virtual_keys.specs.Fits.{is_plain}
 use Rattle.rule_model.specs.Event.{State, Happening, happening, event_refusal, unless_refused, event_of, by_editor, after_press, set_option, has_name}
 use Rattle.rule_model.specs.Keyboard.{Keyboard}
 use Rattle.rule_model.specs.KeyEvent.{begin_event, after_key}
@@ -30,13 +30,13 @@ use Rattle.keyman_tool.proofs.PrintingLaws.{none_appended, appended_more, append
 use Rattle.rule_model.specs.declared.tables.Store.{Store}
 
 -- an event keeps the names of the options
-editor_names : (plain : Bool) (press : KeyPress) (state : State) → is_plain_press press ≡ plain → (by_editor press state).names ≡ state.names
+editor_names : (plain : Bool) (press : KeyPress) (state : State) → is_plain press ≡ plain → (by_editor press state).names ≡ state.names
 editor_names true press state is = rw is refl
 editor_names false press state is = rw is refl
 
-press_names : (pass : Bool) (press : KeyPress) (s : Acting) (state : State) → s.pass ≡ pass → (after_press press s state).names ≡ state.names
+press_names : (pass : Bool) (press : KeyPress) (s : EventState) (state : State) → s.pass ≡ pass → (after_press press s state).names ≡ state.names
 press_names true press s state is =
-    rw is (editor_names (is_plain_press press) press (record state { left = s.left; current = s.current; saved = s.saved }) refl)
+    rw is (editor_names (is_plain press) press (record state { left = s.left; current = s.current; saved = s.saved }) refl)
 press_names false press s state is = rw is refl
 
 option_names : (option : Option ℕ) (value : List Element) (state : State) → (set_option option value state).names ≡ state.names
@@ -46,20 +46,20 @@ option_names (Some option) value state = refl
 event_names : (kb : Keyboard) (state : State) (event : Event) → (happening kb state event).after.names ≡ state.names
 unfolding happening
 event_names kb state (event.Key press) =
-    let s : Acting = after_key kb press (begin_event state.left state.current state.saved) in
+    let s : EventState = after_key kb press (begin_event state.left state.current state.saved) in
     press_names s.pass press s state refl
 event_names kb state (event.Setting name value) = option_names (position (has_name name) state.names) (map element.Char value) state
 event_names kb state (event.Caret place) = refl
 event_names kb state (event.Edit from to text) = refl
 
--- at first the whole transcript is to be printed, and the steps to be taken are those of the trace
+-- at first the whole transcript is to be printed, and the refusal to come is that of the trace
 pub all_lines : (tables : Tables) (entries : List Entry) → lines_left (first_session tables) entries ≡ transcript (tab tables) entries
 unfolding trace transcript
 all_lines tables entries = refl
 
-pub all_steps : (tables : Tables) (entries : List Entry) → steps_left (first_session tables) entries ≡ trace (tab tables) (events_of entries)
+all_refused : (tables : Tables) (entries : List Entry) → (steps_left (first_session tables) entries).refused ≡ (trace (tab tables) (events_of entries)).refused
 unfolding trace
-all_steps tables entries = refl
+all_refused tables entries = refl
 
 -- where there are no options, a step's lines are the line of its event
 one_line : (before : State) (step : Step) (names : List (List ℕ)) → before.names ≡ names → names ≡ [] → step_lines before step ≡ happening_line step.number (Ok step.happened)
@@ -165,7 +165,7 @@ session_begins session tables entries is none =
     (record {
       number = refl;
       names = no_names tables tables.stores refl none;
-      ends = ap (λ (steps : Steps). steps.refused) (all_steps tables entries);
+      ends = all_refused tables entries;
       printed = λ before. subst (λ (lines : List ℕ). AppendsBut lines before before (transcript (tab tables) entries)) (sym (all_lines tables entries))
           (none_appended before (transcript (tab tables) entries));
     })

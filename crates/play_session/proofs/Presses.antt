@@ -6,15 +6,14 @@ use Rattle.kmn_base.specs.declared.keys.KeyPress.{KeyPress}
 use Rattle.kmn_base.specs.declared.events.Outcome.{Outcome}
 use Rattle.kmn_base.specs.Lists.{characters, without_last, IsSound, read_again}
 use Rattle.kmn_base.proofs.ReadingAgain.{reading_again_gives_the_text, reading_again_is_sound, reading_again_the_same_text}
-use Rattle.rule_model.specs.declared.acting.Acting.{Acting}
+use Rattle.rule_model.specs.declared.event_state.EventState.{EventState}
 use Rattle.rule_model.specs.KeyEvent.{begin_event, after_key, outcome_of, inserted}
-use Rattle.rule_model.specs.Enter.{is_plain_press}
+use Rattle.virtual_keys.specs.Fits.{is_plain}
 use Rattle.rule_model.specs.Event.{State, text_becomes, editor_left, editor_right, by_editor}
 use Rattle.rule_model.specs.Tab.{tab}
 use Rattle.rule_model.proofs.Bounds.{press_adds_what_it_puts, editor_adds_one}
 use Rattle.rule_model.proofs.Budget.{press_is_within_budget}
 use Rattle.rule_model.proofs.Edits.{edit_gives_the_text}
-use Rattle.rule_model.proofs.Insertions.{press_inserts_at_most_what_it_puts}
 use Rattle.rule_model.proofs.Soundness.{press_keeps_sound}
 use Rattle.rule_engine.specs.Engine.{EngineState, press_outcome, press_leaves, synced}
 use Rattle.editor_model.specs.Text.{EditorText, left_after, right_after}
@@ -36,7 +35,6 @@ pub record IsPressed (engine : EngineState) (editor : EditorText) (press : KeyPr
   pub tells : outcome ≡ outcome_of engine.left (press_gives engine press)
   pub leaves : after ≡ engine_after engine press engine.left
   pub deletes : outcome.delete ≤ length editor.left
-  pub inserts : length after.inserted ≤ 4_096
   pub edits : without_last outcome.delete editor.left ++ after.inserted ≡ characters after.left
   pub sound : IsSound after.left
   pub few : length (characters after.left) + length editor.right ≤ 999_096
@@ -44,14 +42,13 @@ pub record IsPressed (engine : EngineState) (editor : EditorText) (press : KeyPr
 pub press_is_done : (engine : EngineState) (editor : EditorText) (press : KeyPress) (outcome : Outcome) (after : EngineState) (text : List ℕ)
     → AreTogether 995_000 engine editor → text ≡ editor.left → outcome ≡ press_outcome text press engine → after ≡ press_leaves text press engine
     → IsPressed engine editor press outcome after
-press_is_done engine editor press outcome after text h is_text told left =
+press_is_done engine editor press outcome after text h is_text told gave =
     let same : read_again engine.left text ≡ engine.left = ap (read_again engine.left) is_text ∙ same_list 995_000 engine editor h in
-    let s : Acting = press_gives engine press in
+    let s : EventState = press_gives engine press in
     let tells : outcome ≡ outcome_of engine.left s
     = told ∙ ap (λ (l : List Item). outcome_of l (after_key (tab engine.tables) press (begin_event l engine.current engine.saved))) same in
-    let leaves : after ≡ engine_after engine press engine.left = left ∙ ap (engine_after engine press) same in
+    let leaves : after ≡ engine_after engine press engine.left = gave ∙ ap (engine_after engine press) same in
     let budget : s.put ≤ 4_096 = (press_is_within_budget (tab engine.tables) press engine.left engine.current engine.saved).items in
-    let inserts : length (inserted engine.left s.left) ≤ s.put = press_inserts_at_most_what_it_puts (tab engine.tables) press engine.left engine.current engine.saved in
     let adds : length (characters s.left) ≤ length (characters engine.left) + s.put = press_adds_what_it_puts (tab engine.tables) press engine.left engine.current engine.saved in
     let is_same : editor.left ≡ characters engine.left = sym h.same in
     let count : length editor.left ≡ length (characters engine.left) = ap length is_same in
@@ -59,7 +56,6 @@ press_is_done engine editor press outcome after text h is_text told left =
       tells = tells;
       leaves = leaves;
       deletes = omega (arith, ap (λ (o : Outcome). o.delete) tells);
-      inserts = omega (arith, ap (λ (e : EngineState). length e.inserted) leaves);
       edits = (λ i. without_last (tells i).delete (is_same i) ++ (leaves i).inserted)
           ∙ edit_gives_the_text engine.left s.left
           ∙ sym (ap (λ (e : EngineState). characters e.left) leaves);
@@ -81,7 +77,7 @@ text_chosen state false left right other_left other_right = refl
 
 -- the editor inserts at most one character
 default_adds_one : (press : KeyPress) (left right : List ℕ) → length (left_after press left right) + length (right_after press left right) ≤ length left + length right + 1
-default_adds_one press left right = elim (cases_Bool (is_plain_press press)) [
+default_adds_one press left right = elim (cases_Bool (is_plain press)) [
   | inl plain ↦ rw plain (editor_adds_one press.code left right)
   | inr held ↦ rw held (omega arith)
 ]
@@ -102,7 +98,7 @@ default_is_done engine editor after press h lefts rights =
     let count_right : length after.right ≡ length (right_after press editor.left editor.right) = ap length rights in
     record {
       state = (λ i. text_becomes (left i) (right i) state)
-          ∙ text_chosen state (is_plain_press press) (editor_left press.code text editor.right) (editor_right press.code text editor.right) text editor.right;
+          ∙ text_chosen state (is_plain press) (editor_left press.code text editor.right) (editor_right press.code text editor.right) text editor.right;
       together = record {
         same = reading_again_gives_the_text engine.left after.left;
         sound = reading_again_is_sound engine.left after.left;

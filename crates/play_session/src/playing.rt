@@ -1,4 +1,5 @@
 ghost use Rattle.std.specs.Prelude.{◌≡◌, ◌+◌, ◌≤◌, IfOk, MatchResult};
+ghost use Rattle.kmn_base.specs.declared.limits.TheConstants.{EVENT_PUTS, TEXT_CHARS, TEXT_CHARS_AT_KEY};
 ghost use Rattle.kmn_base.specs.Lists.{characters};
 ghost use Rattle.rule_model.specs.KeyEvent.{outcome_of, inserted};
 ghost use Rattle.rule_model.specs.Event.{by_editor, key_event};
@@ -22,9 +23,9 @@ fn press_key(
     editor: &mut Editor,
     press: KeyPress,
 ) -> Result<Outcome, Memory>
-    requires together { AreTogether 995_000 engine.old editor.old }
-    requires room { 4_097 ≤ editor.old.spare }
-    ensures together { AreTogether 999_096 engine.new editor.new }
+    requires together { AreTogether TEXT_CHARS_AT_KEY engine.old editor.old }
+    requires room { EVENT_PUTS + 1 ≤ editor.old.spare }
+    ensures together { AreTogether (TEXT_CHARS_AT_KEY + EVENT_PUTS) engine.new editor.new }
     ensures tables { engine.new.tables ≡ engine.old.tables }
     ensures outcome { IfOk result (λ outcome. outcome ≡ outcome_of engine.old.left (press_gives engine.old press)) }
     ensures state { IfOk result (λ _. stands_for engine.new editor.new ≡ acted (press_gives engine.old press) (stands_for engine.old editor.old)) }
@@ -44,9 +45,9 @@ fn pass_on(
     editor: &mut Editor,
     press: KeyPress,
 ) -> Result<(), Memory>
-    requires together { AreTogether 999_096 engine.old editor.old }
+    requires together { AreTogether (TEXT_CHARS_AT_KEY + EVENT_PUTS) engine.old editor.old }
     requires room { 1 ≤ editor.old.spare }
-    ensures together { AreTogether 1_000_000 engine.new editor.new }
+    ensures together { AreTogether TEXT_CHARS engine.new editor.new }
     ensures tables { engine.new.tables ≡ engine.old.tables }
     ensures state { IfOk result (λ _. stands_for engine.new editor.new ≡ by_editor press (stands_for engine.old editor.old)) }
     ensures inserted { engine.new.inserted ≡ engine.old.inserted }
@@ -65,8 +66,8 @@ pub(crate) fn key_event(
     editor: &mut Editor,
     press: KeyPress,
 ) -> Result<Outcome, Memory>
-    requires together { AreTogether 995_000 engine.old editor.old }
-    ensures together { AreTogether 1_000_000 engine.new editor.new }
+    requires together { AreTogether TEXT_CHARS_AT_KEY engine.old editor.old }
+    ensures together { AreTogether TEXT_CHARS engine.new editor.new }
     ensures tables { engine.new.tables ≡ engine.old.tables }
     ensures outcome { IfOk result (λ outcome. outcome ≡ (key_event (tab engine.old.tables) press (stands_for engine.old editor.old)).outcome) }
     ensures state { IfOk result (λ _. stands_for engine.new editor.new ≡ (key_event (tab engine.old.tables) press (stands_for engine.old editor.old)).after) }

@@ -1,5 +1,6 @@
 ghost use Rattle.std.specs.Prelude.{◌≡◌, ◌≤◌, length, IfOk, IfErr, IsTrue, IsSome, Ok};
 ghost use Rattle.kmn_base.specs.declared.events.Event.TheVariants as event;
+ghost use Rattle.kmn_base.specs.declared.limits.TheConstants.{TEXT_CHARS};
 ghost use Rattle.kmn_base.specs.Lists.{characters, window};
 ghost use Rattle.kmx_format.specs.TablesOf.{tables_of};
 ghost use Rattle.rule_model.specs.Event.{whole_text, event_refusal, event_of};
@@ -56,13 +57,14 @@ pub struct Session<'a> {
 }
 
 impl<'a> Model for Session<'a> {
+    ghost use Rattle.kmn_base.specs.declared.limits.TheConstants.{TEXT_CHARS};
     ghost use Rattle.play_session.specs.Session.{SessionState, AreTogether, session_of};
 
     ghost Value = { SessionState };
 
     ghost view = { λ session. session_of session.engine session.editor session.number };
 
-    ghost invariant = { λ session. AreTogether 1_000_000 session.engine session.editor };
+    ghost invariant = { λ session. AreTogether TEXT_CHARS session.engine session.editor };
 }
 
 impl<'a> Session<'a> {
@@ -122,7 +124,7 @@ impl<'a> Session<'a> {
     pub fn editor(&self) -> &Editor
         ensures left { result.now.left ≡ characters self.now.state.left }
         ensures right { result.now.right ≡ self.now.state.right }
-        ensures few { length (whole_text self.now.state) ≤ 1_000_000 }
+        ensures few { length (whole_text self.now.state) ≤ TEXT_CHARS }
         ensures context { self.now.state.left ≡ text_with_context result.now.left (window self.now.state.left) }
     {
         &self.editor

@@ -7,11 +7,13 @@ use Rattle.kmn_base.specs.declared.items.Item.{Item}
 use Rattle.kmn_base.specs.declared.keys.KeyPress.{KeyPress}
 use Rattle.kmn_base.specs.Lists.{characters, is_mark, IsSound, read_again}
 use Rattle.kmn_base.proofs.ReadingAgain.{reading_again_is_sound, reading_again_gives_the_text}
-use Rattle.rule_model.specs.declared.acting.Acting.{Acting}
+use Rattle.rule_model.specs.declared.event_state.EventState.{EventState}
 use Rattle.rule_model.specs.declared.tables.Tables.{Tables}
 use Rattle.rule_model.specs.KeyEvent.{begin_event, common_prefix, deleted, inserted, outcome_of}
 use Rattle.rule_model.specs.Tab.{tab}
 use Rattle.rule_model.specs.Trace.{options_of}
+use Rattle.rule_model.proofs.Budget.{press_is_within_budget}
+use Rattle.rule_model.proofs.Insertions.{press_inserts_at_most_what_it_puts}
 use Rattle.rule_model.proofs.PlainCounts.{after_key-counts}
 use Rattle.rule_model.proofs.Soundness.{press_keeps_sound}
 use Rattle.rule_engine.specs.Engine.{EngineState, IsEngine, first_engine, pressed, press_outcome, press_leaves}
@@ -21,20 +23,8 @@ first_is_engine tables = record {
   sound = All-nil (λ item. is_mark item ≡ false);
   current = length-map (options_of (tab tables).stores) _;
   saved = length-map (options_of (tab tables).stores) _;
+  inserted = omega arith;
 }
-
--- a press keeps this, whatever was inserted
-pub press_keeps_engine : (text : List ℕ) (press : KeyPress) (engine : EngineState) (s : Acting) (inserted : List ℕ) → s ≡ pressed text press engine → IsEngine engine
-    → IsEngine (record { tables = engine.tables; left = s.left; current = s.current; saved = s.saved; inserted = inserted })
-press_keeps_engine text press engine s inserted acts is =
-    let begun : Acting = begin_event (read_again engine.left text) engine.current engine.saved in
-    let counts = after_key-counts (tab engine.tables) press begun in
-    let sound : IsSound (pressed text press engine).left = press_keeps_sound (tab engine.tables) press begun (reading_again_is_sound engine.left text) in
-    record {
-      sound = subst (λ (t : Acting). IsSound t.left) (sym acts) sound;
-      current = ap (λ (t : Acting). length t.current) acts ∙ counts.current ∙ is.current;
-      saved = ap (λ (t : Acting). length t.saved) acts ∙ counts.saved ∙ is.saved;
-    }
 
 -- a text that is read again keeps it
 pub sync_keeps_engine : (text : List ℕ) (engine : EngineState) (list : List Item) → list ≡ read_again engine.left text → IsEngine engine → IsEngine (record engine { left = list })
@@ -42,10 +32,11 @@ sync_keeps_engine text engine list reads is = record {
   sound = subst IsSound (sym reads) (reading_again_is_sound engine.left text);
   current = is.current;
   saved = is.saved;
+  inserted = is.inserted;
 }
 
 -- what a press did, from the text before it and the one after it
-module _ (text : List ℕ) (press : KeyPress) (engine : EngineState) (s : Acting) (after : List ℕ) (acts : s ≡ pressed text press engine) (gives : after ≡ characters s.left) where
+module _ (text : List ℕ) (press : KeyPress) (engine : EngineState) (s : EventState) (after : List ℕ) (acts : s ≡ pressed text press engine) (gives : after ≡ characters s.left) where
   before : text ≡ characters (read_again engine.left text)
   before = sym (reading_again_gives_the_text engine.left text)
 
@@ -57,13 +48,32 @@ module _ (text : List ℕ) (press : KeyPress) (engine : EngineState) (s : Acting
       ap (λ (d : ℕ). record { delete = d; pass = s.pass; beeps = s.beeps; entered = s.entered; put = s.put; saved = s.saves }) same
       ∙ ap (outcome_of (read_again engine.left text)) acts
 
+  inserted_seen : (inserts : List ℕ) → inserts ≡ drop (common_prefix text after) after → inserts ≡ inserted (read_again engine.left text) s.left
+  inserted_seen inserts is = is ∙ (λ i. drop (common_prefix (before i) (gives i)) (gives i))
+
   pub engine_seen : (inserts : List ℕ) → inserts ≡ drop (common_prefix text after) after
       → record { tables = engine.tables; left = s.left; current = s.current; saved = s.saved; inserted = inserts } ≡ press_leaves text press engine
   engine_seen inserts is =
-      let same : inserts ≡ inserted (read_again engine.left text) s.left
-      = is ∙ (λ i. drop (common_prefix (before i) (gives i)) (gives i)) in
+      let same : inserts ≡ inserted (read_again engine.left text) s.left = inserted_seen inserts is in
       ap (λ (xs : List ℕ). record { tables = engine.tables; left = s.left; current = s.current; saved = s.saved; inserted = xs }) same
-      ∙ ap (λ (t : Acting). record { tables = engine.tables; left = t.left; current = t.current; saved = t.saved; inserted = inserted (read_again engine.left text) t.left }) acts
+      ∙ ap (λ (t : EventState). record { tables = engine.tables; left = t.left; current = t.current; saved = t.saved; inserted = inserted (read_again engine.left text) t.left }) acts
+
+  pub press_keeps_engine : (inserts : List ℕ) → inserts ≡ drop (common_prefix text after) after → IsEngine engine
+      → IsEngine (record { tables = engine.tables; left = s.left; current = s.current; saved = s.saved; inserted = inserts })
+  press_keeps_engine inserts seen is =
+      let list : List Item = read_again engine.left text in
+      let begun : EventState = begin_event list engine.current engine.saved in
+      let counts = after_key-counts (tab engine.tables) press begun in
+      let sound : IsSound (pressed text press engine).left = press_keeps_sound (tab engine.tables) press begun (reading_again_is_sound engine.left text) in
+      let budget : (pressed text press engine).put ≤ 4_096 = (press_is_within_budget (tab engine.tables) press list engine.current engine.saved).items in
+      let few : length (inserted list (pressed text press engine).left) ≤ (pressed text press engine).put = press_inserts_at_most_what_it_puts (tab engine.tables) press list engine.current engine.saved in
+      let same : inserts ≡ inserted list (pressed text press engine).left = inserted_seen inserts seen ∙ ap (λ (t : EventState). inserted list t.left) acts in
+      record {
+        sound = subst (λ (t : EventState). IsSound t.left) (sym acts) sound;
+        current = ap (λ (t : EventState). length t.current) acts ∙ counts.current ∙ is.current;
+        saved = ap (λ (t : EventState). length t.saved) acts ∙ counts.saved ∙ is.saved;
+        inserted = omega (arith, budget, few, ap length same);
+      }
 
 -- two texts are alike for no more characters than the second has
 pub common_prefix_within : (old new : List ℕ) → common_prefix old new ≤ length new

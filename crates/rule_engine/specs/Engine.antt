@@ -1,11 +1,12 @@
 -- What an engine is, and what a press and a new text make of it.
-use Rattle.std.specs.Prelude.{◌≡◌, ℕ, List, [], length, Option}
+use Rattle.std.specs.Prelude.{◌≡◌, ◌≤◌, ℕ, List, [], length, Option}
 use Rattle.kmn_base.specs.declared.items.Item.{Item}
 use Rattle.kmn_base.specs.declared.items.Element.{Element}
 use Rattle.kmn_base.specs.declared.keys.KeyPress.{KeyPress}
 use Rattle.kmn_base.specs.declared.events.Outcome.{Outcome}
+use Rattle.kmn_base.specs.declared.limits.TheConstants.{EVENT_PUTS}
 use Rattle.kmn_base.specs.Lists.{IsSound, read_again}
-use Rattle.rule_model.specs.declared.acting.Acting.{Acting}
+use Rattle.rule_model.specs.declared.event_state.EventState.{EventState}
 use Rattle.rule_model.specs.declared.tables.Tables.{Tables}
 use Rattle.rule_model.specs.KeyEvent.{begin_event, after_key, outcome_of, inserted}
 use Rattle.rule_model.specs.Tab.{tab}
@@ -20,11 +21,13 @@ pub record EngineState : Type 0 where
   pub saved : List (Option (List Element))
   pub inserted : List ℕ
 
--- its marks stand in the window, and it has a current and a saved value for each option
+-- its marks stand in the window, it has a current and a saved value for each option, and a press inserts no more
+-- characters than it may put items
 pub record IsEngine (engine : EngineState) : Type 0 where
   pub sound : IsSound engine.left
   pub current : length engine.current ≡ length (options_of (tab engine.tables).stores)
   pub saved : length engine.saved ≡ length (options_of (tab engine.tables).stores)
+  pub inserted : length engine.inserted ≤ EVENT_PUTS
 
 -- before the first event: an empty text, each option with its elements, none saved, and nothing inserted
 abbrev pub first_engine : Tables → EngineState
@@ -38,7 +41,7 @@ first_engine tables =
     }
 
 -- what a press leaves, where the text before the caret is read again first
-abbrev pub pressed : List ℕ → KeyPress → EngineState → Acting
+abbrev pub pressed : List ℕ → KeyPress → EngineState → EventState
 pressed text press engine = after_key (tab engine.tables) press (begin_event (read_again engine.left text) engine.current engine.saved)
 
 -- the outcome of the press

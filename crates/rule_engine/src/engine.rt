@@ -1,4 +1,5 @@
-ghost use Rattle.std.specs.Prelude.{◌≡◌, ◌-◌, ◌<◌, ◌^◌, length, drop, IfOk, MatchResult};
+ghost use Rattle.std.specs.Prelude.{◌≡◌, ◌-◌, ◌<◌, ◌≤◌, ◌^◌, length, drop, IfOk, MatchResult};
+ghost use Rattle.kmn_base.specs.declared.limits.TheConstants.{EVENT_PUTS};
 ghost use Rattle.kmn_base.specs.Lists.{window};
 ghost use Rattle.kmx_format.specs.TablesOf.{tables_of};
 ghost use Rattle.rule_model.specs.KeyEvent.{common_prefix};
@@ -6,14 +7,14 @@ ghost use Rattle.rule_model.specs.KeyEvent.{common_prefix};
 use crate::first::{first_current, first_saved};
 use kmn_base::{Element, Item, KeyPress, Memory, Outcome, Seq};
 use kmx_verifier::Verified;
-use rule_model::{Acting, LeftList, Player, Tables, after_key, common_prefix};
+use rule_model::{EventState, IndexedTables, LeftList, Tables, after_key, common_prefix};
 use std::alloc::Global;
 use std::marker::Model;
 
 /// A keyboard at work: the items before the caret as it knows them, the option values, and what the last press inserted.
 #[derive(Drop)]
 pub struct Engine<'a> {
-    player: Player<'a>,
+    tables: IndexedTables<'a>,
     left: LeftList,
     current: Seq<Seq<Element>>,
     saved: Seq<Option<Seq<Element>>>,
@@ -26,7 +27,7 @@ impl<'a> Model for Engine<'a> {
     ghost Value = { EngineState };
 
     ghost view = { λ engine. record {
-      tables = engine.player;
+      tables = engine.tables;
       left = engine.left;
       current = engine.current;
       saved = engine.saved;
@@ -34,7 +35,7 @@ impl<'a> Model for Engine<'a> {
     } };
 
     ghost invariant = { λ engine. IsEngine (record {
-      tables = engine.player;
+      tables = engine.tables;
       left = engine.left;
       current = engine.current;
       saved = engine.saved;
@@ -57,11 +58,11 @@ impl<'a> Engine<'a> {
     pub(crate) fn of_tables(alloc: Global, tables: &'a Tables) -> Result<Engine<'a>, Memory>
         ensures { IfOk result (λ engine. engine ≡ first_engine tables.now) }
     {
-        let player = Player::new(alloc, tables)?;
-        let current = first_current(alloc, &player, tables)?;
-        let saved = first_saved(alloc, &player)?;
+        let indexed = IndexedTables::new(alloc, tables)?;
+        let current = first_current(alloc, &indexed, tables)?;
+        let saved = first_saved(alloc, &indexed)?;
         Ok(Engine {
-            player,
+            tables: indexed,
             left: LeftList::from_slice(alloc, &[])?,
             current,
             saved,
@@ -77,36 +78,36 @@ impl<'a> Engine<'a> {
         ensures outcome { IfOk result (λ outcome. outcome ≡ press_outcome left.now press self.old) }
         ensures engine { MatchResult result (λ _. self.new ≡ press_leaves left.now press self.old) (λ _. self.new ≡ self.old) }
     {
-        let acting = self.pressed(alloc, left, press)?;
-        let text = acting.left.characters(alloc)?;
+        let state = self.pressed(alloc, left, press)?;
+        let text = state.left.characters(alloc)?;
         let (deleted, inserted) = edit(left, text.as_slice());
         let inserted = Seq::from_slice(alloc, inserted)?;
-        let outcome = acting.outcome(deleted as u32);
-        self.left = acting.left;
-        self.current = acting.current;
-        self.saved = acting.saved;
+        let outcome = state.outcome(deleted as u32);
+        self.left = state.left;
+        self.current = state.current;
+        self.saved = state.saved;
         self.inserted = inserted;
         Ok(outcome)
     }
 
     /// What a press leaves.
-    fn pressed(&self, alloc: Global, left: &[char], press: KeyPress) -> Result<Acting, Memory>
-        ensures { IfOk result (λ acting. acting ≡ pressed left.now press self.now) }
+    fn pressed(&self, alloc: Global, left: &[char], press: KeyPress) -> Result<EventState, Memory>
+        ensures { IfOk result (λ state. state ≡ pressed left.now press self.now) }
     {
         let list = self.left.read_again(alloc, left)?;
-        let mut acting = Acting::begin_on(
+        let state = EventState::begin_on(
             alloc,
             list,
             self.current.as_slice(),
             self.saved.as_slice(),
         )?;
-        after_key(&self.player, press, &mut acting)?;
-        Ok(acting)
+        after_key(&self.tables, press, state)
     }
 
-    /// The characters that the last press inserted, at most 4,096; none before the first press.
+    /// The characters that the last press inserted; none before the first press.
     pub fn inserted(&self) -> &[char]
-        ensures { result.now ≡ self.now.inserted }
+        ensures value { result.now ≡ self.now.inserted }
+        ensures few { length result.now ≤ EVENT_PUTS }
     {
         self.inserted.as_slice()
     }

@@ -4,7 +4,7 @@ ghost use Rattle.rule_model.specs.Trace.{first_state};
 ghost use Rattle.rule_engine.specs.First.{stated_values, none_saved};
 
 use kmn_base::{Element, Memory, Seq};
-use rule_model::{Player, Store, Tables};
+use rule_model::{IndexedTables, Store, Tables};
 use std::alloc::Global;
 
 /// The elements of the stores that have an option number.
@@ -43,19 +43,22 @@ fn none_saved(alloc: Global, numbers: &[Option<usize>]) -> Result<Seq<Option<Seq
 #[tactic(auto, using(crate::proofs::Firsts::stated_first))]
 pub fn first_current(
     alloc: Global,
-    player: &Player,
+    indexed: &IndexedTables,
     tables: &Tables,
 ) -> Result<Seq<Seq<Element>>, Memory>
-    requires { tables.now ≡ player.now }
-    ensures { IfOk result (λ values. values ≡ (first_state (tab player.now)).current) }
+    requires { tables.now ≡ indexed.now }
+    ensures { IfOk result (λ values. values ≡ (first_state (tab indexed.now)).current) }
 {
-    stated_values(alloc, player.numbers(), tables.stores.as_slice())
+    stated_values(alloc, indexed.numbers(), tables.stores.as_slice())
 }
 
 /// The saved value of each option then: none.
 #[tactic(auto, using(crate::proofs::Firsts::saved_first))]
-pub fn first_saved(alloc: Global, player: &Player) -> Result<Seq<Option<Seq<Element>>>, Memory>
-    ensures { IfOk result (λ values. values ≡ (first_state (tab player.now)).saved) }
+pub fn first_saved(
+    alloc: Global,
+    indexed: &IndexedTables,
+) -> Result<Seq<Option<Seq<Element>>>, Memory>
+    ensures { IfOk result (λ values. values ≡ (first_state (tab indexed.now)).saved) }
 {
-    none_saved(alloc, player.numbers())
+    none_saved(alloc, indexed.numbers())
 }

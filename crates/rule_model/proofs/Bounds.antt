@@ -15,8 +15,8 @@ use Rattle.kmn_base.specs.declared.codes.Code.TheVariants.{E1, E2}
 use Rattle.kmn_base.specs.Lists.{characters, without_last, put, read_again}
 use Rattle.kmn_base.proofs.Lists.{characters-append, characters_of_put}
 use Rattle.kmn_base.proofs.ReadingAgain.{reading_again_gives_the_text}
-use Rattle.rule_model.specs.declared.acting.Acting.{Acting}
-use Rattle.rule_model.specs.Enter.{is_plain_press}
+use Rattle.rule_model.specs.declared.event_state.EventState.{EventState}
+use Rattle.virtual_keys.specs.Fits.{is_plain}
 use Rattle.rule_model.specs.KeyEvent.{begin_event, after_key}
 use Rattle.rule_model.specs.Event.{State, whole_text, text_becomes, editor_left, editor_right, by_editor, after_press, has_name, set_option, caret_event, moved_caret, edited_text, edit_event, edit_refusal, happening}
 use Rattle.rule_model.specs.StepLaws.{PressAddsWhatItPuts, EventKeepsTextInBounds, StepsKeepTextInBounds}
@@ -46,7 +46,7 @@ taking_adds_none n items =
     omega arith
 
 -- no more characters than at first and than were put
-abbrev Adds : ℕ → Acting → Type 0
+abbrev Adds : ℕ → EventState → Type 0
 Adds n s = length (characters s.left) ≤ n + s.put
 
 adding_kept : (n : ℕ) → IsKept (Adds n)
@@ -115,11 +115,11 @@ editor_has_at_most : (n : ℕ) (press : KeyPress) (state : State) → HasAtMost 
 editor_has_at_most n press state h =
     let left : List ℕ = characters state.left in
     let before : length left + length state.right ≤ n = omega (arith, length-whole_text state) in
-    cond_both (is_plain_press press) _ _ (HasAtMost (n + 1))
+    cond_both (is_plain press) _ _ (HasAtMost (n + 1))
     (λ _. omega (arith, length-text_becomes (editor_left press.code left state.right) (editor_right press.code left state.right) state, editor_adds_one press.code left state.right))
     (λ _. omega (arith, length-text_becomes left state.right state))
 
-press_has_at_most : (n : ℕ) (press : KeyPress) (s : Acting) (state : State) → length (characters s.left) + length state.right ≤ n → HasAtMost (n + 1) (after_press press s state)
+press_has_at_most : (n : ℕ) (press : KeyPress) (s : EventState) (state : State) → length (characters s.left) + length state.right ≤ n → HasAtMost (n + 1) (after_press press s state)
 press_has_at_most n press s state h =
     let acted : State = record state { left = s.left; current = s.current; saved = s.saved } in
     let now : HasAtMost n acted = omega (arith, length-whole_text acted) in
@@ -162,7 +162,7 @@ edit_has_at_most from to text state e =
 pub event_keeps_text_in_bounds : EventKeepsTextInBounds
 unfolding happening
 event_keeps_text_in_bounds kb state (event.Key press) allowed h =
-    let s : Acting = after_key kb press (begin_event state.left state.current state.saved) in
+    let s : EventState = after_key kb press (begin_event state.left state.current state.saved) in
     let few : length (whole_text state) ≤ 995_000 = ltb-false 995_000 (length (whole_text state)) (not_refused (ltb 995_000 (length (whole_text state))) E2 None allowed).0 in
     let budget : s.put ≤ 4096 = (press_is_within_budget kb press state.left state.current state.saved).items in
     let added : length (characters s.left) ≤ length (characters state.left) + s.put = press_adds_what_it_puts kb press state.left state.current state.saved in

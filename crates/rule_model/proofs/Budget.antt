@@ -3,7 +3,7 @@ use Rattle.std.proofs.Common.{◌<◌, refl, leb, arith}
 use Rattle.std.proofs.lemmas.Bool.{cond_both, leb-false}
 use Rattle.kmn_base.specs.declared.events.Event.{Event}
 use Rattle.kmn_base.specs.declared.events.Event.TheVariants as event
-use Rattle.rule_model.specs.declared.acting.Acting.{Acting}
+use Rattle.rule_model.specs.declared.event_state.EventState.{EventState}
 use Rattle.rule_model.specs.Keyboard.{Keyboard}
 use Rattle.rule_model.specs.KeyEvent.{begin_event}
 use Rattle.rule_model.specs.Event.{State, happening}
@@ -11,7 +11,7 @@ use Rattle.rule_model.specs.StepLaws.{IsWithinBudget, PressIsWithinBudget, Steps
 use Rattle.rule_model.proofs.Kept.{IsKept, after_key_keeps}
 use Rattle.rule_model.proofs.Steps.{trace_keeps}
 
-abbrev Within : Acting → Type 0
+abbrev Within : EventState → Type 0
 Within s = IsWithinBudget s.entered s.put
 
 budget_kept : IsKept Within

@@ -8,7 +8,7 @@ use Rattle.std.proofs.lemmas.Bool.Decides.{nat_tests}
 use Rattle.std.proofs.lemmas.List.Elements.{All-nil, All-cons, All-head, All-tail, All-weaker, All-contains}
 use Rattle.std.proofs.lemmas.List.{get_or_default}
 use Rattle.std.proofs.lemmas.Option.{none-some, same_Some}
-use Rattle.rule_model.specs.declared.acting.Caught.{Caught}
+use Rattle.rule_model.specs.declared.event_state.Caught.{Caught}
 use Rattle.rule_model.specs.Keyboard.{RuleMeaning}
 use Rattle.rule_model.specs.Choose.{Chosen, goes_before, better, best_with, best, first_with, first}
 use Rattle.rule_model.specs.StepLaws.{Holding, NoneHolds, IsFirst, IsBest, LinesDiffer, GoesBeforeOthers, FirstIsNone, FirstIsFirst, BestIsNone, BestIsBest, OneIsBest, BestGoesBeforeOthers, NoneBeforeItself, BeforeIsTransitive, OneGoesBefore}

@@ -5,7 +5,7 @@ use Rattle.std.proofs.lemmas.List.{take-append-drop}
 use Rattle.std.proofs.lemmas.List.Sums.{common_prefix_len-le}
 use Rattle.kmn_base.specs.declared.items.Item.{Item}
 use Rattle.kmn_base.specs.Lists.{characters}
-use Rattle.rule_model.specs.declared.acting.Acting.{Acting}
+use Rattle.rule_model.specs.declared.event_state.EventState.{EventState}
 use Rattle.rule_model.specs.KeyEvent.{begin_event, after_key, common_prefix, deleted, inserted}
 use Rattle.rule_model.specs.Event.{State, by_editor, after_press, happening}
 use Rattle.rule_model.specs.StepLaws.{deleted_text, EditGivesTheText, EditIsShort, PressEditsTheText}
@@ -67,7 +67,7 @@ edit_is_short old new c more others from_old from_new =
 pub press_edits_the_text : PressEditsTheText
 unfolding happening
 press_edits_the_text kb state press kept =
-    let s : Acting = after_key kb press (begin_event state.left state.current state.saved) in
+    let s : EventState = after_key kb press (begin_event state.left state.current state.saved) in
     let acted : State = record state { left = s.left; current = s.current; saved = s.saved } in
     let after : after_press press s state ≡ acted = cond-false s.pass (by_editor press acted) acted kept in
     (edit_gives_the_text state.left s.left ∙ ap (λ (t : State). characters t.left) (sym after), ap (λ (t : State). t.right) after)

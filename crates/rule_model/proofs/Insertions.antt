@@ -6,7 +6,7 @@ use Rattle.kmn_base.specs.declared.items.Item.{Item}
 use Rattle.kmn_base.specs.declared.items.Item.TheVariants.{Char, Mark}
 use Rattle.kmn_base.specs.Lists.{characters, without_last, put}
 use Rattle.kmn_base.proofs.Lists.{characters-append, characters_of_put}
-use Rattle.rule_model.specs.declared.acting.Acting.{Acting}
+use Rattle.rule_model.specs.declared.event_state.EventState.{EventState}
 use Rattle.rule_model.specs.KeyEvent.{begin_event, after_key, common_prefix}
 use Rattle.rule_model.specs.StepLaws.{PressInsertsAtMostWhatItPuts}
 use Rattle.rule_model.proofs.Kept.{IsKept, after_key_keeps}
@@ -32,14 +32,14 @@ record Inserts (old : List ℕ) (left : List Item) (count : ℕ) : Type 0 where
   alike : take kept old ≡ take kept (characters left)
   few : length (characters left) ≤ kept + count
 
-abbrev HasInserted : List ℕ → Acting → Type 0
+abbrev HasInserted : List ℕ → EventState → Type 0
 HasInserted old s = Inserts old s.left s.put
 
 characters-one : (x : Item) → length (characters (x ∷ [])) ≤ 1
 characters-one (Char c) = omega arith
 characters-one (Mark m) = omega arith
 
-after_put : (old : List ℕ) (x : Item) (s : Acting) → Inserts old s.left s.put → Inserts old (put s.left x) (s.put + 1)
+after_put : (old : List ℕ) (x : Item) (s : EventState) → Inserts old s.left s.put → Inserts old (put s.left x) (s.put + 1)
 after_put old x s h =
     let text : List ℕ = characters s.left in
     let more : List ℕ = characters (x ∷ []) in
@@ -53,7 +53,7 @@ after_put old x s h =
       few = omega (arith, characters-one x);
     }
 
-after_take : (old : List ℕ) (n : ℕ) (s : Acting) → Inserts old s.left s.put → Inserts old (without_last n s.left) s.put
+after_take : (old : List ℕ) (n : ℕ) (s : EventState) → Inserts old s.left s.put → Inserts old (without_last n s.left) s.put
 after_take old n s h =
     let at : ℕ = length s.left - n in
     let text : List ℕ = characters (take at s.left) in
@@ -89,7 +89,7 @@ pub press_inserts_at_most_what_it_puts : PressInsertsAtMostWhatItPuts
 press_inserts_at_most_what_it_puts kb press left current saved =
     let old : List ℕ = characters left in
     let h : Inserts old left 0 = record { kept = length old; within_old = omega arith; within_new = omega arith; alike = refl; few = omega arith } in
-    let s : Acting = after_key kb press (begin_event left current saved) in
+    let s : EventState = after_key kb press (begin_event left current saved) in
     let after : Inserts old s.left s.put = after_key_keeps (HasInserted old) (inserting_kept old) kb press (begin_event left current saved) (omega arith) h in
     let new : List ℕ = characters s.left in
     let alike : after.kept ≤ common_prefix old new = alike_so_far old new after.kept after.within_old after.within_new after.alike in

@@ -7,7 +7,7 @@ use Rattle.kmn_base.specs.declared.items.Element.TheVariants as element
 use Rattle.kmn_base.specs.declared.keys.KeyPress.{KeyPress}
 use Rattle.kmn_base.specs.declared.events.Outcome.{Outcome}
 use Rattle.kmn_base.specs.Lists.{characters, read_again}
-use Rattle.rule_model.specs.declared.acting.Acting.{Acting}
+use Rattle.rule_model.specs.declared.event_state.EventState.{EventState}
 use Rattle.rule_model.specs.declared.state.PlainState.{PlainState}
 use Rattle.rule_model.specs.declared.tables.Tables.{Tables}
 use Rattle.rule_model.specs.Keyboard.{StoreMeaning}
@@ -23,10 +23,10 @@ unfolding tab
 count_of_numbers tables = length-option_numbers 0 (tab tables).stores ∙ length-with_options (tab_options tables) 0 tables.stores
 
 -- what an event begins with
-abbrev begun : Tables → PlainState → Acting
+abbrev begun : Tables → PlainState → EventState
 begun tables state = begin_event state.left (of_options (tab tables).stores state.current) (of_options (tab tables).stores state.saved)
 
-module _ (tables : Tables) (state : PlainState) (is : IsStateOf tables state) (s : Acting) (counts : SameCounts (begun tables state) s) (outcome : Outcome) where
+module _ (tables : Tables) (state : PlainState) (is : IsStateOf tables state) (s : EventState) (counts : SameCounts (begun tables state) s) (outcome : Outcome) where
   acted_means : state_of tables (acted tables s outcome state) ≡ record (state_of tables state) { left = s.left; current = s.current; saved = s.saved }
   acted_means = λ j. record (state_of tables state) {
     left = s.left;
@@ -50,7 +50,7 @@ module _ (tables : Tables) (state : PlainState) (is : IsStateOf tables state) (s
 keeps_along : {X : Type 0} (stores : List StoreMeaning) (old new other : List X) → other ≡ new → KeepsOthers stores old new → KeepsOthers stores old other
 keeps_along stores old new other e k = record { others = ap (of_others stores) e ∙ k.others; count = ap length e ∙ k.count }
 
-module _ (tables : Tables) (state : PlainState) (is : IsStateOf tables state) (press : KeyPress) (s0 s : Acting) (old : List Item) (outcome : Outcome)
+module _ (tables : Tables) (state : PlainState) (is : IsStateOf tables state) (press : KeyPress) (s0 s : EventState) (old : List Item) (outcome : Outcome)
     (begins : s0 ≡ begun tables state) (acts : s ≡ after_key (tab tables) press s0) (old_is : old ≡ state.left) (outcome_is : outcome ≡ outcome_of old s) where
   counts : SameCounts (begun tables state) s
   counts = subst (λ a. SameCounts (begun tables state) a) (sym (acts ∙ ap (after_key (tab tables) press) begins)) (after_key-counts (tab tables) press (begun tables state))
@@ -86,7 +86,7 @@ module _ (tables : Tables) (state : PlainState) (is : IsStateOf tables state) (p
         saved = keeps_along _ _ _ _ (ap (λ (p : PlainState). p.saved) others ∙ ap (λ (p : PlainState). p.saved) is_acted) (acted_saved tables state is s counts outcome);
       })
 
-given-counts : (option : Option ℕ) (value : List Element) (s : Acting) → SameCounts s (given option value s)
+given-counts : (option : Option ℕ) (value : List Element) (s : EventState) → SameCounts s (given option value s)
 given-counts None value s = record { current = refl; saved = refl }
 given-counts (Some option) value s = record { current = length-set s.current option value; saved = length-set s.saved option (Some value) }
 
@@ -96,7 +96,7 @@ given_means tables state None value = refl
 given_means tables state (Some option) value = refl
 
 -- an option is given a value by its name
-pub option_given : (tables : Tables) (state : PlainState) (is : IsStateOf tables state) (name value : List ℕ) (option : Option ℕ) (s0 s : Acting) (outcome : Outcome) (after : PlainState)
+pub option_given : (tables : Tables) (state : PlainState) (is : IsStateOf tables state) (name value : List ℕ) (option : Option ℕ) (s0 s : EventState) (outcome : Outcome) (after : PlainState)
     → s0 ≡ begun tables state → option ≡ position (has_name name) (option_names (tab tables).stores) → s ≡ given option (map element.Char value) s0 → outcome ≡ no_outcome → after ≡ acted tables s outcome state
     → IsMadeBy tables state (only_state (setting_event name value (state_of tables state))) after
 option_given tables state is name value option s0 s outcome after begins found gives outcome_is is_acted =
@@ -105,7 +105,7 @@ option_given tables state is name value option s0 s outcome after begins found g
     let counts = subst (λ a. SameCounts (begun tables state) a) (sym same) (given-counts option chars (begun tables state)) in
     record {
       after = ap (state_of tables) is_acted ∙ acted_means tables state is s counts outcome
-          ∙ ap (λ (a : Acting). record (state_of tables state) { left = a.left; current = a.current; saved = a.saved }) same
+          ∙ ap (λ (a : EventState). record (state_of tables state) { left = a.left; current = a.current; saved = a.saved }) same
           ∙ given_means tables state option chars ∙ ap (λ o. set_option o chars (state_of tables state)) found;
       outcome = ap (λ (p : PlainState). p.last) is_acted ∙ outcome_is;
       current = keeps_along _ _ _ _ (ap (λ (p : PlainState). p.current) is_acted) (acted_current tables state is s counts outcome);

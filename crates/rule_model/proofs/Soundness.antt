@@ -10,16 +10,16 @@ use Rattle.kmn_base.specs.declared.events.Event.TheVariants as event
 use Rattle.kmn_base.specs.Lists.{characters, is_mark, IsSound}
 use Rattle.kmn_base.proofs.Lists.{put_is_sound, taking_keeps_soundness}
 use Rattle.kmn_base.proofs.ReadingAgain.{reading_again_is_sound}
-use Rattle.rule_model.specs.declared.acting.Acting.{Acting}
+use Rattle.rule_model.specs.declared.event_state.EventState.{EventState}
 use Rattle.rule_model.specs.Keyboard.{Ref}
-use Rattle.rule_model.specs.Enter.{is_plain_press}
+use Rattle.virtual_keys.specs.Fits.{is_plain}
 use Rattle.rule_model.specs.KeyEvent.{begin_event, after_key}
 use Rattle.rule_model.specs.Event.{State, editor_left, by_editor, after_press, has_name, set_option, happening}
 use Rattle.rule_model.specs.StepLaws.{EnteringKeepsSound, ItemKeepsSound, OutputKeepsSound, DefaultKeepsSound, GroupKeepsSound, GroupsKeepSound, PressKeepsSound, EventKeepsSound, StepsAreSound}
 use Rattle.rule_model.proofs.Kept.{IsKept, EnteringKeeps, act_one_keeps, act_keeps, by_default_keeps, do_group_keeps, entered_keeps}
 use Rattle.rule_model.proofs.Steps.{trace_keeps}
 
-abbrev Sound : Acting → Type 0
+abbrev Sound : EventState → Type 0
 Sound s = IsSound s.left
 
 sound_kept : IsKept Sound
@@ -34,7 +34,7 @@ sound_kept = record {
   enters = λ s few h. h;
 }
 
-entering_sound : (enter : Ref → Acting → Acting) → EnteringKeepsSound enter → EnteringKeeps Sound enter
+entering_sound : (enter : Ref → EventState → EventState) → EnteringKeepsSound enter → EnteringKeeps Sound enter
 entering_sound enter h group s few sound = h group s sound
 
 pub item_keeps_sound : ItemKeepsSound
@@ -60,11 +60,11 @@ press_keeps_sound kb press s h = groups_keep_sound 50 kb press kb.start s h
 
 editor_sound : (press : KeyPress) (state : State) → IsSound (by_editor press state).left
 editor_sound press state =
-    cond_both (is_plain_press press) _ _ (λ (after : State). IsSound after.left)
+    cond_both (is_plain press) _ _ (λ (after : State). IsSound after.left)
     (λ _. reading_again_is_sound state.left (editor_left press.code (characters state.left) state.right))
     (λ _. reading_again_is_sound state.left (characters state.left))
 
-press_sound : (press : KeyPress) (s : Acting) (state : State) → IsSound s.left → IsSound (after_press press s state).left
+press_sound : (press : KeyPress) (s : EventState) (state : State) → IsSound s.left → IsSound (after_press press s state).left
 press_sound press s state h =
     cond_both s.pass _ _ (λ (after : State). IsSound after.left)
     (λ _. editor_sound press (record state { left = s.left; current = s.current; saved = s.saved })) (λ _. h)

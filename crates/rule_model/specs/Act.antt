@@ -3,10 +3,11 @@ use Rattle.std.specs.Prelude.{ℕ, ◌+◌, ◌-◌, ◌^◌, min, true, nat_le,
 use Rattle.kmn_base.specs.declared.items.Item.{Item}
 use Rattle.kmn_base.specs.declared.items.Item.TheVariants as item
 use Rattle.kmn_base.specs.declared.items.Element.{Element}
+use Rattle.kmn_base.specs.declared.limits.TheConstants.{EVENT_ENTRIES, EVENT_PUTS}
 use Rattle.kmn_base.specs.Lists.{put}
-use Rattle.rule_model.specs.declared.acting.Catch.{Catch}
-use Rattle.rule_model.specs.declared.acting.Caught.{Caught}
-use Rattle.rule_model.specs.declared.acting.Acting.{Acting}
+use Rattle.rule_model.specs.declared.event_state.Catch.{Catch}
+use Rattle.rule_model.specs.declared.event_state.Caught.{Caught}
+use Rattle.rule_model.specs.declared.event_state.EventState.{EventState}
 use Rattle.rule_model.specs.Keyboard.{Ref, Output, PutChar, PutMark, PutIndex, PutContext, PutContextAt, PutStore, UseGroup, SetOption, SaveOption, ResetOption, MakeBeep, DoNothing, StopEvent, Keyboard}
 use Rattle.rule_model.specs.Content.{content, elements_at, store_number, option_number}
 use Rattle.rule_model.specs.Match.{element_at, item_of, item_caught, place_caught}
@@ -15,15 +16,15 @@ use Rattle.rule_model.specs.Match.{element_at, item_of, item_caught, place_caugh
 abbrev pub one_more : ℕ → ℕ
 one_more n = min (n + 1) (2 ^ 32 - 1)
 
--- an item is put, or ends the event where 4,096 were put
-abbrev pub put_item : Item → Acting → Acting
+-- an item is put, or ends the event where no more may be put
+abbrev pub put_item : Item → EventState → EventState
 put_item x s =
     if s.stopped then s
-    else if nat_le 4096 s.put then record s { stopped = true }
+    else if nat_le EVENT_PUTS s.put then record s { stopped = true }
     else record s { left = put s.left x; put = s.put + 1 }
 
 -- the items that are there are put, in order
-abbrev pub put_items : List Item → Acting → Acting
+abbrev pub put_items : List Item → EventState → EventState
 put_items [] s = s
 put_items (x ∷ xs) s = put_items xs (put_item x s)
 
@@ -32,7 +33,7 @@ item_list None = []
 item_list (Some x) = x ∷ []
 
 -- an element is put, unless it is a virtual key or there is none
-abbrev pub put_element : Option Element → Acting → Acting
+abbrev pub put_element : Option Element → EventState → EventState
 put_element None s = s
 put_element (Some e) s = put_items (item_list (item_of e)) s
 
@@ -41,7 +42,7 @@ abbrev pub items_caught : Caught → List Item
 items_caught caught = filter_map (λ (catch : Catch). catch.item) caught.catches
 
 -- the content of each store at this moment
-abbrev pub content_now : Keyboard → Acting → Ref → List Element
+abbrev pub content_now : Keyboard → EventState → Ref → List Element
 content_now kb s = content kb.stores s.current
 
 -- the place that an `index` takes: of the key where it stands one place after the context, else what was caught
@@ -50,11 +51,11 @@ place_for_index caught offset =
     if nat_eq offset (length caught.catches + 1) then caught.key_place else place_caught caught.catches offset
 
 -- an option's current or saved value is changed; of no option nothing is
-abbrev pub set_current : Option ℕ → List Element → Acting → Acting
+abbrev pub set_current : Option ℕ → List Element → EventState → EventState
 set_current None value s = s
 set_current (Some option) value s = record s { current = slice_set s.current option value }
 
-abbrev pub save_current : Option ℕ → Acting → Acting
+abbrev pub save_current : Option ℕ → EventState → EventState
 save_current None s = s
 save_current (Some option) s =
     record s { saved = slice_set s.saved option (Some (unwrap_or (slice_get s.current option) [])); saves = one_more s.saves }
@@ -65,24 +66,24 @@ value_to_reset None stated = stated
 value_to_reset (Some None) stated = stated
 value_to_reset (Some (Some value)) stated = value
 
-abbrev pub reset_current : Option ℕ → List Element → Acting → Acting
+abbrev pub reset_current : Option ℕ → List Element → EventState → EventState
 reset_current None stated s = s
 reset_current (Some option) stated s =
     record s { current = slice_set s.current option (value_to_reset (slice_get s.saved option) stated) }
 
--- a group is entered, or the event ends where 50 were
-abbrev pub enter_if_left : (Ref → Acting → Acting) → Ref → Acting → Acting
-enter_if_left enter group s = if nat_le 50 s.entered then record s { stopped = true } else enter group s
+-- a group is entered, or the event ends where no more may be entered
+abbrev pub enter_if_allowed : (Ref → EventState → EventState) → Ref → EventState → EventState
+enter_if_allowed enter group s = if nat_le EVENT_ENTRIES s.entered then record s { stopped = true } else enter group s
 
 -- what one item of an output does, given how a group is entered and what the rule caught
-abbrev pub act_one : Keyboard → (Ref → Acting → Acting) → Caught → Output → Acting → Acting
+abbrev pub act_one : Keyboard → (Ref → EventState → EventState) → Caught → Output → EventState → EventState
 act_one kb enter caught (PutChar c) s = put_item (item.Char c) s
 act_one kb enter caught (PutMark m) s = put_item (item.Mark m) s
 act_one kb enter caught (PutIndex store offset) s = put_element (element_at (content_now kb s store) (place_for_index caught offset)) s
 act_one kb enter caught PutContext s = put_items (items_caught caught) s
 act_one kb enter caught (PutContextAt offset) s = put_items (item_list (item_caught caught.catches offset)) s
 act_one kb enter caught (PutStore store) s = put_items (filter_map item_of (elements_at kb.stores (store_number kb.stores store))) s
-act_one kb enter caught (UseGroup group) s = enter_if_left enter group s
+act_one kb enter caught (UseGroup group) s = enter_if_allowed enter group s
 act_one kb enter caught (SetOption store value) s = set_current (option_number kb.stores store) value s
 act_one kb enter caught (SaveOption store) s = save_current (option_number kb.stores store) s
 act_one kb enter caught (ResetOption store) s = reset_current (option_number kb.stores store) (elements_at kb.stores (store_number kb.stores store)) s
@@ -91,6 +92,6 @@ act_one kb enter caught DoNothing s = s
 act_one kb enter caught StopEvent s = record s { stopped = true }
 
 -- the items of an output act in order; once the event is stopped nothing changes
-abbrev pub act : Keyboard → (Ref → Acting → Acting) → Caught → List Output → Acting → Acting
+abbrev pub act : Keyboard → (Ref → EventState → EventState) → Caught → List Output → EventState → EventState
 act kb enter caught [] s = s
 act kb enter caught (output ∷ outputs) s = act kb enter caught outputs (if s.stopped then s else act_one kb enter caught output s)

@@ -1,6 +1,6 @@
 -- Which of the rules that hold goes first.
 use Rattle.std.specs.Prelude.{Bool, ◌&&◌, ◌||◌, nat_eq, nat_lt, if◌then◌else◌, List, [], ◌∷◌, length, Option, Some, None}
-use Rattle.rule_model.specs.declared.acting.Caught.{Caught}
+use Rattle.rule_model.specs.declared.event_state.Caught.{Caught}
 use Rattle.rule_model.specs.Keyboard.{RuleMeaning, Choice, Best, First}
 
 -- a rule that was chosen, with what it caught

@@ -1,23 +1,20 @@
 -- What entering a group does, and the default of a group where no rule holds.
-use Rattle.std.specs.Prelude.{ℕ, zero, suc, ◌+◌, ◌%◌, Bool, true, ◌&&◌, nat_eq, nat_lt, if◌then◌else◌, List, [], length, map, Option, Some, None}
+use Rattle.std.specs.Prelude.{ℕ, zero, suc, ◌+◌, Bool, true, ◌&&◌, nat_eq, nat_lt, if◌then◌else◌, List, [], length, map, Option, Some, None}
 use Rattle.std.specs.List.{suffix_len}
 use Rattle.kmn_base.specs.declared.items.Item.{Item}
 use Rattle.kmn_base.specs.declared.items.Item.TheVariants as item
 use Rattle.kmn_base.specs.declared.keys.KeyPress.{KeyPress}
 use Rattle.kmn_base.specs.Lists.{characters, is_mark, without_last}
-use Rattle.virtual_keys.specs.Fits.{char_of_press}
+use Rattle.virtual_keys.specs.Fits.{is_plain, char_of_press}
+use Rattle.virtual_keys.specs.declared.codes.TheConstants.{K_BKSP}
 use Rattle.virtual_keys.specs.Dictionary.{name_chars, name_in}
-use Rattle.rule_model.specs.declared.acting.Caught.{Caught}
-use Rattle.rule_model.specs.declared.acting.Acting.{Acting}
+use Rattle.rule_model.specs.declared.event_state.Caught.{Caught}
+use Rattle.rule_model.specs.declared.event_state.EventState.{EventState}
 use Rattle.rule_model.specs.Keyboard.{Ref, Output, GroupMeaning, Keyboard}
 use Rattle.rule_model.specs.Content.{group_at}
 use Rattle.rule_model.specs.Hold.{holds}
 use Rattle.rule_model.specs.Choose.{Chosen, choose}
 use Rattle.rule_model.specs.Act.{put_item, put_items, items_caught, content_now, act}
-
--- neither control nor alt is held
-abbrev pub is_plain_press : KeyPress → Bool
-is_plain_press press = nat_eq (press.mods % 16) 0
 
 -- the items without the marks at their end
 abbrev pub without_end_marks : List Item → List Item
@@ -29,65 +26,65 @@ without_last_character items = without_end_marks (without_last 1 (without_end_ma
 
 -- K_BKSP without control and alt, behind a character
 abbrev pub deletes_back : KeyPress → List Item → Bool
-deletes_back press left = nat_eq press.code 8 && is_plain_press press && nat_lt 0 (length (characters left))
+deletes_back press left = nat_eq press.code K_BKSP && is_plain press && nat_lt 0 (length (characters left))
 
 -- a press that gives no character deletes back, or is passed on
-abbrev pub delete_or_pass : KeyPress → Acting → Acting
+abbrev pub delete_or_pass : KeyPress → EventState → EventState
 delete_or_pass press s =
     if deletes_back press s.left then record s { left = without_last_character s.left } else record s { pass = true }
 
 -- a press that is no key of the dictionary puts the character that it gives
-abbrev pub put_press : KeyPress → Option ℕ → Acting → Acting
+abbrev pub put_press : KeyPress → Option ℕ → EventState → EventState
 put_press press None s = delete_or_pass press s
 put_press press (Some c) s = put_item (item.Char c) s
 
 -- a name of the form `U_` puts its characters, any other does nothing
-abbrev pub put_named : Option (List ℕ) → Acting → Acting
+abbrev pub put_named : Option (List ℕ) → EventState → EventState
 put_named None s = s
 put_named (Some chars) s = put_items (map item.Char chars) s
 
 -- the default of a group with keys, given the name in the key dictionary that the press has
-abbrev pub default_of : KeyPress → Option (List ℕ) → Acting → Acting
+abbrev pub default_of : KeyPress → Option (List ℕ) → EventState → EventState
 default_of press None s = put_press press (char_of_press press) s
 default_of press (Some name) s = put_named (name_chars name) s
 
-unfoldable pub by_default : Keyboard → KeyPress → Acting → Acting
+unfoldable pub by_default : Keyboard → KeyPress → EventState → EventState
 by_default kb press s = default_of press (name_in kb.dictionary press.code) s
 
 -- an output that may be absent, with nothing caught
 abbrev pub nothing : Caught
 nothing = record { catches = []; key_place = None }
 
-abbrev pub act_if_any : Keyboard → (Ref → Acting → Acting) → Option (List Output) → Acting → Acting
+abbrev pub act_if_any : Keyboard → (Ref → EventState → EventState) → Option (List Output) → EventState → EventState
 act_if_any kb enter None s = s
 act_if_any kb enter (Some outputs) s = act kb enter nothing outputs s
 
 -- a chosen rule: its items are taken, its output acts, then the group's match output
-abbrev pub do_chosen : Keyboard → (Ref → Acting → Acting) → GroupMeaning → Chosen → Acting → Acting
+abbrev pub do_chosen : Keyboard → (Ref → EventState → EventState) → GroupMeaning → Chosen → EventState → EventState
 do_chosen kb enter group chosen s =
     act_if_any kb enter group.on_match
     (act kb enter chosen.1 chosen.0.output
     (record s { left = without_last (length (items_caught chosen.1)) s.left }))
 
 -- where no rule holds the nomatch output acts; where there is none, a group with keys does the default
-abbrev pub do_unmatched : Keyboard → (Ref → Acting → Acting) → KeyPress → Option (List Output) → Bool → Acting → Acting
+abbrev pub do_unmatched : Keyboard → (Ref → EventState → EventState) → KeyPress → Option (List Output) → Bool → EventState → EventState
 do_unmatched kb enter press (Some outputs) using_keys s = act kb enter nothing outputs s
 do_unmatched kb enter press None using_keys s = if using_keys then by_default kb press s else s
 
-abbrev pub do_group : Keyboard → (Ref → Acting → Acting) → KeyPress → GroupMeaning → Option Chosen → Acting → Acting
+abbrev pub do_group : Keyboard → (Ref → EventState → EventState) → KeyPress → GroupMeaning → Option Chosen → EventState → EventState
 do_group kb enter press group None s = do_unmatched kb enter press group.on_nomatch group.using_keys s
 do_group kb enter press group (Some chosen) s = do_chosen kb enter group chosen s
 
 -- the rule that goes first in a group at a moment
-abbrev pub chosen_in : Keyboard → KeyPress → GroupMeaning → Acting → Option Chosen
+abbrev pub chosen_in : Keyboard → KeyPress → GroupMeaning → EventState → Option Chosen
 chosen_in kb press group s = choose kb.choice (holds (content_now kb s) s.left press) group.rules
 
-abbrev pub in_group : Keyboard → (Ref → Acting → Acting) → KeyPress → Option GroupMeaning → Acting → Acting
+abbrev pub in_group : Keyboard → (Ref → EventState → EventState) → KeyPress → Option GroupMeaning → EventState → EventState
 in_group kb enter press None s = s
 in_group kb enter press (Some group) s = do_group kb enter press group (chosen_in kb press group s) s
 
 -- a group is entered, with so many entries inside one another that may still come
-abbrev pub enter_group : ℕ → Keyboard → KeyPress → Ref → Acting → Acting
+abbrev pub enter_group : ℕ → Keyboard → KeyPress → Ref → EventState → EventState
 enter_group zero kb press group s = record s { stopped = true }
 enter_group (suc depth) kb press group s =
     in_group kb (enter_group depth kb press) press (group_at kb.groups group) (record s { entered = s.entered + 1 })

@@ -9,11 +9,13 @@ use Rattle.kmn_base.specs.declared.events.Event.TheVariants as event
 use Rattle.kmn_base.specs.declared.events.Outcome.{Outcome}
 use Rattle.kmn_base.specs.declared.codes.Code.{Code}
 use Rattle.kmn_base.specs.declared.codes.Code.TheVariants.{E1, E2}
+use Rattle.kmn_base.specs.declared.limits.TheConstants.{TEXT_CHARS, TEXT_CHARS_AT_KEY}
 use Rattle.kmn_base.specs.Lists.{characters, without_last, read_again}
 use Rattle.kmn_base.specs.Names.{same_name}
-use Rattle.rule_model.specs.declared.acting.Acting.{Acting}
+use Rattle.virtual_keys.specs.declared.codes.TheConstants.{K_TAB, K_ENTER, K_END, K_HOME, K_LEFT, K_RIGHT, K_DEL}
+use Rattle.virtual_keys.specs.Fits.{is_plain}
+use Rattle.rule_model.specs.declared.event_state.EventState.{EventState}
 use Rattle.rule_model.specs.Keyboard.{Keyboard}
-use Rattle.rule_model.specs.Enter.{is_plain_press}
 use Rattle.rule_model.specs.KeyEvent.{begin_event, after_key, outcome_of, inserted}
 
 -- a state: the list before the caret, the text after it, and of each option store, in order, its name, its current
@@ -46,40 +48,40 @@ text_becomes left right state = record state { left = read_again state.left left
 -- the text before the caret after a key that the editor handles by itself
 abbrev pub editor_left : ℕ → List ℕ → List ℕ → List ℕ
 editor_left code left right =
-    if nat_eq code 13 then left ++ 0x0A ∷ []
-    else if nat_eq code 9 then left ++ 0x09 ∷ []
-    else if nat_eq code 37 then without_last 1 left
-    else if nat_eq code 39 then left ++ take 1 right
-    else if nat_eq code 36 then []
-    else if nat_eq code 35 then left ++ right
+    if nat_eq code K_ENTER then left ++ 0x0A ∷ []
+    else if nat_eq code K_TAB then left ++ 0x09 ∷ []
+    else if nat_eq code K_LEFT then without_last 1 left
+    else if nat_eq code K_RIGHT then left ++ take 1 right
+    else if nat_eq code K_HOME then []
+    else if nat_eq code K_END then left ++ right
     else left
 
 -- the text after the caret then
 abbrev pub editor_right : ℕ → List ℕ → List ℕ → List ℕ
 editor_right code left right =
-    if nat_eq code 37 then drop (length left - 1) left ++ right
-    else if nat_eq code 39 then drop 1 right
-    else if nat_eq code 36 then left ++ right
-    else if nat_eq code 35 then []
-    else if nat_eq code 46 then drop 1 right
+    if nat_eq code K_LEFT then drop (length left - 1) left ++ right
+    else if nat_eq code K_RIGHT then drop 1 right
+    else if nat_eq code K_HOME then left ++ right
+    else if nat_eq code K_END then []
+    else if nat_eq code K_DEL then drop 1 right
     else right
 
 -- the editor's default for a key that was passed on: only without control and alt
 abbrev pub by_editor : KeyPress → State → State
 by_editor press state =
     let left = characters state.left in
-    if is_plain_press press
+    if is_plain press
     then text_becomes (editor_left press.code left state.right) (editor_right press.code left state.right) state
     else text_becomes left state.right state
 
 -- the state that a press leaves
-abbrev pub after_press : KeyPress → Acting → State → State
+abbrev pub after_press : KeyPress → EventState → State → State
 after_press press s state =
     let acted = record state { left = s.left; current = s.current; saved = s.saved } in
     if s.pass then by_editor press acted else acted
 
 -- what a press did
-abbrev pub happening_of : KeyPress → Acting → State → Happening
+abbrev pub happening_of : KeyPress → EventState → State → Happening
 happening_of press s state =
     record { outcome = outcome_of state.left s; inserted = inserted state.left s.left; after = after_press press s state }
 
@@ -128,11 +130,11 @@ edit_event from to text state =
 abbrev pub edit_refusal : ℕ → ℕ → ℕ → ℕ → Option Code
 edit_refusal from to count whole =
     if nat_lt to from || nat_lt whole to then Some E1
-    else if nat_lt 1_000_000 (whole - (to - from) + count) then Some E2
+    else if nat_lt TEXT_CHARS (whole - (to - from) + count) then Some E2
     else None
 
 abbrev pub event_refusal : State → Event → Option Code
-event_refusal state (event.Key press) = if nat_lt 995_000 (length (whole_text state)) then Some E2 else None
+event_refusal state (event.Key press) = if nat_lt TEXT_CHARS_AT_KEY (length (whole_text state)) then Some E2 else None
 event_refusal state (event.Setting name value) = None
 event_refusal state (event.Caret place) = if nat_lt (length (whole_text state)) place then Some E1 else None
 event_refusal state (event.Edit from to text) = edit_refusal from to (length text) (length (whole_text state))

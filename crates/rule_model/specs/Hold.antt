@@ -8,8 +8,8 @@ use Rattle.kmn_base.specs.declared.keys.RuleKey.{RuleKey}
 use Rattle.kmn_base.specs.declared.keys.RuleKey.TheVariants as key
 use Rattle.kmn_base.specs.declared.keys.KeyPress.{KeyPress}
 use Rattle.virtual_keys.specs.Fits.{key_fits}
-use Rattle.rule_model.specs.declared.acting.Catch.{Catch}
-use Rattle.rule_model.specs.declared.acting.Caught.{Caught}
+use Rattle.rule_model.specs.declared.event_state.Catch.{Catch}
+use Rattle.rule_model.specs.declared.event_state.Caught.{Caught}
 use Rattle.rule_model.specs.Keyboard.{Pattern, IfEqual, IfUnequal, AtStart, KeyPattern, OneKey, KeyIn, RuleMeaning}
 use Rattle.rule_model.specs.Match.{Content, same_value, takes_item, catches_from}
 

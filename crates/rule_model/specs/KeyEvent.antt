@@ -5,19 +5,20 @@ use Rattle.kmn_base.specs.declared.items.Item.{Item}
 use Rattle.kmn_base.specs.declared.items.Element.{Element}
 use Rattle.kmn_base.specs.declared.events.Outcome.{Outcome}
 use Rattle.kmn_base.specs.declared.keys.KeyPress.{KeyPress}
+use Rattle.kmn_base.specs.declared.limits.TheConstants.{EVENT_ENTRIES}
 use Rattle.kmn_base.specs.Lists.{characters}
-use Rattle.rule_model.specs.declared.acting.Acting.{Acting}
+use Rattle.rule_model.specs.declared.event_state.EventState.{EventState}
 use Rattle.rule_model.specs.Keyboard.{Keyboard}
 use Rattle.rule_model.specs.Enter.{enter_group}
 
 -- an event begins on a list and values, with nothing done
-abbrev pub begin_event : List Item → List (List Element) → List (Option (List Element)) → Acting
+abbrev pub begin_event : List Item → List (List Element) → List (Option (List Element)) → EventState
 begin_event left current saved =
     record { left = left; current = current; saved = saved; pass = false; stopped = false; beeps = 0; entered = 0; put = 0; saves = 0 }
 
--- what a press leaves: the start group is entered on the list, and at most 50 groups in all
-unfoldable pub after_key : Keyboard → KeyPress → Acting → Acting
-after_key kb press s = enter_group 50 kb press kb.start s
+-- what a press leaves: the start group is entered on the list, and no more groups in all than an event may
+unfoldable pub after_key : Keyboard → KeyPress → EventState → EventState
+after_key kb press s = enter_group EVENT_ENTRIES kb press kb.start s
 
 -- how many characters two texts begin with alike
 abbrev pub common_prefix : List ℕ → List ℕ → ℕ
@@ -30,7 +31,7 @@ deleted old new = length (characters old) - common_prefix (characters old) (char
 abbrev pub inserted : List Item → List Item → List ℕ
 inserted old new = drop (common_prefix (characters old) (characters new)) (characters new)
 
--- the outcome of a press, from the list before and what it left
-abbrev pub outcome_of : List Item → Acting → Outcome
+-- the outcome of a press, from the list before it and the state that it leaves
+abbrev pub outcome_of : List Item → EventState → Outcome
 outcome_of old s =
     record { delete = deleted old s.left; pass = s.pass; beeps = s.beeps; entered = s.entered; put = s.put; saved = s.saves }

@@ -2,6 +2,7 @@ pub mod Act
 pub mod Choose
 pub mod Content
 pub mod Enter
+pub mod Entering
 pub mod Event
 pub mod Hold
 pub mod KeyEvent
@@ -11,7 +12,6 @@ pub mod Match
 pub mod Naming
 pub mod OwnLines
 pub mod Plain
-pub mod PlainStroke
 pub mod Src
 pub mod StepLaws
 pub mod Tab

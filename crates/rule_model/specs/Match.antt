@@ -4,7 +4,7 @@ use Rattle.kmn_base.specs.declared.items.Item.{Item}
 use Rattle.kmn_base.specs.declared.items.Item.TheVariants as item
 use Rattle.kmn_base.specs.declared.items.Element.{Element}
 use Rattle.kmn_base.specs.declared.items.Element.TheVariants as element
-use Rattle.rule_model.specs.declared.acting.Catch.{Catch}
+use Rattle.rule_model.specs.declared.event_state.Catch.{Catch}
 use Rattle.rule_model.specs.Keyboard.{Ref, Pattern, IsChar, IsMark, IsAny, IsNotAny, IsIndex, IsContextAt, IfEqual, IfUnequal, AtStart}
 
 -- the content of each store at a moment
@@ -113,7 +113,7 @@ catch_item content seen pattern rest (x ∷ text) =
     then rest (record { item = Some x; place = place_for content pattern x }) text
     else None
 
--- one item of a context against what is left of the text, and the rest behind it
+-- one item of a context against the rest of the text, and the items behind it
 abbrev pub catch_next : Content → List Catch → Pattern → (Catch → List Item → Option (List Catch)) → List Item → Option (List Catch)
 catch_next content seen pattern rest text =
     if takes_item pattern then catch_item content seen pattern rest text else rest nothing_caught text

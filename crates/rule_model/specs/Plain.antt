@@ -7,8 +7,8 @@ use Rattle.kmn_base.specs.declared.events.Event.TheVariants as event
 use Rattle.kmn_base.specs.declared.events.Outcome.{Outcome}
 use Rattle.kmn_base.specs.declared.items.Element.{Element}
 use Rattle.kmn_base.specs.Lists.{read_again}
-use Rattle.rule_model.specs.declared.acting.Acting.{Acting}
-use Rattle.rule_model.specs.declared.acting.Catch.{Catch}
+use Rattle.rule_model.specs.declared.event_state.EventState.{EventState}
+use Rattle.rule_model.specs.declared.event_state.Catch.{Catch}
 use Rattle.rule_model.specs.declared.state.PlainState.{PlainState}
 use Rattle.rule_model.specs.declared.tables.Store.{Store}
 use Rattle.rule_model.specs.declared.tables.Tables.{Tables}
@@ -105,8 +105,8 @@ spread [] values options = []
 spread (number ∷ numbers) [] options = []
 spread (number ∷ numbers) (value ∷ values) options = option_value options number value ∷ spread numbers values options
 
--- the plain state that acting left, with this outcome
-abbrev pub acted : Tables → Acting → Outcome → PlainState → PlainState
+-- the plain state that an event leaves, with this outcome
+abbrev pub acted : Tables → EventState → Outcome → PlainState → PlainState
 acted tables s outcome state =
     let numbers = option_numbers 0 (tab tables).stores in
     record {
@@ -123,7 +123,7 @@ with_text text caret state =
     record state { left = read_again state.left (take caret text); right = drop caret text; last = no_outcome }
 
 -- an option that there may be gets a value, as current and as saved one
-abbrev pub given : Option ℕ → List Element → Acting → Acting
+abbrev pub given : Option ℕ → List Element → EventState → EventState
 given None value s = s
 given (Some option) value s =
     record s { current = slice_set s.current option value; saved = slice_set s.saved option (Some value) }
@@ -135,12 +135,12 @@ option_named name (number ∷ numbers) [] = None
 option_named name (number ∷ numbers) (store ∷ stores) =
     if is_some number && has_name name store.name then number else option_named name numbers stores
 
--- the words of what is left of a text, parted by spaces; nothing is left behind the last
-abbrev pub words_left : Option (List ℕ) → List (List ℕ)
-words_left None = []
-words_left (Some text) = slice_split (nat_eq 32) text
+-- the words of a text that there may be, parted by spaces; none where nothing stands behind the last word
+abbrev pub words_behind : Option (List ℕ) → List (List ℕ)
+words_behind None = []
+words_behind (Some text) = slice_split (nat_eq 32) text
 
--- the bytes of what is left, with the space before it
-abbrev pub bytes_left : Option (List ℕ) → ℕ
-bytes_left None = 0
-bytes_left (Some text) = length text + 1
+-- the bytes of such a text, with the space before it
+abbrev pub bytes_behind : Option (List ℕ) → ℕ
+bytes_behind None = 0
+bytes_behind (Some text) = length text + 1

@@ -6,9 +6,10 @@ use Rattle.kmn_base.specs.declared.keys.KeyPress.{KeyPress}
 use Rattle.kmn_base.specs.declared.events.Event.{Event}
 use Rattle.kmn_base.specs.declared.events.Event.TheVariants as event
 use Rattle.kmn_base.specs.declared.codes.Code.{Code}
+use Rattle.kmn_base.specs.declared.limits.TheConstants.{EVENT_ENTRIES, EVENT_PUTS, TEXT_CHARS}
 use Rattle.kmn_base.specs.Lists.{characters, without_last, IsSound}
-use Rattle.rule_model.specs.declared.acting.Caught.{Caught}
-use Rattle.rule_model.specs.declared.acting.Acting.{Acting}
+use Rattle.rule_model.specs.declared.event_state.Caught.{Caught}
+use Rattle.rule_model.specs.declared.event_state.EventState.{EventState}
 use Rattle.rule_model.specs.Keyboard.{Ref, Output, RuleMeaning, GroupMeaning, Keyboard}
 use Rattle.rule_model.specs.Act.{act_one, act}
 use Rattle.rule_model.specs.Enter.{by_default, do_group, enter_group}
@@ -84,8 +85,8 @@ OneGoesBefore = (a b : RuleMeaning) → a.line ≢ b.line → IsTrue (goes_befor
 
 -- at most 50 groups were entered, and at most 4,096 items put
 pub record IsWithinBudget (entered put : ℕ) : Type 0 where
-  pub groups : entered ≤ 50
-  pub items : put ≤ 4096
+  pub groups : entered ≤ EVENT_ENTRIES
+  pub items : put ≤ EVENT_PUTS
 
 -- a press enters at most 50 groups and puts at most 4,096 items
 abbrev pub PressIsWithinBudget : Type 0
@@ -120,20 +121,20 @@ RefusalFollowsTheSteps = (kb : Keyboard) (events : List Event) (number : ℕ) (c
     → (length (trace kb events).done < length events) × (number ≡ min (length (trace kb events).done + 1) (2 ^ 32 - 1))
 
 -- a change leaves a sound left list where it found one
-abbrev pub KeepsSound : (Acting → Acting) → Type 0
-KeepsSound step = (s : Acting) → IsSound s.left → IsSound (step s).left
+abbrev pub KeepsSound : (EventState → EventState) → Type 0
+KeepsSound step = (s : EventState) → IsSound s.left → IsSound (step s).left
 
 -- entering any group keeps the left list sound
-abbrev pub EnteringKeepsSound : (Ref → Acting → Acting) → Type 0
+abbrev pub EnteringKeepsSound : (Ref → EventState → EventState) → Type 0
 EnteringKeepsSound enter = (group : Ref) → KeepsSound (enter group)
 
 -- an item of an output keeps the left list sound, where entering a group does
 abbrev pub ItemKeepsSound : Type 0
-ItemKeepsSound = (kb : Keyboard) (enter : Ref → Acting → Acting) (caught : Caught) (output : Output) → EnteringKeepsSound enter → KeepsSound (act_one kb enter caught output)
+ItemKeepsSound = (kb : Keyboard) (enter : Ref → EventState → EventState) (caught : Caught) (output : Output) → EnteringKeepsSound enter → KeepsSound (act_one kb enter caught output)
 
 -- the items of an output do, where entering a group does
 abbrev pub OutputKeepsSound : Type 0
-OutputKeepsSound = (kb : Keyboard) (enter : Ref → Acting → Acting) (caught : Caught) (outputs : List Output) → EnteringKeepsSound enter → KeepsSound (act kb enter caught outputs)
+OutputKeepsSound = (kb : Keyboard) (enter : Ref → EventState → EventState) (caught : Caught) (outputs : List Output) → EnteringKeepsSound enter → KeepsSound (act kb enter caught outputs)
 
 -- the default of a group keeps the left list sound
 abbrev pub DefaultKeepsSound : Type 0
@@ -141,7 +142,7 @@ DefaultKeepsSound = (kb : Keyboard) (press : KeyPress) → KeepsSound (by_defaul
 
 -- a group does, whichever rule was chosen, where entering a group does
 abbrev pub GroupKeepsSound : Type 0
-GroupKeepsSound = (kb : Keyboard) (enter : Ref → Acting → Acting) (press : KeyPress) (group : GroupMeaning) (chosen : Option Chosen)
+GroupKeepsSound = (kb : Keyboard) (enter : Ref → EventState → EventState) (press : KeyPress) (group : GroupMeaning) (chosen : Option Chosen)
     → EnteringKeepsSound enter → KeepsSound (do_group kb enter press group chosen)
 
 -- entering groups inside one another does, however deep they may go
@@ -191,8 +192,8 @@ PressInsertsAtMostWhatItPuts = (kb : Keyboard) (press : KeyPress) (left : List I
 -- an event that is not refused keeps the whole text within 1,000,000 characters
 abbrev pub EventKeepsTextInBounds : Type 0
 EventKeepsTextInBounds = (kb : Keyboard) (state : State) (event : Event) → event_refusal state event ≡ None
-    → length (whole_text state) ≤ 1_000_000 → length (whole_text (happening kb state event).after) ≤ 1_000_000
+    → length (whole_text state) ≤ TEXT_CHARS → length (whole_text (happening kb state event).after) ≤ TEXT_CHARS
 
 -- each step of a trace leaves at most 1,000,000 characters
 abbrev pub StepsKeepTextInBounds : Type 0
-StepsKeepTextInBounds = (kb : Keyboard) (events : List Event) → All (λ (step : Step). length (whole_text step.happened.after) ≤ 1_000_000) (trace kb events).done
+StepsKeepTextInBounds = (kb : Keyboard) (events : List Event) → All (λ (step : Step). length (whole_text step.happened.after) ≤ TEXT_CHARS) (trace kb events).done

@@ -49,6 +49,15 @@ steps_from kb number [] state = record { done = []; refused = None }
 steps_from kb number (event ∷ events) state =
     step_then number (steps_from kb (one_more number) events) (event_of kb state event)
 
--- the steps of all events; steps count from 1
-unfoldable pub trace : Keyboard → List Event → Steps
-trace kb events = steps_from kb 1 events (first_state kb)
+-- a trace: the state before the first event, and the steps from it on
+pub record Trace : Type 0 where
+  pub first : State
+  pub done : List Step
+  pub refused : Option (ℕ × Code)
+
+abbrev pub trace_of : State → Steps → Trace
+trace_of first steps = record { first = first; done = steps.done; refused = steps.refused }
+
+-- the trace of all events; steps count from 1
+unfoldable pub trace : Keyboard → List Event → Trace
+trace kb events = trace_of (first_state kb) (steps_from kb 1 events (first_state kb))

@@ -15,7 +15,7 @@ use Rattle.rule_model.specs.Keyboard.{Keyboard}
 use Rattle.rule_model.specs.Lines.{hexadecimal, joined, event_line, text_line, end_line}
 use Rattle.rule_model.specs.Match.{same_value}
 use Rattle.rule_model.specs.Event.{State, whole_text}
-use Rattle.rule_model.specs.Trace.{Step, Steps, first_state, trace}
+use Rattle.rule_model.specs.Trace.{Step, Trace, trace}
 
 -- an element as it is printed: a character, `d` and the number of a mark, `k` and the code of a key
 abbrev pub element_text : Element → List ℕ
@@ -79,9 +79,9 @@ events_of (Act line event ∷ entries) = event ∷ events_of entries
 events_of (Expect line text ∷ entries) = events_of entries
 
 -- the transcript of a trace along a script
-abbrev pub transcript_of : State → Steps → List Entry → List ℕ
-transcript_of first steps entries = lines_from 0 0 first entries steps.done steps.refused
+abbrev pub transcript_of : Trace → List Entry → List ℕ
+transcript_of traced entries = lines_from 0 0 traced.first entries traced.done traced.refused
 
 -- what a keyboard prints for a script
 unfoldable pub transcript : Keyboard → List Entry → List ℕ
-transcript kb entries = transcript_of (first_state kb) (trace kb (events_of entries)) entries
+transcript kb entries = transcript_of (trace kb (events_of entries)) entries

@@ -1,4 +1,4 @@
-ghost use Rattle.std.specs.Prelude.{◌≡◌, ◌++◌, IfOk, OnOk, map, All, false};
+ghost use Rattle.std.specs.Prelude.{◌≡◌, ◌++◌, IfOk, MatchResult, map, All, false};
 ghost use Rattle.kmn_base.specs.Lists.{characters, is_mark, without_last, window, put, read_again};
 ghost use Rattle.rule_model.specs.Enter.{without_last_character};
 
@@ -74,13 +74,13 @@ impl LeftList {
     /// Puts an item, and forgets the marks that are then before the window.
     #[tactic(auto, using(kmn_base::proofs::Lists::put_is_sound, crate::proofs::LeftLists::sound_before))]
     pub fn put(&mut self, alloc: Global, item: Item) -> Result<(), Memory>
-        ensures { OnOk result (self.new ≡ put self.old item) }
+        ensures { MatchResult result (λ _. self.new ≡ put self.old item) (λ _. self.new ≡ self.old) }
     {
-        self.items.push(item)?;
         if self.tidy {
+            self.items.push(item)?;
             forget_last_before(&mut self.items);
         } else {
-            self.items = without_old_marks(alloc, self.items.as_slice())?;
+            self.items = with_item(alloc, self.as_slice(), item)?;
             self.tidy = true;
         }
         Ok(())
@@ -103,6 +103,15 @@ impl LeftList {
         self.take(1);
         self.take(texts::end_marks(self.as_slice()));
     }
+}
+
+/// The items with one more, without the marks that are then before the window.
+fn with_item(alloc: Global, items: &[Item], item: Item) -> Result<Vec<Item>, Memory>
+    ensures { IfOk result (λ after. after.items ≡ put items.now item) }
+{
+    let mut more = Vec::from_slice(alloc, items)?;
+    more.push(item)?;
+    without_old_marks(alloc, more.as_slice())
 }
 
 /// The same items without the marks before the window.

@@ -1,11 +1,14 @@
 //! What a keyboard is, as a source states it and as a compiled file has it.
 //!
-//! It stands on `kmn_base` and `virtual_keys`. `program` has the statements of a source, `tables` those of a file, and
-//! `state` what a keyboard acts on. The meaning stands in `specs/` (`docs/MEANING.md` tells it in words), `step_laws` has
-//! its laws. `after_key` computes over tables what a key press does, and `plain_event` whole events.
+//! It stands on `kmn_base` and `virtual_keys`. `Program` has the statements of a source, `Tables` the records of a file,
+//! `Entry` a line of a script, and `EventState` what a key event acts on. Their meaning stands in `specs/`
+//! (`docs/MEANING.md` tells it in words): `src` and `tab` give the keyboard of a program and of tables, `trace` the steps
+//! that it takes, `transcript` what is printed of them, and `step_laws` has the laws of every step. `after_key` computes
+//! over tables what a key press does, and `plain_event` what any event does. The layers above use the definitions, and the
+//! engine uses `after_key` and `LeftList`.
 #![tactic(auto)]
 
-mod acting;
+mod event_state;
 mod left;
 mod plain;
 mod program;
@@ -14,9 +17,9 @@ mod state;
 pub mod step_laws;
 mod tables;
 
-pub use acting::{Acting, Catch, Caught};
+pub use event_state::{Catch, Caught, EventState};
 pub use left::LeftList;
-pub use plain::{Player, after_key, common_prefix, plain_event};
+pub use plain::{IndexedTables, after_key, common_prefix, plain_event};
 pub use program::{BeginDef, GroupDef, KeyName, Program, RuleDef, RuleKind, SrcItem, StoreDef};
 pub use script::Entry;
 pub use state::PlainState;

@@ -3,25 +3,16 @@ ghost use Rattle.kmn_base.specs.Lists.{characters};
 ghost use Rattle.virtual_keys.specs.Dictionary.{name_chars};
 ghost use Rattle.virtual_keys.specs.Fits.{char_of_press};
 ghost use Rattle.rule_model.specs.Act.{put_items};
-ghost use Rattle.rule_model.specs.Enter.{is_plain_press, delete_or_pass, put_press, put_named, by_default};
+ghost use Rattle.rule_model.specs.Enter.{delete_or_pass, put_press, put_named, by_default};
 ghost use Rattle.rule_model.specs.Tab.{tab};
 
-use crate::Acting;
-use crate::plain::acting::put_item;
-use crate::plain::player::Player;
+use crate::EventState;
+use crate::plain::indexed_tables::IndexedTables;
+use crate::plain::outputs::put_item;
 use kmn_base::{Item, KeyPress, Memory};
 use std::alloc::Global;
-use virtual_keys::{char_of, named_chars};
-
-/// The code of K_BKSP.
-const BACKSPACE: u16 = 8;
-
-/// Whether neither control nor alt is held.
-pub fn is_plain_press(press: KeyPress) -> bool
-    ensures { result ≡ is_plain_press press }
-{
-    press.mods % 16 == 0
-}
+use virtual_keys::codes::K_BKSP;
+use virtual_keys::{char_of, is_plain, named_chars};
 
 /// Whether a list has a character.
 fn has_character(items: &[Item]) -> bool
@@ -36,56 +27,60 @@ fn has_character(items: &[Item]) -> bool
 }
 
 /// A press that gives no character deletes back, or is passed on.
-fn delete_or_pass(press: KeyPress, acting: &mut Acting)
-    ensures { acting.new ≡ delete_or_pass press acting.old }
+fn delete_or_pass(press: KeyPress, state: &mut EventState)
+    ensures { state.new ≡ delete_or_pass press state.old }
 {
-    if press.code == BACKSPACE && is_plain_press(press) && has_character(acting.left.as_slice()) {
-        acting.left.take_character();
+    if press.code == K_BKSP && is_plain(press) && has_character(state.left.as_slice()) {
+        state.left.take_character();
     } else {
-        acting.pass = true;
+        state.pass = true;
     }
 }
 
 /// A press that is no key of the dictionary puts the character that it gives.
-fn put_press(alloc: Global, press: KeyPress, acting: &mut Acting) -> Result<(), Memory>
-    ensures { OnOk result (acting.new ≡ put_press press (char_of_press press) acting.old) }
+fn put_press(alloc: Global, press: KeyPress, state: &mut EventState) -> Result<(), Memory>
+    ensures { OnOk result (state.new ≡ put_press press (char_of_press press) state.old) }
 {
     match char_of(press) {
-        Some(c) => put_item(alloc, Item::Char(c), acting),
+        Some(c) => put_item(alloc, Item::Char(c), state),
         None => {
-            delete_or_pass(press, acting);
+            delete_or_pass(press, state);
             Ok(())
         }
     }
 }
 
 /// Puts characters.
-fn put_chars(alloc: Global, chars: &[char], acting: &mut Acting) -> Result<(), Memory>
-    ensures { OnOk result (acting.new ≡ put_items (map Item.Char chars.now) acting.old) }
+fn put_chars(alloc: Global, chars: &[char], state: &mut EventState) -> Result<(), Memory>
+    ensures { OnOk result (state.new ≡ put_items (map Item.Char chars.now) state.old) }
 {
     for c in chars {
-        put_item(alloc, Item::Char(*c), acting)?;
+        put_item(alloc, Item::Char(*c), state)?;
     }
     Ok(())
 }
 
 /// A name that stands for characters puts them, any other does nothing.
-fn put_named(alloc: Global, name: &[u8], acting: &mut Acting) -> Result<(), Memory>
-    ensures { OnOk result (acting.new ≡ put_named (name_chars name.now) acting.old) }
+fn put_named(alloc: Global, name: &[u8], state: &mut EventState) -> Result<(), Memory>
+    ensures { OnOk result (state.new ≡ put_named (name_chars name.now) state.old) }
 {
     match named_chars(name) {
-        Some(chars) => put_chars(alloc, chars.as_slice(), acting),
+        Some(chars) => put_chars(alloc, chars.as_slice(), state),
         None => Ok(()),
     }
 }
 
 /// The default of a group with keys.
 #[tactic(auto, unfolding(crate::specs::Enter::by_default))]
-pub fn by_default(player: &Player, press: KeyPress, acting: &mut Acting) -> Result<(), Memory>
-    ensures { OnOk result (acting.new ≡ by_default (tab player.now) press acting.old) }
+pub fn by_default(
+    indexed: &IndexedTables,
+    press: KeyPress,
+    state: &mut EventState,
+) -> Result<(), Memory>
+    ensures { OnOk result (state.new ≡ by_default (tab indexed.now) press state.old) }
 {
-    match player.own_key(press.code) {
-        Some(name) => put_named(player.alloc(), name, acting),
-        None => put_press(player.alloc(), press, acting),
+    match indexed.own_key(press.code) {
+        Some(name) => put_named(indexed.alloc(), name, state),
+        None => put_press(indexed.alloc(), press, state),
     }
 }

@@ -1,23 +1,10 @@
-ghost use Rattle.std.specs.Prelude.{◌≡◌, ◌++◌, IfOk, take, drop};
+ghost use Rattle.std.specs.Prelude.{◌≡◌, ◌++◌, IfOk};
 ghost use Rattle.rule_model.specs.Event.{editor_left, editor_right};
 
 use kmn_base::Memory;
+use kmn_base::slices::{before, behind};
 use std::alloc::Global;
-
-// The keys that an editor handles by itself.
-const TAB: u16 = 9;
-
-const ENTER: u16 = 13;
-
-const END: u16 = 35;
-
-const HOME: u16 = 36;
-
-const LEFT: u16 = 37;
-
-const RIGHT: u16 = 39;
-
-const DELETE: u16 = 46;
+use virtual_keys::codes::{K_DEL, K_END, K_ENTER, K_HOME, K_LEFT, K_RIGHT, K_TAB};
 
 /// Two texts, one after the other.
 pub fn joined(alloc: Global, text: &[char], more: &[char]) -> Result<Vec<char>, Memory>
@@ -26,20 +13,6 @@ pub fn joined(alloc: Global, text: &[char], more: &[char]) -> Result<Vec<char>, 
     let mut joined = Vec::from_slice(alloc, text)?;
     joined.extend_from_slice(more)?;
     Ok(joined)
-}
-
-/// The first character of a text, if any.
-fn first(text: &[char]) -> &[char]
-    ensures { result.now ≡ take 1 text.now }
-{
-    &text[..text.len().min(1)]
-}
-
-/// The text without its first character.
-fn without_first(text: &[char]) -> &[char]
-    ensures { result.now ≡ drop 1 text.now }
-{
-    &text[text.len().min(1)..]
 }
 
 /// The text before the caret after a key that the editor handles by itself.
@@ -52,12 +25,12 @@ pub fn editor_left(
     ensures { IfOk result (λ text. text.items ≡ editor_left code left.now right.now) }
 {
     match code {
-        ENTER => joined(alloc, left, &['\n']),
-        TAB => joined(alloc, left, &['\t']),
-        LEFT => joined(alloc, &left[..left.len().saturating_sub(1)], &[]),
-        RIGHT => joined(alloc, left, first(right)),
-        HOME => Ok(Vec::new(alloc)),
-        END => joined(alloc, left, right),
+        K_ENTER => joined(alloc, left, &['\n']),
+        K_TAB => joined(alloc, left, &['\t']),
+        K_LEFT => joined(alloc, &left[..left.len().saturating_sub(1)], &[]),
+        K_RIGHT => joined(alloc, left, before(right, 1)),
+        K_HOME => Ok(Vec::new(alloc)),
+        K_END => joined(alloc, left, right),
         _ => joined(alloc, left, &[]),
     }
 }
@@ -72,10 +45,10 @@ pub fn editor_right(
     ensures { IfOk result (λ text. text.items ≡ editor_right code left.now right.now) }
 {
     match code {
-        LEFT => joined(alloc, &left[left.len().saturating_sub(1)..], right),
-        RIGHT | DELETE => joined(alloc, without_first(right), &[]),
-        HOME => joined(alloc, left, right),
-        END => Ok(Vec::new(alloc)),
+        K_LEFT => joined(alloc, &left[left.len().saturating_sub(1)..], right),
+        K_RIGHT | K_DEL => joined(alloc, behind(right, 1), &[]),
+        K_HOME => joined(alloc, left, right),
+        K_END => Ok(Vec::new(alloc)),
         _ => joined(alloc, right, &[]),
     }
 }

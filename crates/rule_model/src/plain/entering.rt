@@ -1,63 +1,64 @@
-ghost use Rattle.std.specs.Prelude.{◌≡◌, ◌<◌, [], OnOk, map, length, true, option_map, option_copied, if◌then◌else◌};
+ghost use Rattle.std.specs.Prelude.{◌≡◌, ◌<◌, [], IfOk, OnOk, map, length, true, option_map, option_copied, if◌then◌else◌};
 ghost use Rattle.kmn_base.specs.Lists.{without_last};
 ghost use Rattle.rule_model.specs.Keyboard.{Numbered};
-ghost use Rattle.rule_model.specs.Act.{act_one, act, enter_if_left, items_caught};
+ghost use Rattle.rule_model.specs.Act.{act_one, act, enter_if_allowed, items_caught};
 ghost use Rattle.rule_model.specs.Enter.{nothing, do_chosen, do_unmatched, do_group, chosen_in, in_group};
 ghost use Rattle.rule_model.specs.KeyEvent.{after_key};
 ghost use Rattle.rule_model.specs.Tab.{tab, tab_output, tab_rule, tab_group};
-ghost use Rattle.rule_model.specs.PlainStroke.{keyboard_of, stores_of, entering};
+ghost use Rattle.rule_model.specs.Entering.{keyboard_of, stores_of, enters};
 
-use crate::plain::acting::{
-    put_any, put_context, put_index, put_item, reset_current, save_current, set_current,
-};
 use crate::plain::defaults::by_default;
 use crate::plain::elements::item_caught;
+use crate::plain::indexed_tables::IndexedTables;
 use crate::plain::matching::chosen_in;
-use crate::plain::player::Player;
-use crate::{Acting, Caught, Group, Out, Rule};
+use crate::plain::outputs::{
+    put_any, put_context, put_index, put_item, reset_current, save_current, set_current,
+};
+use crate::{Caught, EventState, Group, Out, Rule};
 use kmn_base::limits::EVENT_ENTRIES;
 use kmn_base::{Item, KeyPress, Memory, Seq};
 use std::alloc::Global;
 
-/// A key press, with so many group entries inside one another that may still come.
+/// A press that enters groups, with so many entries inside one another that may still come.
 #[derive(Clone, Copy)]
-pub struct Stroke<'a> {
-    pub player: &'a Player<'a>,
+pub struct Entering<'a> {
+    pub indexed: &'a IndexedTables<'a>,
     pub press: KeyPress,
     pub depth: u32,
 }
 
 /// What one item of an output does.
 #[cycle(acts)]
-fn act_one(stroke: &Stroke, caught: &Caught, output: Out, acting: &mut Acting) -> Result<(), Memory>
-    ensures { OnOk result (acting.new ≡ act_one
-        (keyboard_of stroke.now) (entering stroke.now) caught.now (tab_output (stores_of stroke.now) output) acting.old) }
+fn act_one(
+    entering: &Entering,
+    caught: &Caught,
+    output: Out,
+    state: &mut EventState,
+) -> Result<(), Memory>
+    ensures { OnOk result (state.new ≡ act_one
+        (keyboard_of entering.now) (enters entering.now) caught.now (tab_output (stores_of entering.now) output) state.old) }
 {
-    let player = stroke.player;
-    let alloc = player.alloc();
+    let indexed = entering.indexed;
+    let alloc = indexed.alloc();
     match output {
-        Out::Char(c) => put_item(alloc, Item::Char(c), acting),
-        Out::Mark(m) => put_item(alloc, Item::Mark(m), acting),
-        Out::Index(store, offset) => put_index(player, caught, store, offset, acting),
-        Out::Context => put_context(alloc, caught, acting),
+        Out::Char(c) => put_item(alloc, Item::Char(c), state),
+        Out::Mark(m) => put_item(alloc, Item::Mark(m), state),
+        Out::Index(store, offset) => put_index(indexed, caught, store, offset, state),
+        Out::Context => put_context(alloc, caught, state),
         Out::ContextAt(offset) => {
-            put_any(
-                alloc,
-                item_caught(caught.catches.as_slice(), offset),
-                acting,
-            )
+            put_any(alloc, item_caught(caught.catches.as_slice(), offset), state)
         }
-        Out::Enter(group) => enter_if_left(stroke, group, acting),
-        Out::Set(store, value) => set_current(player, store, value, acting),
-        Out::Save(store) => save_current(player, store, acting),
-        Out::Reset(store) => reset_current(player, store, acting),
+        Out::Enter(group) => enter_if_allowed(entering, group, state),
+        Out::Set(store, value) => set_current(indexed, store, value, state),
+        Out::Save(store) => save_current(indexed, store, state),
+        Out::Reset(store) => reset_current(indexed, store, state),
         Out::Beep => {
-            acting.beeps = acting.beeps.saturating_add(1);
+            state.beeps = state.beeps.saturating_add(1);
             Ok(())
         }
         Out::Nul => Ok(()),
         Out::Stop => {
-            acting.stopped = true;
+            state.stopped = true;
             Ok(())
         }
     }
@@ -66,42 +67,47 @@ fn act_one(stroke: &Stroke, caught: &Caught, output: Out, acting: &mut Acting) -
 /// What the next item of an output does, unless the event is stopped.
 #[cycle(acts)]
 fn act_next(
-    stroke: &Stroke,
+    entering: &Entering,
     caught: &Caught,
     output: Out,
-    acting: &mut Acting,
+    state: &mut EventState,
 ) -> Result<(), Memory>
-    ensures { OnOk result (acting.new ≡ (if acting.old.stopped then acting.old else act_one
-        (keyboard_of stroke.now) (entering stroke.now) caught.now (tab_output (stores_of stroke.now) output) acting.old)) }
+    ensures { OnOk result (state.new ≡ (if state.old.stopped then state.old else act_one
+        (keyboard_of entering.now) (enters entering.now) caught.now (tab_output (stores_of entering.now) output) state.old)) }
 {
-    if acting.stopped {
+    if state.stopped {
         return Ok(());
     }
-    act_one(stroke, caught, output, acting)
+    act_one(entering, caught, output, state)
 }
 
 /// The items of an output act in order; once the event is stopped nothing changes.
 #[cycle(acts)]
-fn act(stroke: &Stroke, caught: &Caught, outputs: &[Out], acting: &mut Acting) -> Result<(), Memory>
-    ensures { OnOk result (acting.new ≡ act
-        (keyboard_of stroke.now) (entering stroke.now) caught.now (map (tab_output (stores_of stroke.now)) outputs.now) acting.old) }
+fn act(
+    entering: &Entering,
+    caught: &Caught,
+    outputs: &[Out],
+    state: &mut EventState,
+) -> Result<(), Memory>
+    ensures { OnOk result (state.new ≡ act
+        (keyboard_of entering.now) (enters entering.now) caught.now (map (tab_output (stores_of entering.now)) outputs.now) state.old) }
 {
     for output in outputs {
-        act_next(stroke, caught, *output, acting)?;
+        act_next(entering, caught, *output, state)?;
     }
     Ok(())
 }
 
 /// Enters a group, or ends the event where no more may be entered.
 #[cycle(acts)]
-fn enter_if_left(stroke: &Stroke, group: u32, acting: &mut Acting) -> Result<(), Memory>
-    ensures { OnOk result (acting.new ≡ enter_if_left (entering stroke.now) (Numbered group) acting.old) }
+fn enter_if_allowed(entering: &Entering, group: u32, state: &mut EventState) -> Result<(), Memory>
+    ensures { OnOk result (state.new ≡ enter_if_allowed (enters entering.now) (Numbered group) state.old) }
 {
-    if acting.entered >= EVENT_ENTRIES {
-        acting.stopped = true;
+    if state.entered >= EVENT_ENTRIES {
+        state.stopped = true;
         return Ok(());
     }
-    enter(stroke, group, acting)
+    enter(entering, group, state)
 }
 
 /// What an output catches that stands for no record.
@@ -116,70 +122,74 @@ fn nothing(alloc: Global) -> Caught
 
 /// Takes what a record has matched.
 #[tactic(auto, using(crate::proofs::PlainLists::length_filter_map))]
-fn take(caught: &Caught, acting: &mut Acting)
-    ensures { acting.new ≡ record acting.old {
-      left = without_last (length (items_caught caught.now)) acting.old.left;
+fn take(caught: &Caught, state: &mut EventState)
+    ensures { state.new ≡ record state.old {
+      left = without_last (length (items_caught caught.now)) state.old.left;
     } }
 {
     let catches = caught.catches.as_slice();
     let count = catches.iter().filter(|catch| catch.item.is_some()).count();
-    acting.left.take(count);
+    state.left.take(count);
 }
 
 /// A chosen record: its items are taken, its output acts, then the group's match output.
 #[cycle(acts)]
 fn do_chosen(
-    stroke: &Stroke,
+    entering: &Entering,
     group: &Group,
     rule: &Rule,
     caught: &Caught,
-    acting: &mut Acting,
+    state: &mut EventState,
 ) -> Result<(), Memory>
-    ensures { OnOk result (acting.new ≡ do_chosen (keyboard_of stroke.now) (entering stroke.now)
-        (tab_group (stores_of stroke.now) group.now) (tab_rule (stores_of stroke.now) group.now.using_keys rule.now, caught.now) acting.old) }
+    ensures { OnOk result (state.new ≡ do_chosen (keyboard_of entering.now) (enters entering.now)
+        (tab_group (stores_of entering.now) group.now) (tab_rule (stores_of entering.now) group.now.using_keys rule.now, caught.now) state.old) }
 {
-    let alloc = stroke.player.alloc();
-    take(caught, acting);
-    act(stroke, caught, rule.output.as_slice(), acting)?;
-    act(stroke, &nothing(alloc), group.on_match.as_slice(), acting)
+    let alloc = entering.indexed.alloc();
+    take(caught, state);
+    act(entering, caught, rule.output.as_slice(), state)?;
+    act(entering, &nothing(alloc), group.on_match.as_slice(), state)
 }
 
 /// Where no record holds: the nomatch output, else the default of a group with keys.
 #[cycle(acts)]
-fn do_unmatched(stroke: &Stroke, group: &Group, acting: &mut Acting) -> Result<(), Memory>
-    ensures { OnOk result (acting.new ≡ do_unmatched (keyboard_of stroke.now) (entering stroke.now) stroke.now.press
-        (tab_group (stores_of stroke.now) group.now).on_nomatch group.now.using_keys acting.old) }
+fn do_unmatched(entering: &Entering, group: &Group, state: &mut EventState) -> Result<(), Memory>
+    ensures { OnOk result (state.new ≡ do_unmatched (keyboard_of entering.now) (enters entering.now) entering.now.press
+        (tab_group (stores_of entering.now) group.now).on_nomatch group.now.using_keys state.old) }
 {
     if !group.on_nomatch.is_empty() {
-        let nothing = nothing(stroke.player.alloc());
-        return act(stroke, &nothing, group.on_nomatch.as_slice(), acting);
+        let nothing = nothing(entering.indexed.alloc());
+        return act(entering, &nothing, group.on_nomatch.as_slice(), state);
     }
     if group.using_keys {
-        by_default(stroke.player, stroke.press, acting)?;
+        by_default(entering.indexed, entering.press, state)?;
     }
     Ok(())
 }
 
 /// What a group does.
 #[cycle(acts)]
-fn do_group(stroke: &Stroke, group: &Group, acting: &mut Acting) -> Result<(), Memory>
-    ensures { OnOk result (acting.new ≡ do_group (keyboard_of stroke.now) (entering stroke.now) stroke.now.press (tab_group (stores_of stroke.now) group.now)
-        (chosen_in (keyboard_of stroke.now) stroke.now.press (tab_group (stores_of stroke.now) group.now) acting.old) acting.old) }
+fn do_group(entering: &Entering, group: &Group, state: &mut EventState) -> Result<(), Memory>
+    ensures { OnOk result (state.new ≡ do_group (keyboard_of entering.now) (enters entering.now) entering.now.press (tab_group (stores_of entering.now) group.now)
+        (chosen_in (keyboard_of entering.now) entering.now.press (tab_group (stores_of entering.now) group.now) state.old) state.old) }
 {
-    match chosen_in(stroke.player, stroke.press, acting, group)? {
-        Some((rule, caught)) => do_chosen(stroke, group, rule, &caught, acting),
-        None => do_unmatched(stroke, group, acting),
+    match chosen_in(entering.indexed, entering.press, state, group)? {
+        Some((rule, caught)) => do_chosen(entering, group, rule, &caught, state),
+        None => do_unmatched(entering, group, state),
     }
 }
 
 /// What a group does that there may be.
 #[cycle(acts)]
-fn in_group(stroke: &Stroke, group: Option<&Group>, acting: &mut Acting) -> Result<(), Memory>
-    ensures { OnOk result (acting.new ≡ in_group (keyboard_of stroke.now) (entering stroke.now) stroke.now.press
-        (option_map (tab_group (stores_of stroke.now)) (option_copied group.entry)) acting.old) }
+fn in_group(
+    entering: &Entering,
+    group: Option<&Group>,
+    state: &mut EventState,
+) -> Result<(), Memory>
+    ensures { OnOk result (state.new ≡ in_group (keyboard_of entering.now) (enters entering.now) entering.now.press
+        (option_map (tab_group (stores_of entering.now)) (option_copied group.entry)) state.old) }
 {
     match group {
-        Some(group) => do_group(stroke, group, acting),
+        Some(group) => do_group(entering, group, state),
         None => Ok(()),
     }
 }
@@ -187,33 +197,38 @@ fn in_group(stroke: &Stroke, group: Option<&Group>, acting: &mut Acting) -> Resu
 /// Enters a group.
 #[cycle(acts)]
 #[tactic(auto, using(crate::proofs::PlainKeyboard::enter_more))]
-fn enter(stroke: &Stroke, group: u32, acting: &mut Acting) -> Result<(), Memory>
-    requires { acting.old.entered < 50 }
-    ensures { OnOk result (acting.new ≡ entering stroke.now (Numbered group) acting.old) }
+fn enter(entering: &Entering, group: u32, state: &mut EventState) -> Result<(), Memory>
+    requires { state.old.entered < 50 }
+    ensures { OnOk result (state.new ≡ enters entering.now (Numbered group) state.old) }
 {
-    if stroke.depth == 0 {
-        acting.stopped = true;
+    if entering.depth == 0 {
+        state.stopped = true;
         return Ok(());
     }
-    acting.entered += 1;
-    let inside = Stroke {
-        depth: stroke.depth - 1,
-        ..*stroke
+    state.entered += 1;
+    let inside = Entering {
+        depth: entering.depth - 1,
+        ..*entering
     };
-    in_group(&inside, stroke.player.group(group), acting)?;
+    in_group(&inside, entering.indexed.group(group), state)?;
     Ok(())
 }
 
-/// What a press leaves.
+/// What a press leaves of an event's state. The state is taken, so nothing half done stays behind where memory is wanting.
 #[tactic(auto, unfolding(crate::specs::KeyEvent::after_key, crate::specs::Tab::tab))]
-pub fn after_key(player: &Player, press: KeyPress, acting: &mut Acting) -> Result<(), Memory>
-    requires { acting.old.entered ≡ 0 }
-    ensures { OnOk result (acting.new ≡ after_key (tab player.now) press acting.old) }
+pub fn after_key(
+    indexed: &IndexedTables,
+    press: KeyPress,
+    mut state: EventState,
+) -> Result<EventState, Memory>
+    requires { state.entered ≡ 0 }
+    ensures { IfOk result (λ after. after ≡ after_key (tab indexed.now) press state) }
 {
-    let stroke = Stroke {
-        player,
+    let entering = Entering {
+        indexed,
         press,
         depth: EVENT_ENTRIES,
     };
-    enter(&stroke, player.start(), acting)
+    enter(&entering, indexed.start(), &mut state)?;
+    Ok(state)
 }

@@ -5,54 +5,62 @@ ghost use Rattle.rule_model.specs.Event.{whole_text, no_outcome, by_editor, key_
 ghost use Rattle.rule_model.specs.Tab.{tab};
 ghost use Rattle.rule_model.specs.Plain.{of_options, acted, given, with_text, state_of, IsMadeBy, IsPlainStep, IsStateOf, IsWithin};
 
-use crate::plain::defaults::is_plain_press;
 use crate::plain::editor::{editor_left, editor_right, joined};
 use crate::plain::entering::after_key;
-use crate::plain::player::Player;
+use crate::plain::indexed_tables::IndexedTables;
 use crate::plain::texts::{characters, common_prefix, read_again};
 use crate::plain::values::{copies, picked, set_value, spread};
-use crate::{Acting, LeftList, PlainState, Tables};
+use crate::{EventState, LeftList, PlainState, Tables};
 use kmn_base::{Element, Event, Item, KeyPress, Memory, Outcome, Seq};
 use std::alloc::Global;
+use virtual_keys::is_plain;
 
 /// An event begins on a state, with nothing done.
 #[tactic(auto, using(crate::proofs::PlainOptions::picked_options))]
-fn begin_event(player: &Player, state: &PlainState) -> Result<Acting, Memory>
-    ensures { IfOk result (λ acting. acting ≡ begin_event state.now.left
-        (of_options (tab player.now).stores state.now.current) (of_options (tab player.now).stores state.now.saved)) }
+fn begin_event(indexed: &IndexedTables, state: &PlainState) -> Result<EventState, Memory>
+    ensures { IfOk result (λ event_state. event_state ≡ begin_event state.now.left
+        (of_options (tab indexed.now).stores state.now.current) (of_options (tab indexed.now).stores state.now.saved)) }
 {
-    let left = LeftList::from_slice(player.alloc(), state.left.as_slice())?;
-    let current = picked(player, state.current.as_slice())?;
-    let saved = picked(player, state.saved.as_slice())?;
-    Ok(Acting::begin(left, current, saved))
+    let left = LeftList::from_slice(indexed.alloc(), state.left.as_slice())?;
+    let current = picked(indexed, state.current.as_slice())?;
+    let saved = picked(indexed, state.saved.as_slice())?;
+    Ok(EventState::begin(left, current, saved))
 }
 
-/// The outcome of a press, from the list before and what it left.
+/// The outcome of a press, from the list before it and the state that it leaves.
 #[tactic(auto, using(crate::proofs::PlainLists::length_characters, crate::proofs::PlainLists::common_prefix_bound))]
-fn outcome_of(alloc: Global, old: &[Item], acting: &Acting) -> Result<Outcome, Memory>
+fn outcome_of(alloc: Global, old: &[Item], event_state: &EventState) -> Result<Outcome, Memory>
     requires { length old.now < 2 ^ 32 }
-    ensures { IfOk result (λ outcome. outcome ≡ outcome_of old.now acting.now) }
+    ensures { IfOk result (λ outcome. outcome ≡ outcome_of old.now event_state.now) }
 {
     let before = characters(alloc, old)?;
-    let after = characters(alloc, acting.left.as_slice())?;
+    let after = characters(alloc, event_state.left.as_slice())?;
     let deleted = before.len() - common_prefix(before.as_slice(), after.as_slice());
-    Ok(acting.outcome(deleted as u32))
+    Ok(event_state.outcome(deleted as u32))
 }
 
-/// The state that acting left, with this outcome.
+/// The plain state that an event leaves, with this outcome.
 fn acted(
-    player: &Player,
-    acting: &Acting,
+    indexed: &IndexedTables,
+    event_state: &EventState,
     last: Outcome,
     state: &PlainState,
 ) -> Result<PlainState, Memory>
-    ensures { IfOk result (λ after. after ≡ acted player.now acting.now last state.now) }
+    ensures { IfOk result (λ after. after ≡ acted indexed.now event_state.now last state.now) }
 {
     Ok(PlainState {
-        left: Seq::from_slice(player.alloc(), acting.left.as_slice())?,
-        right: state.right.copy(player.alloc())?,
-        current: spread(player, state.current.as_slice(), acting.current.as_slice())?,
-        saved: spread(player, state.saved.as_slice(), acting.saved.as_slice())?,
+        left: Seq::from_slice(indexed.alloc(), event_state.left.as_slice())?,
+        right: state.right.copy(indexed.alloc())?,
+        current: spread(
+            indexed,
+            state.current.as_slice(),
+            event_state.current.as_slice(),
+        )?,
+        saved: spread(
+            indexed,
+            state.saved.as_slice(),
+            event_state.saved.as_slice(),
+        )?,
         last,
     })
 }
@@ -86,7 +94,7 @@ fn by_editor(alloc: Global, press: KeyPress, state: &PlainState) -> Result<Plain
     let text = characters(alloc, state.left.as_slice())?;
     let left = text.as_slice();
     let right = state.right.as_slice();
-    if !is_plain_press(press) {
+    if !is_plain(press) {
         return text_becomes(alloc, left, right, state);
     }
     let before = editor_left(alloc, press.code, left, right)?;
@@ -95,18 +103,22 @@ fn by_editor(alloc: Global, press: KeyPress, state: &PlainState) -> Result<Plain
 }
 
 /// A key press.
-fn key_event(player: &Player, press: KeyPress, state: &PlainState) -> Result<PlainState, Memory>
-    requires { IsStateOf player.now state.now }
-    ensures { IfOk result (IsMadeBy player.now state.now (key_event (tab player.now) press (state_of player.now state.now))) }
+fn key_event(
+    indexed: &IndexedTables,
+    press: KeyPress,
+    state: &PlainState,
+) -> Result<PlainState, Memory>
+    requires { IsStateOf indexed.now state.now }
+    ensures { IfOk result (IsMadeBy indexed.now state.now (key_event (tab indexed.now) press (state_of indexed.now state.now))) }
 {
-    let mut acting = begin_event(player, state)?;
-    after_key(player, press, &mut acting)?;
-    let outcome = outcome_of(player.alloc(), state.left.as_slice(), &acting)?;
-    let after = acted(player, &acting, outcome, state)?;
-    if !acting.pass {
+    let begun = begin_event(indexed, state)?;
+    let event_state = after_key(indexed, press, begun)?;
+    let outcome = outcome_of(indexed.alloc(), state.left.as_slice(), &event_state)?;
+    let after = acted(indexed, &event_state, outcome, state)?;
+    if !event_state.pass {
         return Ok(after);
     }
-    let edited = by_editor(player.alloc(), press, &after)?;
+    let edited = by_editor(indexed.alloc(), press, &after)?;
     Ok(edited)
 }
 
@@ -125,14 +137,10 @@ fn no_outcome() -> Outcome
 }
 
 /// Characters as elements.
-fn as_elements(alloc: Global, text: &[char]) -> Result<Seq<Element>, Memory>
-    ensures { IfOk result (λ value. value ≡ map Element.Char text.now) }
+fn as_elements(alloc: Global, text: &[char]) -> Result<Vec<Element>, Memory>
+    ensures { IfOk result (λ value. value.items ≡ map Element.Char text.now) }
 {
-    let mut elements = Vec::new(alloc);
-    for c in text {
-        elements.push(Element::Char(*c))?;
-    }
-    Ok(Seq::from_vec(elements))
+    Ok(text.iter().map(|c| Element::Char(*c)).collect(alloc)?)
 }
 
 /// An option that there may be gets a value, as current and as saved one.
@@ -140,38 +148,38 @@ fn give(
     alloc: Global,
     option: Option<usize>,
     value: &[char],
-    acting: &mut Acting,
+    event_state: &mut EventState,
 ) -> Result<(), Memory>
-    ensures { OnOk result (acting.new ≡ given option (map Element.Char value.now) acting.old) }
+    ensures { OnOk result (event_state.new ≡ given option (map Element.Char value.now) event_state.old) }
 {
     let Some(option) = option else {
         return Ok(());
     };
-    let current = as_elements(alloc, value)?;
-    let saved = as_elements(alloc, value)?;
-    set_value(&mut acting.current, option, current);
-    set_value(&mut acting.saved, option, Some(saved));
+    let current = Seq::from_vec(as_elements(alloc, value)?);
+    let saved = Seq::from_vec(as_elements(alloc, value)?);
+    set_value(&mut event_state.current, option, current);
+    set_value(&mut event_state.saved, option, Some(saved));
     Ok(())
 }
 
 /// The host gives an option a value.
 fn setting_event(
-    player: &Player,
+    indexed: &IndexedTables,
     name: &[u8],
     value: &[char],
     state: &PlainState,
 ) -> Result<PlainState, Memory>
-    requires { IsStateOf player.now state.now }
-    ensures { IfOk result (IsMadeBy player.now state.now (only_state (setting_event name.now value.now (state_of player.now state.now)))) }
+    requires { IsStateOf indexed.now state.now }
+    ensures { IfOk result (IsMadeBy indexed.now state.now (only_state (setting_event name.now value.now (state_of indexed.now state.now)))) }
 {
-    let mut acting = begin_event(player, state)?;
+    let mut event_state = begin_event(indexed, state)?;
     give(
-        player.alloc(),
-        player.option_named(name),
+        indexed.alloc(),
+        indexed.option_named(name),
         value,
-        &mut acting,
+        &mut event_state,
     )?;
-    let after = acted(player, &acting, no_outcome(), state)?;
+    let after = acted(indexed, &event_state, no_outcome(), state)?;
     Ok(after)
 }
 
@@ -269,11 +277,11 @@ pub fn plain_event(
     requires places { IsWithin (whole_text (state_of tables.now state.now)) event.now }
     ensures { IfOk result (IsPlainStep tables.now state.now event.now) }
 {
-    let player = Player::new(alloc, tables)?;
+    let indexed = IndexedTables::new(alloc, tables)?;
     match event {
-        Event::Key(press) => key_event(&player, *press, state),
+        Event::Key(press) => key_event(&indexed, *press, state),
         Event::Setting { name, value } => setting_event(
-            &player,
+            &indexed,
             name.as_slice(),
             value.as_slice(),
             state,

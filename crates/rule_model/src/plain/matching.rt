@@ -11,8 +11,8 @@ ghost use Rattle.rule_model.specs.Plain.{caught_last};
 use crate::plain::elements::{
     is_element, is_item, is_same, item_caught, place_caught, place_of, same_value,
 };
-use crate::plain::player::Player;
-use crate::{Acting, Catch, Caught, Group, Pat, Rule};
+use crate::plain::indexed_tables::IndexedTables;
+use crate::{Catch, Caught, EventState, Group, Pat, Rule};
 use kmn_base::{Element, Item, KeyPress, Memory, RuleKey, Seq};
 use virtual_keys::fits;
 
@@ -24,19 +24,25 @@ fn takes_item(pattern: Pat) -> bool
 }
 
 /// Whether an item stands to a pattern as the pattern asks, behind what was caught so far.
-fn matches(player: &Player, acting: &Acting, seen: &[Catch], pattern: Pat, item: Item) -> bool
+fn matches(
+    indexed: &IndexedTables,
+    state: &EventState,
+    seen: &[Catch],
+    pattern: Pat,
+    item: Item,
+) -> bool
     ensures { result ≡ matches
-        (content_now (tab player.now) acting.now) seen.now (tab_pattern player.now.stores pattern) item }
+        (content_now (tab indexed.now) state.now) seen.now (tab_pattern indexed.now.stores pattern) item }
 {
     match pattern {
         Pat::Char(c) => is_item(item, Element::Char(c)),
         Pat::Mark(m) => is_item(item, Element::Mark(m)),
-        Pat::Any(store) => place_of(item, player.content(acting, store)).is_some(),
-        Pat::NotAny(store) => place_of(item, player.content(acting, store)).is_none(),
+        Pat::Any(store) => place_of(item, indexed.content(state, store)).is_some(),
+        Pat::NotAny(store) => place_of(item, indexed.content(state, store)).is_none(),
         Pat::Index(store, offset) => {
             is_element(
                 item,
-                player.element(acting, store, place_caught(seen, offset)),
+                indexed.element(state, store, place_caught(seen, offset)),
             )
         }
         Pat::ContextAt(offset) => is_same(item, item_caught(seen, offset)),
@@ -45,26 +51,26 @@ fn matches(player: &Player, acting: &Acting, seen: &[Catch], pattern: Pat, item:
 }
 
 /// The place that a pattern catches of an item that it matches.
-fn place_for(player: &Player, acting: &Acting, pattern: Pat, item: Item) -> Option<usize>
+fn place_for(indexed: &IndexedTables, state: &EventState, pattern: Pat, item: Item) -> Option<usize>
     ensures { result ≡ place_for
-        (content_now (tab player.now) acting.now) (tab_pattern player.now.stores pattern) item }
+        (content_now (tab indexed.now) state.now) (tab_pattern indexed.now.stores pattern) item }
 {
     match pattern {
-        Pat::Any(store) => place_of(item, player.content(acting, store)),
+        Pat::Any(store) => place_of(item, indexed.content(state, store)),
         _ => None,
     }
 }
 
 /// What the patterns of a context catch of a text, behind what was caught so far.
 fn catches_from(
-    player: &Player,
-    acting: &Acting,
+    indexed: &IndexedTables,
+    state: &EventState,
     mut seen: Vec<Catch>,
     patterns: &[Pat],
     text: &[Item],
 ) -> Result<Option<Vec<Catch>>, Memory>
     ensures { IfOk result (λ caught. option_map (λ catches. catches.items) caught ≡ catches_from
-        (content_now (tab player.now) acting.now) seen.items (map (tab_pattern player.now.stores) patterns.now) text.now) }
+        (content_now (tab indexed.now) state.now) seen.items (map (tab_pattern indexed.now.stores) patterns.now) text.now) }
 {
     let [pattern, rest @ ..] = patterns else {
         return Ok(if text.is_empty() { Some(seen) } else { None });
@@ -74,44 +80,44 @@ fn catches_from(
             item: None,
             place: None,
         })?;
-        return catches_from(player, acting, seen, rest, text);
+        return catches_from(indexed, state, seen, rest, text);
     }
     let [item, behind @ ..] = text else {
         return Ok(None);
     };
-    if !matches(player, acting, seen.as_slice(), *pattern, *item) {
+    if !matches(indexed, state, seen.as_slice(), *pattern, *item) {
         return Ok(None);
     }
-    let place = place_for(player, acting, *pattern, *item);
+    let place = place_for(indexed, state, *pattern, *item);
     seen.push(Catch {
         item: Some(*item),
         place,
     })?;
-    catches_from(player, acting, seen, rest, behind)
+    catches_from(indexed, state, seen, rest, behind)
 }
 
 /// Whether a condition is true at a moment; any other item of a context is none.
-fn is_true(player: &Player, acting: &Acting, pattern: Pat) -> bool
-    ensures { result ≡ is_true (content_now (tab player.now) acting.now) (tab_pattern player.now.stores pattern) }
+fn is_true(indexed: &IndexedTables, state: &EventState, pattern: Pat) -> bool
+    ensures { result ≡ is_true (content_now (tab indexed.now) state.now) (tab_pattern indexed.now.stores pattern) }
 {
     match pattern {
         Pat::Equal(store, value) => {
-            same_value(player.content(acting, store), player.elements(value))
+            same_value(indexed.content(state, store), indexed.elements(value))
         }
         Pat::Unequal(store, value) => {
-            !same_value(player.content(acting, store), player.elements(value))
+            !same_value(indexed.content(state, store), indexed.elements(value))
         }
         _ => true,
     }
 }
 
 /// Whether the conditions of a context are true at a moment.
-fn conditions_hold(player: &Player, acting: &Acting, context: &[Pat]) -> bool
+fn conditions_hold(indexed: &IndexedTables, state: &EventState, context: &[Pat]) -> bool
     ensures { result ≡ list_all
-        (is_true (content_now (tab player.now) acting.now)) (map (tab_pattern player.now.stores) context.now) }
+        (is_true (content_now (tab indexed.now) state.now)) (map (tab_pattern indexed.now.stores) context.now) }
 {
     for pattern in context {
-        if !is_true(player, acting, *pattern) {
+        if !is_true(indexed, state, *pattern) {
             return false;
         }
     }
@@ -158,19 +164,19 @@ fn has_room(context: &[Pat], left: &[Item]) -> bool
 
 /// What a context catches of the last items of a list, where it has room.
 fn caught_last(
-    player: &Player,
-    acting: &Acting,
+    indexed: &IndexedTables,
+    state: &EventState,
     context: &[Pat],
     left: &[Item],
 ) -> Result<Option<Vec<Catch>>, Memory>
     ensures { IfOk result (λ caught. option_map (λ catches. catches.items) caught ≡ caught_last
-        (content_now (tab player.now) acting.now) (map (tab_pattern player.now.stores) context.now) left.now) }
+        (content_now (tab indexed.now) state.now) (map (tab_pattern indexed.now.stores) context.now) left.now) }
 {
     if !has_room(context, left) {
         return Ok(None);
     }
     let last = &left[left.len() - pattern_count(context)..];
-    let caught = catches_from(player, acting, Vec::new(player.alloc()), context, last)?;
+    let caught = catches_from(indexed, state, Vec::new(indexed.alloc()), context, last)?;
     Ok(caught)
 }
 
@@ -194,35 +200,35 @@ fn with_catches(catches: Option<Vec<Catch>>) -> Option<Caught>
 
 /// What a record has caught where it holds at a moment.
 fn holds(
-    player: &Player,
+    indexed: &IndexedTables,
     press: KeyPress,
-    acting: &Acting,
+    state: &EventState,
     using_keys: bool,
     rule: &Rule,
 ) -> Result<Option<Caught>, Memory>
     ensures { IfOk result (λ caught. caught ≡ holds
-        (content_now (tab player.now) acting.now) acting.now.left press (tab_rule player.now.stores using_keys rule.now)) }
+        (content_now (tab indexed.now) state.now) state.now.left press (tab_rule indexed.now.stores using_keys rule.now)) }
 {
     let context = rule.context.as_slice();
-    if !conditions_hold(player, acting, context) || !fits(key_of(using_keys, rule), press) {
+    if !conditions_hold(indexed, state, context) || !fits(key_of(using_keys, rule), press) {
         return Ok(None);
     }
-    Ok(with_catches(caught_last(player, acting, context, acting.left.as_slice())?))
+    Ok(with_catches(caught_last(indexed, state, context, state.left.as_slice())?))
 }
 
 /// The first of some records that holds at a moment, and what it has caught.
 fn first_of<'a>(
-    player: &Player,
+    indexed: &IndexedTables,
     press: KeyPress,
-    acting: &Acting,
+    state: &EventState,
     using_keys: bool,
     rules: &'a [Rule],
 ) -> Result<Option<(&'a Rule, Caught)>, Memory>
-    ensures { IfOk result (λ chosen. option_map (λ c. (tab_rule player.now.stores using_keys c.0.now, c.1)) chosen ≡ first
-        (holds (content_now (tab player.now) acting.now) acting.now.left press) (map (tab_rule player.now.stores using_keys) rules.now)) }
+    ensures { IfOk result (λ chosen. option_map (λ c. (tab_rule indexed.now.stores using_keys c.0.now, c.1)) chosen ≡ first
+        (holds (content_now (tab indexed.now) state.now) state.now.left press) (map (tab_rule indexed.now.stores using_keys) rules.now)) }
 {
     for rule in rules {
-        if let Some(caught) = holds(player, press, acting, using_keys, rule)? {
+        if let Some(caught) = holds(indexed, press, state, using_keys, rule)? {
             return Ok(Some((rule, caught)));
         }
     }
@@ -232,15 +238,15 @@ fn first_of<'a>(
 /// The record of a group that goes first at a moment, and what it has caught.
 #[tactic(auto, unfolding(crate::specs::Tab::tab))]
 pub fn chosen_in<'a>(
-    player: &Player,
+    indexed: &IndexedTables,
     press: KeyPress,
-    acting: &Acting,
+    state: &EventState,
     group: &'a Group,
 ) -> Result<Option<(&'a Rule, Caught)>, Memory>
-    ensures { IfOk result (λ chosen. option_map (λ c. (tab_rule player.now.stores group.now.using_keys c.0.now, c.1)) chosen ≡ chosen_in
-        (tab player.now) press (tab_group player.now.stores group.now) acting.now) }
+    ensures { IfOk result (λ chosen. option_map (λ c. (tab_rule indexed.now.stores group.now.using_keys c.0.now, c.1)) chosen ≡ chosen_in
+        (tab indexed.now) press (tab_group indexed.now.stores group.now) state.now) }
 {
     let rules = group.rules.as_slice();
-    let chosen = first_of(player, press, acting, group.using_keys, rules)?;
+    let chosen = first_of(indexed, press, state, group.using_keys, rules)?;
     Ok(chosen)
 }

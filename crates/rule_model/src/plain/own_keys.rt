@@ -3,9 +3,10 @@ ghost use Rattle.std.specs.List.{slice_split, list_any};
 ghost use Rattle.std.specs.String.{string_bytes};
 ghost use Rattle.kmn_base.specs.Names.{same_name};
 ghost use Rattle.rule_model.specs.Tab.{store_elements, is_dictionary, element_char, words, distinct_onto, tab_dictionary};
-ghost use Rattle.rule_model.specs.Plain.{words_left, bytes_left};
+ghost use Rattle.rule_model.specs.Plain.{words_behind, bytes_behind};
 
 use crate::Store;
+use kmn_base::names::same_name;
 use kmn_base::{Element, Memory, Seq, Text};
 use std::alloc::Global;
 
@@ -47,8 +48,8 @@ fn first_space(text: &[u8]) -> Option<usize>
 /// A text up to its first space, and what stands behind that.
 #[tactic(auto, using(crate::proofs::PlainWords::words_parted, crate::proofs::PlainWords::words_alone))]
 fn first_word(text: &[u8]) -> (&[u8], Option<&[u8]>)
-    ensures parts { slice_split (nat_eq 32) text.now ≡ result.0.now ∷ words_left (option_copied result.1) }
-    ensures sizes { length result.0.now + bytes_left (option_copied result.1) ≡ length text.now }
+    ensures parts { slice_split (nat_eq 32) text.now ≡ result.0.now ∷ words_behind (option_copied result.1) }
+    ensures sizes { length result.0.now + bytes_behind (option_copied result.1) ≡ length text.now }
 {
     match first_space(text) {
         Some(at) => (&text[..at], Some(&text[at + 1..])),
@@ -56,24 +57,11 @@ fn first_word(text: &[u8]) -> (&[u8], Option<&[u8]>)
     }
 }
 
-/// Whether two names are the same, without ASCII case.
-#[tactic(auto, unfolding(kmn_base::specs::Names::same_name))]
-pub fn same_name(known: &[u8], name: &[u8]) -> bool
-    ensures { result ≡ same_name known.now name.now }
-{
-    known.eq_ignore_ascii_case(name)
-}
-
 /// Whether a name is among names, without ASCII case.
 fn is_among(names: &[Text], name: &[u8]) -> bool
     ensures { result ≡ list_any (λ known. same_name known name.now) names.now }
 {
-    for known in names {
-        if same_name(known.as_slice(), name) {
-            return true;
-        }
-    }
-    false
+    names.iter().any(|known| same_name(known.as_slice(), name))
 }
 
 /// Appends a word, unless it is empty or the same as a name before it.
@@ -91,11 +79,11 @@ fn distinct_words(alloc: Global, text: &[u8]) -> Result<Vec<Text>, Memory>
     ensures { IfOk result (λ names. names.items ≡ distinct_onto same_name [] (words text.now)) }
 {
     let mut names = Vec::new(alloc);
-    let mut left = Some(text);
-    while let Some(text) = left {
+    let mut rest = Some(text);
+    while let Some(text) = rest {
         let (word, behind) = first_word(text);
         add_word(alloc, &mut names, word)?;
-        left = behind;
+        rest = behind;
     }
     Ok(names)
 }

@@ -4,6 +4,7 @@ ghost use Rattle.kmn_base.specs.Lists.{characters, is_mark, without_last, window
 ghost use Rattle.rule_model.specs.KeyEvent.{common_prefix};
 
 use kmn_base::limits::WINDOW_ITEMS;
+use kmn_base::slices::{before, behind};
 use kmn_base::{Item, Memory};
 use std::alloc::Global;
 
@@ -24,25 +25,21 @@ pub fn characters(alloc: Global, items: &[Item]) -> Result<Vec<char>, Memory>
 pub fn as_items(alloc: Global, text: &[char]) -> Result<Vec<Item>, Memory>
     ensures { IfOk result (λ items. items.items ≡ map Item.Char text.now) }
 {
-    let mut items = Vec::new(alloc);
-    for c in text {
-        items.push(Item::Char(*c))?;
-    }
-    Ok(items)
+    Ok(text.iter().map(|c| Item::Char(*c)).collect(alloc)?)
 }
 
 /// All but the last items.
 pub fn without_last(count: usize, items: &[Item]) -> &[Item]
     ensures { result.now ≡ without_last count items.now }
 {
-    &items[..items.len().saturating_sub(count)]
+    before(items, items.len().saturating_sub(count))
 }
 
 /// The last items, to which marks are confined.
 pub fn window(items: &[Item]) -> &[Item]
     ensures { result.now ≡ window items.now }
 {
-    &items[items.len().saturating_sub(WINDOW_ITEMS)..]
+    behind(items, items.len().saturating_sub(WINDOW_ITEMS))
 }
 
 /// Whether an item is a mark.

@@ -2,7 +2,7 @@ ghost use Rattle.std.specs.Prelude.{◌≡◌, IfOk, slice_set};
 ghost use Rattle.rule_model.specs.Plain.{option_numbers, picked, spread, option_value};
 ghost use Rattle.rule_model.specs.Tab.{tab};
 
-use crate::plain::player::Player;
+use crate::plain::indexed_tables::IndexedTables;
 use kmn_base::{Element, Memory, Seq};
 use std::alloc::Global;
 
@@ -41,15 +41,15 @@ pub fn copies<V: Value>(alloc: Global, values: &[V]) -> Result<Seq<V>, Memory>
 
 /// The values of the option stores, in order.
 #[tactic(auto, using(std::proofs::lemmas::Grind::common_steps, crate::proofs::PlainOptions::picked_ended))]
-pub fn picked<V: Value>(player: &Player, values: &[V]) -> Result<Seq<V>, Memory>
-    ensures { IfOk result (λ options. options ≡ picked (option_numbers 0 (tab player.now).stores) values.now) }
+pub fn picked<V: Value>(indexed: &IndexedTables, values: &[V]) -> Result<Seq<V>, Memory>
+    ensures { IfOk result (λ options. options ≡ picked (option_numbers 0 (tab indexed.now).stores) values.now) }
 {
-    let numbers = player.numbers();
-    let mut options = Vec::new(player.alloc());
+    let numbers = indexed.numbers();
+    let mut options = Vec::new(indexed.alloc());
     for n in 0..numbers.len().min(values.len()) {
         let value = &values[n];
         if numbers[n].is_some() {
-            options.push(value.copied(player.alloc())?)?;
+            options.push(value.copied(indexed.alloc())?)?;
         }
     }
     Ok(Seq::from_vec(options))
@@ -67,14 +67,18 @@ fn option_value<'a, V: Value>(options: &'a [V], number: Option<usize>, other: &'
 
 /// The values by store number, with those of options in their places.
 #[tactic(auto, using(std::proofs::lemmas::Grind::common_steps, crate::proofs::PlainOptions::spread_ended))]
-pub fn spread<V: Value>(player: &Player, values: &[V], options: &[V]) -> Result<Seq<V>, Memory>
-    ensures { IfOk result (λ all. all ≡ spread (option_numbers 0 (tab player.now).stores) values.now options.now) }
+pub fn spread<V: Value>(
+    indexed: &IndexedTables,
+    values: &[V],
+    options: &[V],
+) -> Result<Seq<V>, Memory>
+    ensures { IfOk result (λ all. all ≡ spread (option_numbers 0 (tab indexed.now).stores) values.now options.now) }
 {
-    let numbers = player.numbers();
-    let mut all = Vec::new(player.alloc());
+    let numbers = indexed.numbers();
+    let mut all = Vec::new(indexed.alloc());
     for n in 0..numbers.len().min(values.len()) {
         let value = option_value(options, numbers[n], &values[n]);
-        all.push(value.copied(player.alloc())?)?;
+        all.push(value.copied(indexed.alloc())?)?;
     }
     Ok(Seq::from_vec(all))
 }

@@ -9,16 +9,11 @@ pub apply-requires-clause-characters : goal.apply-requires-clause-characters
 apply-requires-clause-characters c =
     (press_is_done c.args.engine.now c.args.editor.now c.args.press c.in_ok-outcome.outcome c.key.new.self c.left.result.now c.requires.together c.left.ensures c.in_ok-outcome.ensures.outcome c.in_ok-outcome.ensures.engine).deletes
 
-pub apply-requires-clause-room : goal.apply-requires-clause-room
-apply-requires-clause-room c =
-    let p = press_is_done c.args.engine.now c.args.editor.now c.args.press c.in_ok-outcome.outcome c.key.new.self c.left.result.now c.requires.together c.left.ensures c.in_ok-outcome.ensures.outcome c.in_ok-outcome.ensures.engine in
-    omega (arith, c.requires.room, p.inserts, ap length c.inserted.ensures)
-
 pub returns-clause-together : goal.returns-clause-together
 returns-clause-together c =
     let p = press_is_done c.args.engine.now c.args.editor.now c.args.press c.in_ok-outcome.outcome c.key.new.self c.left.result.now c.requires.together c.left.ensures c.in_ok-outcome.ensures.outcome c.in_ok-outcome.ensures.engine in
     let same : characters c.key.new.self.left ≡ c.apply.new.self.left
-    = sym (c.apply.ensures.left ∙ ap (λ (t : List ℕ). without_last c.in_ok-outcome.outcome.delete c.args.editor.now.left ++ t) c.inserted.ensures ∙ p.edits) in
+    = sym (c.apply.ensures.left ∙ ap (λ (t : List ℕ). without_last c.in_ok-outcome.outcome.delete c.args.editor.now.left ++ t) c.inserted.ensures.value ∙ p.edits) in
     record {
       same = same;
       sound = p.sound;
@@ -39,8 +34,3 @@ pub returns-clause-inserted : goal.returns-clause-inserted
 returns-clause-inserted c =
     ap (λ (e : EngineState). e.inserted)
     (press_is_done c.args.engine.now c.args.editor.now c.args.press c.in_ok-outcome.outcome c.key.new.self c.left.result.now c.requires.together c.left.ensures c.in_ok-outcome.ensures.outcome c.in_ok-outcome.ensures.engine).leaves
-
-pub returns-clause-room : goal.returns-clause-room
-returns-clause-room c =
-    let p = press_is_done c.args.engine.now c.args.editor.now c.args.press c.in_ok-outcome.outcome c.key.new.self c.left.result.now c.requires.together c.left.ensures c.in_ok-outcome.ensures.outcome c.in_ok-outcome.ensures.engine in
-    omega (arith, c.requires.room, c.apply.ensures.room, p.inserts, ap length c.inserted.ensures)

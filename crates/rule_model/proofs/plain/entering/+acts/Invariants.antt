@@ -1,37 +1,37 @@
 use Rattle.std.proofs.Common.{◌≡◌, ◌+◌, ◌*◌, drop, map}
 use Rattle.rule_model.specs.Act.{act}
 use Rattle.rule_model.specs.Tab.{tab_output}
-use Rattle.rule_model.specs.PlainStroke.{keyboard_of, stores_of, entering}
+use Rattle.rule_model.specs.Entering.{keyboard_of, stores_of, enters}
 use Rattle.rule_model.proofs.plain.entering.+acts.Given as goal
 
 abbrev pub invariant-act-loop-output : goal.invariant-act-loop-output
 invariant-act-loop-output l =
-    act (keyboard_of l.stroke) (entering l.stroke) l.caught (map (tab_output (stores_of l.stroke)) (drop l.output-index l.outputs)) l.acting
-    ≡ act (keyboard_of l.stroke) (entering l.stroke) l.caught (map (tab_output (stores_of l.stroke)) l.outputs) l.fn.acting
+    act (keyboard_of l.entering) (enters l.entering) l.caught (map (tab_output (stores_of l.entering)) (drop l.output-index l.outputs)) l.state
+    ≡ act (keyboard_of l.entering) (enters l.entering) l.caught (map (tab_output (stores_of l.entering)) l.outputs) l.fn.state
 
 abbrev pub decreases-act : goal.decreases-act
-decreases-act l = 8 * l.stroke.now.depth + 4
+decreases-act l = 8 * l.entering.now.depth + 4
 
 abbrev pub decreases-act_next : goal.decreases-act_next
-decreases-act_next l = 8 * l.stroke.now.depth + 3
+decreases-act_next l = 8 * l.entering.now.depth + 3
 
 abbrev pub decreases-act_one : goal.decreases-act_one
-decreases-act_one l = 8 * l.stroke.now.depth + 2
+decreases-act_one l = 8 * l.entering.now.depth + 2
 
 abbrev pub decreases-do_chosen : goal.decreases-do_chosen
-decreases-do_chosen l = 8 * l.stroke.now.depth + 5
+decreases-do_chosen l = 8 * l.entering.now.depth + 5
 
 abbrev pub decreases-do_group : goal.decreases-do_group
-decreases-do_group l = 8 * l.stroke.now.depth + 6
+decreases-do_group l = 8 * l.entering.now.depth + 6
 
 abbrev pub decreases-do_unmatched : goal.decreases-do_unmatched
-decreases-do_unmatched l = 8 * l.stroke.now.depth + 5
+decreases-do_unmatched l = 8 * l.entering.now.depth + 5
 
 abbrev pub decreases-enter : goal.decreases-enter
-decreases-enter l = 8 * l.stroke.now.depth + 0
+decreases-enter l = 8 * l.entering.now.depth + 0
 
-abbrev pub decreases-enter_if_left : goal.decreases-enter_if_left
-decreases-enter_if_left l = 8 * l.stroke.now.depth + 1
+abbrev pub decreases-enter_if_allowed : goal.decreases-enter_if_allowed
+decreases-enter_if_allowed l = 8 * l.entering.now.depth + 1
 
 abbrev pub decreases-in_group : goal.decreases-in_group
-decreases-in_group l = 8 * l.stroke.now.depth + 7
+decreases-in_group l = 8 * l.entering.now.depth + 7

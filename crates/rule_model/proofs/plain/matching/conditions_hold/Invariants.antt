@@ -6,5 +6,5 @@ use Rattle.rule_model.specs.Tab.{tab, tab_pattern}
 use Rattle.rule_model.proofs.plain.matching.conditions_hold.Given as goal
 
 abbrev pub invariant-loop-pattern : goal.invariant-loop-pattern
-invariant-loop-pattern l = list_all (is_true (content_now (tab l.player) l.acting)) (map (tab_pattern l.player.stores) (drop l.pattern-index l.context))
-    ≡ list_all (is_true (content_now (tab l.player) l.acting)) (map (tab_pattern l.player.stores) l.context)
+invariant-loop-pattern l = list_all (is_true (content_now (tab l.indexed) l.state)) (map (tab_pattern l.indexed.stores) (drop l.pattern-index l.context))
+    ≡ list_all (is_true (content_now (tab l.indexed) l.state)) (map (tab_pattern l.indexed.stores) l.context)

@@ -6,5 +6,5 @@ use Rattle.rule_model.specs.Tab.{tab, tab_rule}
 use Rattle.rule_model.proofs.plain.matching.first_of.Given as goal
 
 abbrev pub invariant-loop-rule : goal.invariant-loop-rule
-invariant-loop-rule l = first (holds (content_now (tab l.player) l.acting) l.acting.left l.press) (map (tab_rule l.player.stores l.using_keys) (drop l.rule-index l.rules))
-    ≡ first (holds (content_now (tab l.player) l.acting) l.acting.left l.press) (map (tab_rule l.player.stores l.using_keys) l.rules)
+invariant-loop-rule l = first (holds (content_now (tab l.indexed) l.state) l.state.left l.press) (map (tab_rule l.indexed.stores l.using_keys) (drop l.rule-index l.rules))
+    ≡ first (holds (content_now (tab l.indexed) l.state) l.state.left l.press) (map (tab_rule l.indexed.stores l.using_keys) l.rules)

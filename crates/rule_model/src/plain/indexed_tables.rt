@@ -10,22 +10,23 @@ ghost use Rattle.rule_model.specs.Plain.{option_numbers, option_names, option_na
 ghost use Rattle.rule_model.specs.Tab.{elements_of, tab};
 
 use crate::plain::options::option_numbers;
-use crate::plain::own_keys::{own_keys, same_name};
-use crate::{Acting, Group, Store, Tables};
+use crate::plain::own_keys::own_keys;
+use crate::{EventState, Group, Store, Tables};
+use kmn_base::names::same_name;
 use kmn_base::{Element, Memory, Text};
 use std::alloc::Global;
 use std::marker::Model;
 
 /// Tables with what events look up: the option number of each store, and the names of the key dictionary.
 #[derive(Drop)]
-pub struct Player<'a> {
+pub struct IndexedTables<'a> {
     alloc: Global,
     tables: &'a Tables,
     numbers: Vec<Option<usize>>,
     names: Vec<Text>,
 }
 
-impl<'a> Model for Player<'a> {
+impl<'a> Model for IndexedTables<'a> {
     ghost use Rattle.std.specs.Prelude.{◌≡◌};
     ghost use Rattle.rule_model.specs.declared.tables.Tables.{Tables};
     ghost use Rattle.rule_model.specs.Plain.{option_numbers};
@@ -33,22 +34,22 @@ impl<'a> Model for Player<'a> {
 
     ghost Value = { Tables };
 
-    ghost view = { λ player. player.tables.now };
+    ghost view = { λ indexed. indexed.tables.now };
 
-    ghost invariant = { λ player.
-        (player.numbers.items ≡ option_numbers 0 (tab player.tables.now).stores)
-        × (player.names.items ≡ (tab player.tables.now).dictionary) };
+    ghost invariant = { λ indexed.
+        (indexed.numbers.items ≡ option_numbers 0 (tab indexed.tables.now).stores)
+        × (indexed.names.items ≡ (tab indexed.tables.now).dictionary) };
 }
 
-impl<'a> Player<'a> {
+impl<'a> IndexedTables<'a> {
     /// Looks up what the events of tables need.
     #[tactic(auto, unfolding(crate::specs::Tab::tab))]
-    pub fn new(alloc: Global, tables: &'a Tables) -> Result<Player<'a>, Memory>
-        ensures { IfOk result (λ player. player ≡ tables.now) }
+    pub fn new(alloc: Global, tables: &'a Tables) -> Result<IndexedTables<'a>, Memory>
+        ensures { IfOk result (λ indexed. indexed ≡ tables.now) }
     {
         let numbers = option_numbers(alloc, tables)?;
         let names = own_keys(alloc, tables.stores.as_slice())?;
-        Ok(Player {
+        Ok(IndexedTables {
             alloc,
             tables,
             numbers,
@@ -95,20 +96,20 @@ impl<'a> Player<'a> {
 
     /// What a store has at a moment: the current value of an option, else its elements.
     #[tactic(auto, using(crate::proofs::PlainOptions::content_of_option, crate::proofs::PlainOptions::content_of_other, crate::proofs::PlainOptions::elements_with_options), unfolding(crate::specs::Tab::tab))]
-    pub fn content<'b>(&'b self, acting: &'b Acting, store: u32) -> &'b [Element]
-        ensures { result.now ≡ content_now (tab self.now) acting.now (Numbered store) }
+    pub fn content<'b>(&'b self, state: &'b EventState, store: u32) -> &'b [Element]
+        ensures { result.now ≡ content_now (tab self.now) state.now (Numbered store) }
     {
         match self.option_number(store) {
-            Some(option) => value_at(acting, option),
+            Some(option) => value_at(state, option),
             None => self.elements(store),
         }
     }
 
     /// The element at a place of what a store has at a moment, where there is such a place.
-    pub fn element(&self, acting: &Acting, store: u32, place: Option<usize>) -> Option<Element>
-        ensures { result ≡ element_at (content_now (tab self.now) acting.now (Numbered store)) place }
+    pub fn element(&self, state: &EventState, store: u32, place: Option<usize>) -> Option<Element>
+        ensures { result ≡ element_at (content_now (tab self.now) state.now (Numbered store)) place }
     {
-        self.content(acting, store).get(place?).copied()
+        self.content(state, store).get(place?).copied()
     }
 
     /// The number of the first option of a name; a store without a name is found by none.
@@ -148,10 +149,10 @@ fn number_at(numbers: &[Option<usize>], store: u32) -> Option<usize>
 }
 
 /// The current value of an option, empty where there is no such option.
-pub fn value_at(acting: &Acting, option: usize) -> &[Element]
-    ensures { result.now ≡ unwrap_or (slice_get acting.now.current option) [] }
+pub fn value_at(state: &EventState, option: usize) -> &[Element]
+    ensures { result.now ≡ unwrap_or (slice_get state.now.current option) [] }
 {
-    match acting.current.as_slice().get(option) {
+    match state.current.as_slice().get(option) {
         Some(value) => value.as_slice(),
         None => &[],
     }

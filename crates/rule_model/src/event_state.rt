@@ -22,10 +22,10 @@ pub struct Caught {
     pub key_place: Option<usize>,
 }
 
-/// What the outputs of one key event act on. Values stand by the number of the option, counted over the option stores
-/// alone; counts that only rise stay at the end of their type.
+/// The state of one key event, on which its outputs act. Values stand by the number of the option, counted over the
+/// option stores alone; counts that only rise stay at the end of their type.
 #[derive(Drop)]
-pub struct Acting {
+pub struct EventState {
     pub left: LeftList,
     pub current: Seq<Seq<Element>>,
     pub saved: Seq<Option<Seq<Element>>>,
@@ -38,16 +38,16 @@ pub struct Acting {
     pub saves: u32,
 }
 
-impl Acting {
+impl EventState {
     /// An event begins on a list and on option values, with nothing done.
     pub fn begin(
         left: LeftList,
         current: Seq<Seq<Element>>,
         saved: Seq<Option<Seq<Element>>>,
-    ) -> Acting
+    ) -> EventState
         ensures { result ≡ begin_event left current saved }
     {
-        Acting {
+        EventState {
             left,
             current,
             saved,
@@ -66,12 +66,12 @@ impl Acting {
         left: LeftList,
         current: &[Seq<Element>],
         saved: &[Option<Seq<Element>>],
-    ) -> Result<Acting, Memory>
-        ensures { IfOk result (λ acting. acting ≡ begin_event left current.now saved.now) }
+    ) -> Result<EventState, Memory>
+        ensures { IfOk result (λ state. state ≡ begin_event left current.now saved.now) }
     {
         let current = copies(alloc, current)?;
         let saved = copies(alloc, saved)?;
-        Ok(Acting::begin(left, current, saved))
+        Ok(EventState::begin(left, current, saved))
     }
 
     /// The outcome, where so many characters of the old text are deleted.

@@ -1,6 +1,0 @@
-use Rattle.std.proofs.Common.{◌≡◌, ◌++◌, drop, map}
-use Rattle.kmn_base.specs.declared.items.Item.TheVariants.{Char}
-use Rattle.rule_model.proofs.plain.texts.as_items.Given as goal
-
-abbrev pub invariant-loop-c : goal.invariant-loop-c
-invariant-loop-c l = l.items.items ++ map Char (drop l.c-index l.text) ≡ map Char l.text
