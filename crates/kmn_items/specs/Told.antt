@@ -6,6 +6,7 @@ use Rattle.kmn_base.specs.Answers.{AnswersBy}
 use Rattle.kmn_lines.specs.declared.token.Token.{Token}
 use Rattle.kmn_lines.specs.declared.token.TokenKind.{TokenKind}
 use Rattle.kmn_lines.specs.declared.token.TokenKind.TheVariants as kind
+use Rattle.kmn_items.specs.declared.text.LineTokens.{LineTokens}
 use Rattle.kmn_items.specs.declared.syntax.Fault.{Fault}
 use Rattle.kmn_items.specs.declared.syntax.Trouble.{Trouble}
 use Rattle.kmn_items.specs.declared.syntax.Trouble.TheVariants as trouble
@@ -25,6 +26,10 @@ told_token source token = record { kind = token.kind; text = text_of source toke
 -- the tokens of a line with their texts
 abbrev pub told : List ℕ → List Token → List LineToken
 told source tokens = map (told_token source) tokens
+
+-- those of tokens that stand side by side in a line
+abbrev pub texts : LineTokens → List LineToken
+texts tokens = told tokens.source.now tokens.tokens.now
 
 -- the kinds of tokens that forms ask for
 abbrev pub is_quoted : TokenKind → Bool

@@ -1,13 +1,12 @@
 ghost use Rattle.std.specs.Prelude.{◌≡◌, ◌+◌, ◌≤◌, ◌<◌, ◌^◌, ◌∷◌, [], IfOk, length, take, drop};
-ghost use Rattle.kmn_items.specs.Told.{told, told_token, text_at};
+ghost use Rattle.kmn_items.specs.Told.{texts, told_token, text_at};
 ghost use Rattle.kmn_items.specs.Slots.{broken};
 ghost use Rattle.kmn_items.specs.Brackets.{flag_of, flags_of, named_key, key_item, is_modifier_token, modifier_count};
 
 use crate::slots::broken;
 use crate::syntax::{Fault, Slot, Where};
-use crate::text::{text_at, text_in};
+use crate::text::{LineTokens, text_in};
 use crate::words::is_modifier;
-use kmn_base::slices::{before, behind};
 use kmn_base::{Memory, Seq};
 use kmn_lines::{Token, TokenKind};
 use rule_model::{KeyName, SrcItem};
@@ -31,11 +30,15 @@ fn flag_of(text: &[u8]) -> u16
 }
 
 /// The shift flags of words, above the flag of a virtual key.
-fn flags_of(source: &[u8], tokens: &[Token]) -> u16
-    ensures { result ≡ flags_of (told source.now tokens.now) }
+fn flags_of(tokens: LineTokens<'_>) -> u16
+    ensures { result ≡ flags_of (texts tokens.entry) }
 {
     let mut flags = VIRTUAL_KEY;
-    for token in tokens {
+    let LineTokens {
+        source,
+        tokens: all,
+    } = tokens;
+    for token in all {
         flags |= flag_of(text_in(source, *token));
     }
     flags
@@ -77,50 +80,45 @@ fn is_modifier_token(source: &[u8], token: Token) -> bool
 }
 
 /// How many modifiers tokens begin with.
-pub(crate) fn modifier_count(source: &[u8], tokens: &[Token]) -> usize
-    ensures count { result ≡ modifier_count (told source.now tokens.now) }
-    ensures most { result ≤ length tokens.now }
+#[tactic(auto, using(crate::proofs::ToldLemmas::length_told))]
+pub(crate) fn modifier_count(tokens: LineTokens<'_>) -> usize
+    ensures count { result ≡ modifier_count (texts tokens.entry) }
+    ensures most { result ≤ length (texts tokens.entry) }
 {
-    for (count, token) in tokens.iter().enumerate() {
+    let LineTokens {
+        source,
+        tokens: all,
+    } = tokens;
+    for (count, token) in all.iter().enumerate() {
         if !is_modifier_token(source, *token) {
             return count;
         }
     }
-    tokens.len()
+    all.len()
 }
 
 /// The first token that breaks a virtual key behind its modifiers; `at` is the place of the first modifier.
-#[tactic(auto, using(crate::proofs::ToldLemmas::drop_told))]
 pub(crate) fn key_fault(
-    source: &[u8],
     last: usize,
     at: usize,
     count: usize,
-    tokens: &[Token],
+    tokens: LineTokens<'_>,
 ) -> Option<Fault>
-    requires room { at + length tokens.now < 2 ^ 62 }
-    requires most { count ≤ length tokens.now }
-    ensures { result ≡ broken last (at + count) (Slot.KeyName ∷ Slot.KeyEnd ∷ []) (drop count (told source.now tokens.now)) }
+    requires room { at + length (texts tokens) < 2 ^ 62 }
+    requires most { count ≤ length (texts tokens) }
+    ensures { result ≡ broken last (at + count) (Slot.KeyName ∷ Slot.KeyEnd ∷ []) (drop count (texts tokens.entry)) }
 {
-    broken(
-        source,
-        last,
-        at + count,
-        &KEY_AND_END,
-        behind(tokens, count),
-    )
+    broken(last, at + count, &KEY_AND_END, tokens.behind(count))
 }
 
 /// A virtual key with so many modifiers.
-#[tactic(auto, using(crate::proofs::ToldLemmas::take_told))]
 pub(crate) fn modified_key(
     alloc: Global,
-    source: &[u8],
     count: usize,
-    tokens: &[Token],
+    tokens: LineTokens<'_>,
 ) -> Result<KeyName, Memory>
-    ensures { IfOk result (λ key. key ≡ named_key (flags_of (take count (told source.now tokens.now))) (text_at count (told source.now tokens.now))) }
+    ensures { IfOk result (λ key. key ≡ named_key (flags_of (take count (texts tokens.entry))) (text_at count (texts tokens.entry))) }
 {
-    let flags = flags_of(source, before(tokens, count));
-    named_key(alloc, flags, text_at(source, count, tokens))
+    let flags = flags_of(tokens.before(count));
+    named_key(alloc, flags, tokens.text(count))
 }

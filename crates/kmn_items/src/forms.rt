@@ -1,14 +1,14 @@
 ghost use Rattle.std.specs.Prelude.{◌≡◌, ◌<◌, ◌≤◌, IfOk, length};
-ghost use Rattle.kmn_items.specs.Told.{told};
+ghost use Rattle.kmn_items.specs.Told.{texts};
 ghost use Rattle.kmn_items.specs.Forms.{word_slots, equal_at, word_item};
 
 use crate::numbers::offset_value;
 use crate::syntax::{ItemWord, Slot};
-use crate::text::{name_at, quoted, text_at};
+use crate::text::{LineTokens, quoted};
 use crate::words::is_system_name;
 use kmn_base::slices::behind;
 use kmn_base::{Memory, Seq};
-use kmn_lines::{Token, TokenKind};
+use kmn_lines::TokenKind;
 use rule_model::SrcItem;
 use std::alloc::Global;
 
@@ -86,25 +86,25 @@ pub(crate) fn word_slots(word: ItemWord) -> &'static [Slot]
 
 /// Whether the token at a place is `=`.
 #[tactic(auto, using(crate::proofs::ToldLemmas::get_told))]
-fn equal_at(place: usize, source: &[u8], tokens: &[Token]) -> bool
-    ensures { result ≡ equal_at place (told source.now tokens.now) }
+fn equal_at(place: usize, tokens: LineTokens<'_>) -> bool
+    ensures { result ≡ equal_at place (texts tokens.entry) }
 {
-    match tokens.get(place) {
+    match tokens.tokens.get(place) {
         Some(token) => matches!(token.kind, TokenKind::Equal),
         None => false,
     }
 }
 
 /// The condition of tokens in the form of `if`.
-fn condition(alloc: Global, source: &[u8], tokens: &[Token]) -> Result<SrcItem, Memory>
-    ensures { IfOk result (λ item. item ≡ word_item ItemWord.If (told source.now tokens.now)) }
+fn condition(alloc: Global, tokens: LineTokens<'_>) -> Result<SrcItem, Memory>
+    ensures { IfOk result (λ item. item ≡ word_item ItemWord.If (texts tokens.entry)) }
 {
-    if is_system_name(text_at(source, 2, tokens)) {
+    if is_system_name(tokens.text(2)) {
         return Ok(SrcItem::OutOfProfile);
     }
-    let name = name_at(alloc, source, 2, tokens)?;
-    let value = quoted(alloc, text_at(source, 4, tokens))?;
-    if equal_at(3, source, tokens) {
+    let name = tokens.name(alloc, 2)?;
+    let value = quoted(alloc, tokens.text(4))?;
+    if equal_at(3, tokens) {
         Ok(SrcItem::Equal(name, value))
     } else {
         Ok(SrcItem::Unequal(name, value))
@@ -112,56 +112,55 @@ fn condition(alloc: Global, source: &[u8], tokens: &[Token]) -> Result<SrcItem, 
 }
 
 /// The assignment of tokens in the form of `set`.
-fn assignment(alloc: Global, source: &[u8], tokens: &[Token]) -> Result<SrcItem, Memory>
-    ensures { IfOk result (λ item. item ≡ word_item ItemWord.Set (told source.now tokens.now)) }
+fn assignment(alloc: Global, tokens: LineTokens<'_>) -> Result<SrcItem, Memory>
+    ensures { IfOk result (λ item. item ≡ word_item ItemWord.Set (texts tokens.entry)) }
 {
-    if is_system_name(text_at(source, 2, tokens)) {
+    if is_system_name(tokens.text(2)) {
         return Ok(SrcItem::OutOfProfile);
     }
-    let name = name_at(alloc, source, 2, tokens)?;
-    let value = quoted(alloc, text_at(source, 4, tokens))?;
+    let name = tokens.name(alloc, 2)?;
+    let value = quoted(alloc, tokens.text(4))?;
     Ok(SrcItem::Set(name, value))
 }
 
 /// The item of `$` and a name.
-fn dollar_item(alloc: Global, source: &[u8], tokens: &[Token]) -> Result<SrcItem, Memory>
-    ensures { IfOk result (λ item. item ≡ word_item ItemWord.Dollar (told source.now tokens.now)) }
+fn dollar_item(alloc: Global, tokens: LineTokens<'_>) -> Result<SrcItem, Memory>
+    ensures { IfOk result (λ item. item ≡ word_item ItemWord.Dollar (texts tokens.entry)) }
 {
-    let name = behind(text_at(source, 0, tokens), 1);
+    let name = behind(tokens.text(0), 1);
     Ok(SrcItem::Outs(Seq::from_slice(alloc, name)?))
 }
 
 /// The item of tokens in the form of `index`.
-fn index_item(alloc: Global, source: &[u8], tokens: &[Token]) -> Result<SrcItem, Memory>
-    ensures { IfOk result (λ item. item ≡ word_item ItemWord.Index (told source.now tokens.now)) }
+fn index_item(alloc: Global, tokens: LineTokens<'_>) -> Result<SrcItem, Memory>
+    ensures { IfOk result (λ item. item ≡ word_item ItemWord.Index (texts tokens.entry)) }
 {
-    let offset = offset_value(text_at(source, 4, tokens));
-    Ok(SrcItem::Index(name_at(alloc, source, 2, tokens)?, offset))
+    let offset = offset_value(tokens.text(4));
+    Ok(SrcItem::Index(tokens.name(alloc, 2)?, offset))
 }
 
 /// The item of a word, of tokens in its form.
 pub(crate) fn word_item(
     alloc: Global,
-    source: &[u8],
     word: ItemWord,
-    tokens: &[Token],
+    tokens: LineTokens<'_>,
 ) -> Result<SrcItem, Memory>
-    ensures { IfOk result (λ item. item ≡ word_item word (told source.now tokens.now)) }
+    ensures { IfOk result (λ item. item ≡ word_item word (texts tokens.entry)) }
 {
     match word {
-        ItemWord::Dead => Ok(SrcItem::Dead(name_at(alloc, source, 2, tokens)?)),
-        ItemWord::Any => Ok(SrcItem::Any(name_at(alloc, source, 2, tokens)?)),
-        ItemWord::NotAny => Ok(SrcItem::NotAny(name_at(alloc, source, 2, tokens)?)),
-        ItemWord::Outs => Ok(SrcItem::Outs(name_at(alloc, source, 2, tokens)?)),
-        ItemWord::Use => Ok(SrcItem::Enter(name_at(alloc, source, 2, tokens)?)),
-        ItemWord::Save => Ok(SrcItem::Save(name_at(alloc, source, 2, tokens)?)),
-        ItemWord::Reset => Ok(SrcItem::Reset(name_at(alloc, source, 2, tokens)?)),
-        ItemWord::Call => Ok(SrcItem::Call(name_at(alloc, source, 2, tokens)?)),
-        ItemWord::If => condition(alloc, source, tokens),
-        ItemWord::Set => assignment(alloc, source, tokens),
-        ItemWord::Dollar => dollar_item(alloc, source, tokens),
-        ItemWord::Index => index_item(alloc, source, tokens),
-        ItemWord::ContextAt => Ok(SrcItem::ContextAt(offset_value(text_at(source, 2, tokens)))),
+        ItemWord::Dead => Ok(SrcItem::Dead(tokens.name(alloc, 2)?)),
+        ItemWord::Any => Ok(SrcItem::Any(tokens.name(alloc, 2)?)),
+        ItemWord::NotAny => Ok(SrcItem::NotAny(tokens.name(alloc, 2)?)),
+        ItemWord::Outs => Ok(SrcItem::Outs(tokens.name(alloc, 2)?)),
+        ItemWord::Use => Ok(SrcItem::Enter(tokens.name(alloc, 2)?)),
+        ItemWord::Save => Ok(SrcItem::Save(tokens.name(alloc, 2)?)),
+        ItemWord::Reset => Ok(SrcItem::Reset(tokens.name(alloc, 2)?)),
+        ItemWord::Call => Ok(SrcItem::Call(tokens.name(alloc, 2)?)),
+        ItemWord::If => condition(alloc, tokens),
+        ItemWord::Set => assignment(alloc, tokens),
+        ItemWord::Dollar => dollar_item(alloc, tokens),
+        ItemWord::Index => index_item(alloc, tokens),
+        ItemWord::ContextAt => Ok(SrcItem::ContextAt(offset_value(tokens.text(2)))),
         ItemWord::Context => Ok(SrcItem::Context),
         ItemWord::Nul => Ok(SrcItem::Nul),
         ItemWord::Beep => Ok(SrcItem::Beep),

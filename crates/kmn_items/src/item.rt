@@ -1,5 +1,5 @@
 ghost use Rattle.std.specs.Prelude.{◌≡◌, ◌+◌, ◌≤◌, ◌<◌, ◌^◌, ◌∷◌, [], IfOk, length, map};
-ghost use Rattle.kmn_items.specs.Told.{told, fault, quoted, Reads};
+ghost use Rattle.kmn_items.specs.Told.{texts, fault, quoted, Reads};
 ghost use Rattle.kmn_items.specs.Brackets.{modifier_count};
 ghost use Rattle.kmn_items.specs.Item.{read_word, read_quoted, one_character, read_bracket, read_form, read_item};
 
@@ -9,10 +9,8 @@ use crate::leads::lead_of;
 use crate::slots::broken;
 use crate::standing::{is_crowded, misplaced_code, seen_count, seen_word, standing_code};
 use crate::syntax::{Fault, ItemWord, Lead, Seen, Taken, Trouble, Where};
-use crate::text::{quoted, text_at};
-use kmn_base::slices::behind;
+use crate::text::{LineTokens, quoted};
 use kmn_base::{Code, Memory, Seq};
-use kmn_lines::Token;
 use rule_model::SrcItem;
 use std::alloc::Global;
 
@@ -44,20 +42,19 @@ fn single(alloc: Global, item: SrcItem) -> Result<Seq<SrcItem>, Memory>
 /// The item of a word, or the fault of its form.
 fn read_word(
     alloc: Global,
-    source: &[u8],
     spot: Spot,
     word: ItemWord,
-    tokens: &[Token],
+    tokens: LineTokens<'_>,
 ) -> Result<Taken, Trouble>
-    requires { spot.at + length tokens.now < 2 ^ 62 }
-    ensures read { Reads (read_word spot.seen spot.last spot.at word (told source.now tokens.now)) result }
-    ensures few { IfOk result (λ taken. taken.more ≤ length tokens.now + 5) }
+    requires { spot.at + length (texts tokens) < 2 ^ 62 }
+    ensures read { Reads (read_word spot.seen spot.last spot.at word (texts tokens.entry)) result }
+    ensures few { IfOk result (λ taken. taken.more ≤ length (texts tokens.entry) + 5) }
 {
     let slots = word_slots(word);
-    if let Some(fault) = broken(source, spot.last, spot.at, slots, tokens) {
+    if let Some(fault) = broken(spot.last, spot.at, slots, tokens) {
         return Err(Trouble::Broken(fault));
     }
-    let item = word_item(alloc, source, word, tokens)?;
+    let item = word_item(alloc, word, tokens)?;
     Ok(Taken {
         items: single(alloc, item)?,
         more: slots.len() - 1,
@@ -93,21 +90,16 @@ fn read_quoted(alloc: Global, spot: Spot, text: &[u8]) -> Result<Taken, Trouble>
 }
 
 /// The key in brackets, of the tokens behind the first bracket.
-fn read_bracket(
-    alloc: Global,
-    source: &[u8],
-    spot: Spot,
-    tokens: &[Token],
-) -> Result<Taken, Trouble>
-    requires { spot.at + 1 + length tokens.now < 2 ^ 62 }
-    ensures read { Reads (read_bracket spot.place spot.seen spot.last spot.at (modifier_count (told source.now tokens.now)) (told source.now tokens.now)) result }
-    ensures few { IfOk result (λ taken. taken.more ≤ length tokens.now + 5) }
+fn read_bracket(alloc: Global, spot: Spot, tokens: LineTokens<'_>) -> Result<Taken, Trouble>
+    requires { spot.at + 1 + length (texts tokens) < 2 ^ 62 }
+    ensures read { Reads (read_bracket spot.place spot.seen spot.last spot.at (modifier_count (texts tokens.entry)) (texts tokens.entry)) result }
+    ensures few { IfOk result (λ taken. taken.more ≤ length (texts tokens.entry) + 5) }
 {
-    let count = modifier_count(source, tokens);
-    if let Some(fault) = key_fault(source, spot.last, spot.at + 1, count, tokens) {
+    let count = modifier_count(tokens);
+    if let Some(fault) = key_fault(spot.last, spot.at + 1, count, tokens) {
         return Err(Trouble::Broken(fault));
     }
-    let key = modified_key(alloc, source, count, tokens)?;
+    let key = modified_key(alloc, count, tokens)?;
     Ok(Taken {
         items: single(alloc, key_item(spot.place, key))?,
         more: count + 2,
@@ -127,23 +119,21 @@ fn read_character(alloc: Global, seen: Seen, c: char) -> Result<Taken, Memory>
 }
 
 /// The item that tokens begin with, by what the first says, where it may stand.
-#[tactic(auto, using(crate::proofs::ToldLemmas::drop_told))]
 fn read_form(
     alloc: Global,
-    source: &[u8],
     spot: Spot,
     lead: Lead,
-    tokens: &[Token],
+    tokens: LineTokens<'_>,
 ) -> Result<Taken, Trouble>
-    requires { spot.at + 1 + length tokens.now < 2 ^ 62 }
-    ensures read { Reads (read_form spot.place spot.seen spot.last spot.at lead (told source.now tokens.now)) result }
-    ensures few { IfOk result (λ taken. taken.more ≤ length tokens.now + 5) }
+    requires { spot.at + 1 + length (texts tokens) < 2 ^ 62 }
+    ensures read { Reads (read_form spot.place spot.seen spot.last spot.at lead (texts tokens.entry)) result }
+    ensures few { IfOk result (λ taken. taken.more ≤ length (texts tokens.entry) + 5) }
 {
     match lead {
-        Lead::Characters => read_quoted(alloc, spot, text_at(source, 0, tokens)),
+        Lead::Characters => read_quoted(alloc, spot, tokens.text(0)),
         Lead::One(c) => Ok(read_character(alloc, spot.seen, c)?),
-        Lead::Named(word) => read_word(alloc, source, spot, word, tokens),
-        Lead::Bracket => read_bracket(alloc, source, spot, behind(tokens, 1)),
+        Lead::Named(word) => read_word(alloc, spot, word, tokens),
+        Lead::Bracket => read_bracket(alloc, spot, tokens.behind(1)),
         Lead::Wrong(code) => Err(refused(spot.at, code)),
         Lead::Misplaced => Err(refused(spot.at, misplaced_code(spot.place))),
     }
@@ -151,19 +141,14 @@ fn read_form(
 
 /// One item, which tokens begin with.
 #[tactic(auto, unfolding(crate::specs::Item::read_item))]
-pub(crate) fn read_item(
-    alloc: Global,
-    source: &[u8],
-    spot: Spot,
-    tokens: &[Token],
-) -> Result<Taken, Trouble>
-    requires { spot.at + 1 + length tokens.now < 2 ^ 62 }
-    ensures read { Reads (read_item spot.place spot.seen spot.last spot.at (told source.now tokens.now)) result }
-    ensures few { IfOk result (λ taken. taken.more ≤ length tokens.now + 5) }
+pub(crate) fn read_item(alloc: Global, spot: Spot, tokens: LineTokens<'_>) -> Result<Taken, Trouble>
+    requires { spot.at + 1 + length (texts tokens) < 2 ^ 62 }
+    ensures read { Reads (read_item spot.place spot.seen spot.last spot.at (texts tokens.entry)) result }
+    ensures few { IfOk result (λ taken. taken.more ≤ length (texts tokens.entry) + 5) }
 {
-    let lead = lead_of(source, tokens);
+    let lead = lead_of(tokens);
     match standing_code(spot.place, spot.seen, lead) {
         Some(code) => Err(refused(spot.at, code)),
-        None => read_form(alloc, source, spot, lead, tokens),
+        None => read_form(alloc, spot, lead, tokens),
     }
 }

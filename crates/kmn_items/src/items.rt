@@ -1,14 +1,13 @@
 ghost use Rattle.std.specs.Prelude.{◌≡◌, ◌+◌, ◌<◌, ◌^◌, ◌++◌, IfOk, length};
-ghost use Rattle.kmn_items.specs.Told.{told, Reads};
+ghost use Rattle.kmn_items.specs.Told.{texts, Reads};
 ghost use Rattle.kmn_items.specs.Item.{unseen, is_item_word, read_items, read_key};
 
 use crate::item::{Spot, read_item, refused};
 use crate::numbers::is_number_word;
 use crate::syntax::{Seen, Trouble, Where};
+use crate::text::LineTokens;
 use crate::words::item_word;
-use kmn_base::slices::behind;
 use kmn_base::{Code, Memory, Seq};
-use kmn_lines::Token;
 use rule_model::SrcItem;
 use std::alloc::Global;
 
@@ -39,17 +38,16 @@ fn joined(items: Seq<SrcItem>, more: Seq<SrcItem>) -> Result<Seq<SrcItem>, Memor
 
 /// The items of a section. `at` is the place of its first token in the line, and `last` that of the line's last token,
 /// where an item breaks off at the latest.
-#[tactic(auto, using(crate::proofs::ToldLemmas::drop_told, crate::proofs::ToldLemmas::length_told, crate::proofs::ItemLemmas::items_step))]
+#[tactic(auto, using(crate::proofs::ItemLemmas::items_step))]
 pub fn read_items(
     alloc: Global,
-    source: &[u8],
     place: Where,
     last: usize,
     at: usize,
-    tokens: &[Token],
+    tokens: LineTokens<'_>,
 ) -> Result<Seq<SrcItem>, Trouble>
-    requires { at + length tokens.now < 2 ^ 60 }
-    ensures { Reads (read_items place unseen last 0 at (told source.now tokens.now)) result }
+    requires { at + length (texts tokens) < 2 ^ 60 }
+    ensures { Reads (read_items place unseen last 0 at (texts tokens.entry)) result }
 {
     let mut items = Seq::new(alloc);
     let mut seen = UNSEEN;
@@ -62,12 +60,12 @@ pub fn read_items(
             last,
             at: next,
         };
-        match read_item(alloc, source, spot, rest) {
+        match read_item(alloc, spot, rest) {
             Ok(taken) => {
                 items = joined(items, taken.items)?;
                 seen = taken.seen;
                 next += 1 + taken.more;
-                rest = behind(rest, 1 + taken.more);
+                rest = rest.behind(1 + taken.more);
             }
             Err(trouble) => return Err(trouble),
         }
@@ -76,18 +74,17 @@ pub fn read_items(
 }
 
 /// The one item of a key. `at` is the place of its first token in the line, and `last` that of the line's last token.
-#[tactic(auto, using(crate::proofs::ItemLemmas::last_item_push, crate::proofs::ToldLemmas::length_told))]
+#[tactic(auto, using(crate::proofs::ItemLemmas::last_item_push))]
 pub fn read_key(
     alloc: Global,
-    source: &[u8],
     last: usize,
     at: usize,
-    tokens: &[Token],
+    tokens: LineTokens<'_>,
 ) -> Result<SrcItem, Trouble>
-    requires { at + length tokens.now < 2 ^ 60 }
-    ensures { Reads (read_key last at (told source.now tokens.now)) result }
+    requires { at + length (texts tokens) < 2 ^ 60 }
+    ensures { Reads (read_key last at (texts tokens.entry)) result }
 {
-    let mut items = match read_items(alloc, source, Where::Key, last, at, tokens) {
+    let mut items = match read_items(alloc, Where::Key, last, at, tokens) {
         Ok(items) => items,
         Err(trouble) => return Err(trouble),
     };

@@ -1,10 +1,10 @@
 ghost use Rattle.std.specs.Prelude.{◌≡◌};
-ghost use Rattle.kmn_items.specs.Told.{told, told_token};
+ghost use Rattle.kmn_items.specs.Told.{texts, told_token};
 ghost use Rattle.kmn_items.specs.Leads.{followed, word_lead, token_lead, lead_of};
 
 use crate::numbers::{digits_lead, is_number_word, number_base, number_digits};
 use crate::syntax::{ItemWord, Lead};
-use crate::text::{begins_open, text_in};
+use crate::text::{LineTokens, begins_open, text_in};
 use crate::words::item_word;
 use kmn_lines::{Token, TokenKind};
 
@@ -45,11 +45,11 @@ fn token_lead(source: &[u8], opened: bool, token: Token) -> Lead
 }
 
 /// What the first of tokens says of the item that it begins.
-pub(crate) fn lead_of(source: &[u8], tokens: &[Token]) -> Lead
-    ensures { result ≡ lead_of (told source.now tokens.now) }
+pub(crate) fn lead_of(tokens: LineTokens<'_>) -> Lead
+    ensures { result ≡ lead_of (texts tokens.entry) }
 {
-    match tokens {
-        [token, rest @ ..] => token_lead(source, begins_open(source, rest), *token),
+    match tokens.tokens {
+        [token, ..] => token_lead(tokens.source, begins_open(tokens.behind(1)), *token),
         [] => Lead::Misplaced,
     }
 }

@@ -26,5 +26,5 @@ mod words;
 pub use items::{is_item_word, read_items, read_key};
 pub use slots::broken;
 pub use syntax::{Fault, ItemWord, Lead, Seen, Slot, Taken, Trouble, Where};
-pub use text::{begins_open, name_at, text_at, text_in};
+pub use text::{LineTokens, begins_open, text_in};
 pub use words::{bare_name, is_system_name};

@@ -1,10 +1,10 @@
 ghost use Rattle.std.specs.Prelude.{◌≡◌, ◌+◌, ◌<◌, ◌^◌, length};
-ghost use Rattle.kmn_items.specs.Told.{told, told_token};
+ghost use Rattle.kmn_items.specs.Told.{texts, told_token};
 ghost use Rattle.kmn_items.specs.Slots.{unless, offset_fault, slot_fault, cut_code, broken};
 
 use crate::numbers::is_offset;
 use crate::syntax::{Fault, Slot};
-use crate::text::{is_wordy, text_in};
+use crate::text::{LineTokens, is_wordy, text_in};
 use crate::words::{bare_name, is_key_name, is_name};
 use kmn_base::Code;
 use kmn_base::slices::behind;
@@ -91,25 +91,19 @@ fn cut_code(slot: Slot) -> Code
 
 /// The first token that breaks a form. `at` is the place of the first token in the line and `last` that of the line's
 /// last token, where a form breaks off at the latest.
-pub fn broken(
-    source: &[u8],
-    last: usize,
-    at: usize,
-    slots: &[Slot],
-    tokens: &[Token],
-) -> Option<Fault>
-    requires { at + length tokens.now < 2 ^ 62 }
-    ensures { result ≡ broken last at slots.now (told source.now tokens.now) }
+pub fn broken(last: usize, at: usize, slots: &[Slot], tokens: LineTokens<'_>) -> Option<Fault>
+    requires { at + length (texts tokens) < 2 ^ 62 }
+    ensures { result ≡ broken last at slots.now (texts tokens.entry) }
 {
-    match (slots, tokens) {
+    match (slots, tokens.tokens) {
         ([], _) => None,
         ([slot, ..], []) => Some(Fault {
             at: at.min(last),
             code: cut_code(*slot),
         }),
-        ([slot, slots @ ..], [token, tokens @ ..]) => match slot_fault(source, *slot, *token) {
+        ([slot, slots @ ..], [token, ..]) => match slot_fault(tokens.source, *slot, *token) {
             Some(code) => Some(Fault { at, code }),
-            None => broken(source, last, at + 1, slots, tokens),
+            None => broken(last, at + 1, slots, tokens.behind(1)),
         },
     }
 }

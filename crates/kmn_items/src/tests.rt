@@ -1,6 +1,6 @@
 //! Sections with blanks between their tokens, each with the number of its items, or the place and code of its first fault.
 
-use crate::{Trouble, Where, read_items};
+use crate::{LineTokens, Trouble, Where, read_items};
 use kmn_lines::{Token, TokenKind};
 use std::alloc::Global;
 use std::test::Fail;
@@ -38,13 +38,15 @@ fn tokens(alloc: Global, source: &str) -> Result<Vec<Token>, Fail> {
 fn answer(alloc: Global, place: Where, source: &str) -> Result<String, Fail> {
     let tokens = tokens(alloc, source)?;
     let last = tokens.len().saturating_sub(1);
-    Ok(
-        match read_items(alloc, source.as_bytes(), place, last, 0, &tokens) {
-            Ok(items) => format!(in alloc; "{}", items.len())?,
-            Err(Trouble::Broken(fault)) => format!(in alloc; "{} {}", fault.at, fault.code)?,
-            Err(Trouble::NoMemory) => format!(in alloc; "memory")?,
-        },
-    )
+    let line = LineTokens {
+        source: source.as_bytes(),
+        tokens: &tokens,
+    };
+    Ok(match read_items(alloc, place, last, 0, line) {
+        Ok(items) => format!(in alloc; "{}", items.len())?,
+        Err(Trouble::Broken(fault)) => format!(in alloc; "{} {}", fault.at, fault.code)?,
+        Err(Trouble::NoMemory) => format!(in alloc; "memory")?,
+    })
 }
 
 #[test]

@@ -1,5 +1,5 @@
 ghost use Rattle.std.specs.Prelude.{◌≡◌, IfOk, chars};
-ghost use Rattle.kmn_items.specs.Told.{text_of, text_at, told, is_wordy, begins_open, inside, quoted};
+ghost use Rattle.kmn_items.specs.Told.{text_of, text_at, texts, is_wordy, begins_open, inside, quoted};
 
 use kmn_base::slices::{before, behind};
 use kmn_base::{Memory, Seq, Text};
@@ -13,29 +13,77 @@ pub fn text_in<'a>(source: &'a [u8], token: Token) -> &'a [u8]
     behind(before(source, token.to as usize), token.from as usize)
 }
 
-/// The text of the token at a place; empty where there is none.
-#[tactic(auto, using(crate::proofs::ToldLemmas::get_told))]
-pub fn text_at<'a>(source: &'a [u8], place: usize, tokens: &[Token]) -> &'a [u8]
-    ensures { result.now ≡ text_at place (told source.now tokens.now) }
-{
-    match tokens.get(place) {
-        Some(token) => text_in(source, *token),
-        None => &[],
+/// Tokens that stand side by side in a line, with the source that has their texts.
+#[derive(Clone, Copy)]
+pub struct LineTokens<'a> {
+    pub source: &'a [u8],
+    pub tokens: &'a [Token],
+}
+
+impl<'a> LineTokens<'a> {
+    ghost use Rattle.std.specs.Prelude.{◌==◌, take, drop, length};
+
+    /// How many they are.
+    #[tactic(auto, using(crate::proofs::ToldLemmas::length_told))]
+    pub fn len(self) -> usize
+        ensures { result ≡ length (texts self.entry) }
+    {
+        self.tokens.len()
+    }
+
+    #[tactic(auto, using(crate::proofs::ToldLemmas::length_told))]
+    pub fn is_empty(self) -> bool
+        ensures { result ≡ (length (texts self.entry) == 0) }
+    {
+        self.tokens.is_empty()
+    }
+
+    /// All but the first tokens.
+    #[tactic(auto, using(crate::proofs::ToldLemmas::drop_told))]
+    pub fn behind(self, count: usize) -> LineTokens<'a>
+        ensures { texts result ≡ drop count (texts self.entry) }
+    {
+        LineTokens {
+            source: self.source,
+            tokens: behind(self.tokens, count),
+        }
+    }
+
+    /// The first tokens, or all where there are fewer.
+    #[tactic(auto, using(crate::proofs::ToldLemmas::take_told))]
+    pub fn before(self, count: usize) -> LineTokens<'a>
+        ensures { texts result ≡ take count (texts self.entry) }
+    {
+        LineTokens {
+            source: self.source,
+            tokens: before(self.tokens, count),
+        }
+    }
+
+    /// The text of the token at a place; empty where there is none.
+    #[tactic(auto, using(crate::proofs::ToldLemmas::get_told))]
+    pub fn text(self, place: usize) -> &'a [u8]
+        ensures { result.now ≡ text_at place (texts self.entry) }
+    {
+        match self.tokens.get(place) {
+            Some(token) => text_in(self.source, *token),
+            None => &[],
+        }
+    }
+
+    /// The text of the token at a place, as a text of its own.
+    pub fn name(self, alloc: Global, place: usize) -> Result<Text, Memory>
+        ensures { IfOk result (λ name. name ≡ text_at place (texts self.entry)) }
+    {
+        Seq::from_slice(alloc, self.text(place))
     }
 }
 
-/// The text of the token at a place, as a text of its own.
-pub fn name_at(alloc: Global, source: &[u8], place: usize, tokens: &[Token]) -> Result<Text, Memory>
-    ensures { IfOk result (λ name. name ≡ text_at place (told source.now tokens.now)) }
-{
-    Seq::from_slice(alloc, text_at(source, place, tokens))
-}
-
 /// Whether a parenthesis opens at the first token.
-pub fn begins_open(source: &[u8], tokens: &[Token]) -> bool
-    ensures { result ≡ begins_open (told source.now tokens.now) }
+pub fn begins_open(tokens: LineTokens<'_>) -> bool
+    ensures { result ≡ begins_open (texts tokens.entry) }
 {
-    match tokens {
+    match tokens.tokens {
         [token, ..] => matches!(token.kind, TokenKind::Open),
         [] => false,
     }

@@ -8,7 +8,7 @@ use crate::line::read_line;
 use crate::statement::Statement;
 use kmn_base::limits::TEXT_BYTES;
 use kmn_base::{Code, CompileError, Memory, Refusal, Seq};
-use kmn_items::Trouble;
+use kmn_items::{LineTokens, Trouble};
 use kmn_lines::{Logical, Token, lines};
 use kmn_tokens::tokens;
 use rule_model::{GroupDef, Program, RuleDef};
@@ -91,7 +91,11 @@ fn read_on(
         return Ok(());
     }
     let line = logical.first_line;
-    match read_line(alloc, source.as_bytes(), reading.group, line, tokens) {
+    let tokens = LineTokens {
+        source: source.as_bytes(),
+        tokens,
+    };
+    match read_line(alloc, reading.group, line, tokens) {
         Ok(statement) => {
             reading.group = group_after(reading.group, &statement);
             add_statement(&mut reading.program, statement)

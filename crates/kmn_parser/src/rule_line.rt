@@ -1,14 +1,13 @@
 //! Rules, and what a group does after a match or where nothing matches.
 
 ghost use Rattle.std.specs.Prelude.{◌≡◌, ◌+◌, ◌<◌, ◌≤◌, ◌^◌, length};
-ghost use Rattle.kmn_items.specs.Told.{told, told_token, Reads};
+ghost use Rattle.kmn_items.specs.Told.{texts, told_token, Reads};
 ghost use Rattle.kmn_parser.specs.Line.{no_group, is_empty_quote, has_items, no_output, match_fault, read_match, begins_rule, uses_keys, rule_head, rule_key, rule_body, code_number, earlier, rule_at, read_rule};
 
 use crate::signs::place_of;
 use crate::statement::{Sign, Statement};
-use kmn_base::slices::{before, behind};
 use kmn_base::{Code, Seq};
-use kmn_items::{Fault, Trouble, Where, is_item_word, read_items, read_key, text_in};
+use kmn_items::{Fault, LineTokens, Trouble, Where, is_item_word, read_items, read_key, text_in};
 use kmn_lines::{Token, TokenKind};
 use rule_model::{RuleDef, RuleKind, SrcItem};
 use std::alloc::Global;
@@ -38,10 +37,14 @@ fn is_empty_quote(source: &[u8], token: Token) -> bool
 }
 
 /// Whether some token stands for an item.
-fn has_items(source: &[u8], tokens: &[Token]) -> bool
-    ensures { result ≡ has_items (told source.now tokens.now) }
+fn has_items(tokens: LineTokens<'_>) -> bool
+    ensures { result ≡ has_items (texts tokens.entry) }
 {
-    for token in tokens {
+    let LineTokens {
+        source,
+        tokens: all,
+    } = tokens;
+    for token in all {
         if !is_empty_quote(source, *token) {
             return true;
         }
@@ -50,13 +53,12 @@ fn has_items(source: &[u8], tokens: &[Token]) -> bool
 }
 
 /// The code of a statement without an output, with the first `>` at a place.
-#[tactic(auto, using(kmn_items::proofs::ToldLemmas::drop_told, kmn_items::proofs::ToldLemmas::length_told))]
-fn no_output(source: &[u8], arrow: usize, tokens: &[Token]) -> Option<Code>
-    ensures { result ≡ no_output arrow (told source.now tokens.now) }
+fn no_output(arrow: usize, tokens: LineTokens<'_>) -> Option<Code>
+    ensures { result ≡ no_output arrow (texts tokens.entry) }
 {
     if tokens.len() <= arrow {
         Some(Code::S04)
-    } else if has_items(source, behind(tokens, arrow + 1)) {
+    } else if has_items(tokens.behind(arrow + 1)) {
         None
     } else {
         Some(Code::S06)
@@ -65,13 +67,13 @@ fn no_output(source: &[u8], arrow: usize, tokens: &[Token]) -> Option<Code>
 
 /// The first fault of a match or nomatch statement before its output.
 #[tactic(auto, unfolding(crate::specs::Line::match_fault))]
-fn match_fault(source: &[u8], group: Option<bool>, arrow: usize, tokens: &[Token]) -> Option<Fault>
-    ensures { result ≡ match_fault group arrow (told source.now tokens.now) }
+fn match_fault(group: Option<bool>, arrow: usize, tokens: LineTokens<'_>) -> Option<Fault>
+    ensures { result ≡ match_fault group arrow (texts tokens.entry) }
 {
     if let Some(code) = no_group(group) {
         return Some(Fault { at: 0, code });
     }
-    if let Some(code) = no_output(source, arrow, tokens) {
+    if let Some(code) = no_output(arrow, tokens) {
         return Some(Fault { at: 0, code });
     }
     if arrow == 1 {
@@ -85,24 +87,23 @@ fn match_fault(source: &[u8], group: Option<bool>, arrow: usize, tokens: &[Token
 }
 
 /// Reads a match or nomatch statement.
-#[tactic(auto, unfolding(crate::specs::Line::read_match), using(kmn_items::proofs::ToldLemmas::drop_told, kmn_items::proofs::ToldLemmas::length_told))]
+#[tactic(auto, unfolding(crate::specs::Line::read_match))]
 pub(crate) fn read_match(
     alloc: Global,
-    source: &[u8],
     kind: RuleKind,
     group: Option<bool>,
     line: u32,
     last: usize,
-    tokens: &[Token],
+    tokens: LineTokens<'_>,
 ) -> Result<Statement, Trouble>
-    requires { length tokens.now < 2 ^ 59 }
-    ensures { Reads (read_match kind group line last (told source.now tokens.now)) result }
+    requires { length (texts tokens) < 2 ^ 59 }
+    ensures { Reads (read_match kind group line last (texts tokens.entry)) result }
 {
-    let arrow = place_of(source, Sign::Arrow, tokens);
-    if let Some(fault) = match_fault(source, group, arrow, tokens) {
+    let arrow = place_of(Sign::Arrow, tokens);
+    if let Some(fault) = match_fault(group, arrow, tokens) {
         return Err(Trouble::Broken(fault));
     }
-    match read_items(alloc, source, Where::Output, last, 2, behind(tokens, 2)) {
+    match read_items(alloc, Where::Output, last, 2, tokens.behind(2)) {
         Ok(output) => Ok(Statement::Rule(RuleDef {
             line,
             kind,
@@ -115,13 +116,13 @@ pub(crate) fn read_match(
 }
 
 /// Whether tokens begin as a rule can that has no `>`.
-fn begins_rule(source: &[u8], tokens: &[Token]) -> bool
-    ensures { result ≡ begins_rule (told source.now tokens.now) }
+fn begins_rule(tokens: LineTokens<'_>) -> bool
+    ensures { result ≡ begins_rule (texts tokens.entry) }
 {
-    match tokens {
+    match tokens.tokens {
         [token, ..] => match token.kind {
             TokenKind::Quoted | TokenKind::Number(_) | TokenKind::Plus => true,
-            TokenKind::Word => is_item_word(text_in(source, *token)),
+            TokenKind::Word => is_item_word(text_in(tokens.source, *token)),
             _ => false,
         },
         [] => false,
@@ -136,17 +137,17 @@ fn uses_keys(group: Option<bool>) -> bool
 }
 
 /// The least code of a rule that stands at its first token.
-#[tactic(auto, unfolding(crate::specs::Line::rule_head), using(kmn_items::proofs::ToldLemmas::length_told))]
-fn rule_head(source: &[u8], group: Option<bool>, signs: Signs, tokens: &[Token]) -> Option<Code>
-    ensures { result ≡ rule_head group signs.arrow signs.plus (told source.now tokens.now) }
+#[tactic(auto, unfolding(crate::specs::Line::rule_head))]
+fn rule_head(group: Option<bool>, signs: Signs, tokens: LineTokens<'_>) -> Option<Code>
+    ensures { result ≡ rule_head group signs.arrow signs.plus (texts tokens.entry) }
 {
-    if tokens.len() <= signs.arrow && !begins_rule(source, tokens) {
+    if tokens.len() <= signs.arrow && !begins_rule(tokens) {
         return Some(Code::S01);
     }
     if let Some(code) = no_group(group) {
         return Some(code);
     }
-    if let Some(code) = no_output(source, signs.arrow, tokens) {
+    if let Some(code) = no_output(signs.arrow, tokens) {
         return Some(code);
     }
     if uses_keys(group) && signs.arrow <= signs.plus {
@@ -157,18 +158,17 @@ fn rule_head(source: &[u8], group: Option<bool>, signs: Signs, tokens: &[Token])
 }
 
 /// The key of a rule, which stands between `+` and `>`.
-#[tactic(auto, unfolding(crate::specs::Line::rule_key), using(kmn_items::proofs::ToldLemmas::drop_told, kmn_items::proofs::ToldLemmas::take_told))]
+#[tactic(auto, unfolding(crate::specs::Line::rule_key))]
 fn rule_key(
     alloc: Global,
-    source: &[u8],
     group: Option<bool>,
     last: usize,
     signs: Signs,
-    tokens: &[Token],
+    tokens: LineTokens<'_>,
 ) -> Result<Option<SrcItem>, Trouble>
-    requires few { length tokens.now < 2 ^ 59 }
-    requires within { signs.arrow ≤ length tokens.now }
-    ensures { Reads (rule_key group last signs.arrow signs.plus (told source.now tokens.now)) result }
+    requires few { length (texts tokens) < 2 ^ 59 }
+    requires within { signs.arrow ≤ length (texts tokens) }
+    ensures { Reads (rule_key group last signs.arrow signs.plus (texts tokens.entry)) result }
 {
     if signs.arrow <= signs.plus {
         return Ok(None);
@@ -179,46 +179,38 @@ fn rule_key(
             code: Code::S07,
         }));
     }
-    let key = behind(before(tokens, signs.arrow), signs.plus + 1);
-    match read_key(alloc, source, last, signs.plus + 1, key) {
+    let key = tokens.before(signs.arrow).behind(signs.plus + 1);
+    match read_key(alloc, last, signs.plus + 1, key) {
         Ok(item) => Ok(Some(item)),
         Err(trouble) => Err(trouble),
     }
 }
 
 /// Reads the items of a rule, section by section.
-#[tactic(auto, unfolding(crate::specs::Line::rule_body), using(kmn_items::proofs::ToldLemmas::drop_told, kmn_items::proofs::ToldLemmas::take_told))]
+#[tactic(auto, unfolding(crate::specs::Line::rule_body))]
 fn rule_body(
     alloc: Global,
-    source: &[u8],
     group: Option<bool>,
     line: u32,
     last: usize,
     signs: Signs,
-    tokens: &[Token],
+    tokens: LineTokens<'_>,
 ) -> Result<RuleDef, Trouble>
-    requires few { length tokens.now < 2 ^ 59 }
-    requires within { signs.arrow ≤ length tokens.now }
-    ensures { Reads (rule_body group line last signs.arrow signs.plus (told source.now tokens.now)) result }
+    requires few { length (texts tokens) < 2 ^ 59 }
+    requires within { signs.arrow ≤ length (texts tokens) }
+    ensures { Reads (rule_body group line last signs.arrow signs.plus (texts tokens.entry)) result }
 {
-    let before = before(tokens, signs.plus);
-    let context = match read_items(alloc, source, Where::Context, last, 0, before) {
+    let before = tokens.before(signs.plus);
+    let context = match read_items(alloc, Where::Context, last, 0, before) {
         Ok(context) => context,
         Err(trouble) => return Err(trouble),
     };
-    let key = match rule_key(alloc, source, group, last, signs, tokens) {
+    let key = match rule_key(alloc, group, last, signs, tokens) {
         Ok(key) => key,
         Err(trouble) => return Err(trouble),
     };
     let place = signs.arrow + 1;
-    match read_items(
-        alloc,
-        source,
-        Where::Output,
-        last,
-        place,
-        behind(tokens, place),
-    ) {
+    match read_items(alloc, Where::Output, last, place, tokens.behind(place)) {
         Ok(output) => Ok(RuleDef {
             line,
             kind: RuleKind::Plain,
@@ -268,19 +260,18 @@ fn earlier(head: Code, found: Fault) -> Fault
 /// Reads a rule whose signs stand at their places.
 fn rule_at(
     alloc: Global,
-    source: &[u8],
     group: Option<bool>,
     line: u32,
     last: usize,
     signs: Signs,
-    tokens: &[Token],
+    tokens: LineTokens<'_>,
 ) -> Result<Statement, Trouble>
-    requires few { length tokens.now < 2 ^ 59 }
-    requires within { signs.arrow ≤ length tokens.now }
-    ensures { Reads (rule_at group line last signs.arrow signs.plus (told source.now tokens.now)) result }
+    requires few { length (texts tokens) < 2 ^ 59 }
+    requires within { signs.arrow ≤ length (texts tokens) }
+    ensures { Reads (rule_at group line last signs.arrow signs.plus (texts tokens.entry)) result }
 {
-    let head = rule_head(source, group, signs, tokens);
-    match rule_body(alloc, source, group, line, last, signs, tokens) {
+    let head = rule_head(group, signs, tokens);
+    match rule_body(alloc, group, line, last, signs, tokens) {
         Ok(rule) => match head {
             None => Ok(Statement::Rule(rule)),
             Some(code) => Err(Trouble::Broken(Fault { at: 0, code })),
@@ -294,27 +285,18 @@ fn rule_at(
 }
 
 /// Reads a rule.
-#[tactic(auto, unfolding(crate::specs::Line::read_rule), using(kmn_items::proofs::ToldLemmas::take_told))]
+#[tactic(auto, unfolding(crate::specs::Line::read_rule))]
 pub(crate) fn read_rule(
     alloc: Global,
-    source: &[u8],
     group: Option<bool>,
     line: u32,
     last: usize,
-    tokens: &[Token],
+    tokens: LineTokens<'_>,
 ) -> Result<Statement, Trouble>
-    requires { length tokens.now < 2 ^ 59 }
-    ensures { Reads (read_rule group line last (told source.now tokens.now)) result }
+    requires { length (texts tokens) < 2 ^ 59 }
+    ensures { Reads (read_rule group line last (texts tokens.entry)) result }
 {
-    let arrow = place_of(source, Sign::Arrow, tokens);
-    let plus = place_of(source, Sign::Plus, before(tokens, arrow));
-    rule_at(
-        alloc,
-        source,
-        group,
-        line,
-        last,
-        Signs { arrow, plus },
-        tokens,
-    )
+    let arrow = place_of(Sign::Arrow, tokens);
+    let plus = place_of(Sign::Plus, tokens.before(arrow));
+    rule_at(alloc, group, line, last, Signs { arrow, plus }, tokens)
 }

@@ -2,13 +2,12 @@
 
 ghost use Rattle.std.specs.Prelude.{◌≡◌, ◌≤◌, length};
 ghost use Rattle.std.specs.List.{position_or_len};
-ghost use Rattle.kmn_items.specs.Told.{told};
+ghost use Rattle.kmn_items.specs.Told.{texts};
 ghost use Rattle.kmn_parser.specs.Line.{is_sign, place_of, begins_word, behind_close};
 
 use crate::statement::Sign;
 use kmn_base::names::same_name;
-use kmn_base::slices::behind;
-use kmn_items::text_in;
+use kmn_items::{LineTokens, text_in};
 use kmn_lines::{Token, TokenKind};
 
 /// Whether a token is a sign.
@@ -38,30 +37,29 @@ fn sign_place(sign: Sign, tokens: &[Token]) -> usize
 }
 
 /// The place of the first token that is a sign, or the number of the tokens, which have their texts in a source.
-#[tactic(auto, using(crate::proofs::LineLemmas::place_told))]
-pub(crate) fn place_of(source: &[u8], sign: Sign, tokens: &[Token]) -> usize
-    ensures place { result ≡ place_of sign (told source.now tokens.now) }
-    ensures within { result ≤ length tokens.now }
+#[tactic(auto, using(crate::proofs::LineLemmas::place_told, kmn_items::proofs::ToldLemmas::length_told))]
+pub(crate) fn place_of(sign: Sign, tokens: LineTokens<'_>) -> usize
+    ensures place { result ≡ place_of sign (texts tokens.entry) }
+    ensures within { result ≤ length (texts tokens.entry) }
 {
-    sign_place(sign, tokens)
+    sign_place(sign, tokens.tokens)
 }
 
 /// Whether tokens begin with a word, in any ASCII case.
-pub(crate) fn begins_word(source: &[u8], word: &[u8], tokens: &[Token]) -> bool
-    ensures { result ≡ begins_word word.now (told source.now tokens.now) }
+pub(crate) fn begins_word(word: &[u8], tokens: LineTokens<'_>) -> bool
+    ensures { result ≡ begins_word word.now (texts tokens.entry) }
 {
-    match tokens {
+    match tokens.tokens {
         [token, ..] => {
-            matches!(token.kind, TokenKind::Word) && same_name(word, text_in(source, *token))
+            matches!(token.kind, TokenKind::Word) && same_name(word, text_in(tokens.source, *token))
         }
         [] => false,
     }
 }
 
 /// The tokens behind the first `)`.
-#[tactic(auto, using(kmn_items::proofs::ToldLemmas::drop_told))]
-pub(crate) fn behind_close<'a>(source: &[u8], tokens: &'a [Token]) -> &'a [Token]
-    ensures { told source.now result.now ≡ behind_close (told source.now tokens.now) }
+pub(crate) fn behind_close<'a>(tokens: LineTokens<'a>) -> LineTokens<'a>
+    ensures { texts result ≡ behind_close (texts tokens.entry) }
 {
-    behind(tokens, place_of(source, Sign::Close, tokens) + 1)
+    tokens.behind(place_of(Sign::Close, tokens) + 1)
 }

@@ -2,18 +2,16 @@
 
 ghost use Rattle.std.specs.Prelude.{◌≡◌, ◌+◌, ◌<◌, ◌^◌, length, is_some, IfOk};
 ghost use Rattle.kmn_base.specs.Names.{named_in};
-ghost use Rattle.kmn_items.specs.Told.{told, Reads};
+ghost use Rattle.kmn_items.specs.Told.{texts, Reads};
 ghost use Rattle.kmn_parser.specs.Line.{system_stores, store_system, store_form, store_fault, store_def, read_store};
 
 use crate::statement::Statement;
 use kmn_base::names::named_in;
-use kmn_base::slices::behind;
 use kmn_base::{Code, Memory, Seq};
 use kmn_items::{
-    Fault, Slot, Trouble, Where, bare_name, begins_open, broken, is_system_name, read_items,
-    text_at,
+    Fault, LineTokens, Slot, Trouble, Where, bare_name, begins_open, broken, is_system_name,
+    read_items,
 };
-use kmn_lines::Token;
 use rule_model::{SrcItem, StoreDef};
 use std::alloc::Global;
 
@@ -68,32 +66,31 @@ fn store_system(name: &[u8]) -> Option<u32>
 }
 
 /// The fault of a store's name and of what closes it.
-#[tactic(auto, using(kmn_items::proofs::ToldLemmas::drop_told, kmn_items::proofs::ToldLemmas::length_told))]
-fn store_form(source: &[u8], last: usize, tokens: &[Token]) -> Option<Fault>
-    requires { length tokens.now < 2 ^ 59 }
-    ensures { result ≡ store_form last (told source.now tokens.now) }
+fn store_form(last: usize, tokens: LineTokens<'_>) -> Option<Fault>
+    requires { length (texts tokens) < 2 ^ 59 }
+    ensures { result ≡ store_form last (texts tokens.entry) }
 {
-    if let Some(fault) = broken(source, last, 2, &[Slot::StoreName], behind(tokens, 2)) {
+    if let Some(fault) = broken(last, 2, &[Slot::StoreName], tokens.behind(2)) {
         return Some(fault);
     }
-    let rest = behind(tokens, 3);
-    if !rest.is_empty() && store_system(text_at(source, 2, tokens)).is_none() {
+    let rest = tokens.behind(3);
+    if !rest.is_empty() && store_system(tokens.text(2)).is_none() {
         return Some(Fault {
             at: 2,
             code: Code::S12,
         });
     }
-    broken(source, last, 3, &[Slot::Close], rest)
+    broken(last, 3, &[Slot::Close], rest)
 }
 
 /// The first fault of a store statement before its items.
-#[tactic(auto, unfolding(crate::specs::Line::store_fault), using(kmn_items::proofs::ToldLemmas::drop_told))]
-fn store_fault(source: &[u8], last: usize, tokens: &[Token]) -> Option<Fault>
-    requires { length tokens.now < 2 ^ 59 }
-    ensures { result ≡ store_fault last (told source.now tokens.now) }
+#[tactic(auto, unfolding(crate::specs::Line::store_fault))]
+fn store_fault(last: usize, tokens: LineTokens<'_>) -> Option<Fault>
+    requires { length (texts tokens) < 2 ^ 59 }
+    ensures { result ≡ store_fault last (texts tokens.entry) }
 {
-    if begins_open(source, behind(tokens, 1)) {
-        store_form(source, last, tokens)
+    if begins_open(tokens.behind(1)) {
+        store_form(last, tokens)
     } else {
         Some(Fault {
             at: 0,
@@ -120,27 +117,21 @@ fn store_def(alloc: Global, line: u32, name: &[u8], items: Seq<SrcItem>) -> Resu
 }
 
 /// Reads a store statement.
-#[tactic(auto, unfolding(crate::specs::Line::read_store), using(kmn_items::proofs::ToldLemmas::drop_told))]
+#[tactic(auto, unfolding(crate::specs::Line::read_store))]
 pub(crate) fn read_store(
     alloc: Global,
-    source: &[u8],
     line: u32,
     last: usize,
-    tokens: &[Token],
+    tokens: LineTokens<'_>,
 ) -> Result<Statement, Trouble>
-    requires { length tokens.now < 2 ^ 59 }
-    ensures { Reads (read_store line last (told source.now tokens.now)) result }
+    requires { length (texts tokens) < 2 ^ 59 }
+    ensures { Reads (read_store line last (texts tokens.entry)) result }
 {
-    if let Some(fault) = store_fault(source, last, tokens) {
+    if let Some(fault) = store_fault(last, tokens) {
         return Err(Trouble::Broken(fault));
     }
-    match read_items(alloc, source, Where::Store, last, 4, behind(tokens, 4)) {
-        Ok(items) => Ok(Statement::Store(store_def(
-            alloc,
-            line,
-            text_at(source, 2, tokens),
-            items,
-        )?)),
+    match read_items(alloc, Where::Store, last, 4, tokens.behind(4)) {
+        Ok(items) => Ok(Statement::Store(store_def(alloc, line, tokens.text(2), items)?)),
         Err(trouble) => Err(trouble),
     }
 }

@@ -5,4 +5,4 @@ use Rattle.kmn_items.specs.Brackets.{with_flag, flags_of}
 use Rattle.kmn_items.proofs.brackets.flags_of.Given as goal
 
 abbrev pub invariant-loop-token : goal.invariant-loop-token
-invariant-loop-token l = fold with_flag l.flags (told l.source (drop l.token-index l.tokens)) ≡ flags_of (told l.source l.tokens)
+invariant-loop-token l = fold with_flag l.flags (told l.source (drop l.token-index l.all)) ≡ flags_of (told l.source l.all)

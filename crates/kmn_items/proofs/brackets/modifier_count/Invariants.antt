@@ -4,4 +4,4 @@ use Rattle.kmn_items.specs.Brackets.{modifier_count}
 use Rattle.kmn_items.proofs.brackets.modifier_count.Given as goal
 
 abbrev pub invariant-loop-count : goal.invariant-loop-count
-invariant-loop-count l = l.count + modifier_count (told l.source (drop l.count l.tokens)) ≡ modifier_count (told l.source l.tokens)
+invariant-loop-count l = l.count + modifier_count (told l.source (drop l.count l.all)) ≡ modifier_count (told l.source l.all)

@@ -1,26 +1,21 @@
-use Rattle.std.proofs.Common.{◌≡◌, ◌+◌, ◌<◌, List, length, drop, Result, Err, sym, ap, subst, ◌∙◌, arith, length-drop}
+use Rattle.std.proofs.Common.{◌+◌, ◌<◌, List, length, Result, Err, sym, ap, subst, ◌∙◌, arith, length-drop}
 use Rattle.std.proofs.lemmas.Grind.{common_steps}
 use Rattle.rule_model.specs.declared.program.SrcItem.{SrcItem}
 use Rattle.kmn_items.specs.declared.syntax.Fault.{Fault}
-use Rattle.kmn_items.specs.Told.{told, Reads}
+use Rattle.kmn_items.specs.Told.{texts, Reads}
 use Rattle.kmn_items.specs.Item.{prepend, read_items}
-use Rattle.kmn_items.proofs.ToldLemmas.{drop_told, length_told}
 use Rattle.kmn_items.proofs.ItemLemmas.{items_step, items_stop}
 use Rattle.kmn_items.proofs.items.read_items.Goals as goal
 
 pub items-preserved : goal.items-preserved
 items-preserved c =
-    let source = c.args.source.now in
-    let rest = c.items.rest.now in
-    let tokens = told source rest in
-    let some : 0 < length rest = let t = c.items-test in let e = c.is_empty.ensures in grind (arith, common_steps, t, e) in
-    let many : 0 < length tokens = omega (arith, length_told source rest, some) in
-    let step = items_step c.args.place c.items.seen c.args.last c.items.next c.items.items tokens c.in-Ok.taken many c.in-Ok.ensures.read in
-    let behind : told source c.behind-rest.result.now ≡ drop (1 + c.in-Ok.taken.more) tokens
-    = ap (told source) c.behind-rest.ensures ∙ sym (drop_told source rest (1 + c.in-Ok.taken.more)) in
+    let rest = texts c.items.rest in
+    let many : 0 < length rest = let t = c.items-test in let e = c.is_empty.ensures in grind (arith, common_steps, t, e) in
+    let step = items_step c.args.place c.items.seen c.args.last c.items.next c.items.items rest c.in-Ok.taken many c.in-Ok.ensures.read in
+    let behind = c.behind-rest.ensures in
     let appended = c.in_ok-items-in-Ok.ensures in
-    let sizes = ap length c.behind-rest.ensures ∙ length-drop (1 + c.in-Ok.taken.more) rest in
-    let before = c.items.invariant.few some in
+    let sizes = ap length behind ∙ length-drop (1 + c.in-Ok.taken.more) rest in
+    let before = c.items.invariant.few many in
     record {
       read = (λ j. prepend (appended j) (read_items c.args.place c.in-Ok.taken.seen c.args.last 0 (c.items.next + (1 + c.in-Ok.taken.more)) (behind j))) ∙ sym step ∙ c.items.invariant.read;
       few = λ left. omega (arith, sizes, before, left);
@@ -28,9 +23,7 @@ items-preserved c =
 
 pub returns-in-Err : goal.returns-in-Err
 returns-in-Err c =
-    let source = c.args.source.now in
-    let rest = c.items.rest.now in
-    let some : 0 < length rest = let t = c.items-test in let e = c.is_empty.ensures in grind (arith, common_steps, t, e) in
-    let many : 0 < length (told source rest) = omega (arith, length_told source rest, some) in
-    let stops = items_stop c.args.place c.items.seen c.args.last c.items.next c.items.items (told source rest) c.in-Err.trouble many c.in-Err.ensures.read in
+    let rest = texts c.items.rest in
+    let many : 0 < length rest = let t = c.items-test in let e = c.is_empty.ensures in grind (arith, common_steps, t, e) in
+    let stops = items_stop c.args.place c.items.seen c.args.last c.items.next c.items.items rest c.in-Err.trouble many c.in-Err.ensures.read in
     subst (λ (read : Result (List SrcItem) Fault). Reads read (Err c.in-Err.trouble)) c.items.invariant.read stops

@@ -4,4 +4,4 @@ use Rattle.kmn_items.specs.Told.{told}
 use Rattle.kmn_parser.proofs.rule_line.has_items.Given as goal
 
 abbrev pub invariant-loop-token : goal.invariant-loop-token
-invariant-loop-token l = has_items (told l.source (drop l.token-index l.tokens)) ≡ has_items (told l.source l.tokens)
+invariant-loop-token l = has_items (told l.source (drop l.token-index l.all)) ≡ has_items (told l.source l.all)
