@@ -108,8 +108,5 @@ pub fn write(alloc: Global, tables: &Tables, picture: &[u8]) -> Result<Seq<u8>, 
             size,
         });
     }
-    match file(alloc, tables, &places, picture) {
-        Ok(bytes) => Ok(bytes),
-        Err(Memory) => Err(CompileError::Memory),
-    }
+    Ok(file(alloc, tables, &places, picture)?)
 }

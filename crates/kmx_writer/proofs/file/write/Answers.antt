@@ -15,9 +15,9 @@ returns-then-size-clause-refused c =
 pub file-requires-clause-spellable : goal.file-requires-clause-spellable
 file-requires-clause-spellable c = spellable c.args.tables.now c.requires
 
-pub returns-in-Ok-clause-file : goal.returns-in-Ok-clause-file
-returns-in-Ok-clause-file c =
-    is_file c.args.tables.now c.args.picture.now _ c.requires (omega arith) (omega (arith, c.places_of-places.ensures.picture)) c.in-Ok.ensures
+pub returns-clause-file : goal.returns-clause-file
+returns-clause-file c =
+    is_file c.args.tables.now c.args.picture.now _ c.requires (omega arith) (omega (arith, c.places_of-places.ensures.picture)) c.in_ok-file.ensures
 
-pub returns-in-Ok-clause-within : goal.returns-in-Ok-clause-within
-returns-in-Ok-clause-within c = no_excess c.args.tables.now c.args.picture.now (omega arith) (omega (arith, c.places_of-places.ensures.picture))
+pub returns-clause-within : goal.returns-clause-within
+returns-clause-within c = no_excess c.args.tables.now c.args.picture.now (omega arith) (omega (arith, c.places_of-places.ensures.picture))
