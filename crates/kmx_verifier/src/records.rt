@@ -28,12 +28,12 @@ fn stores_from(alloc: Global, bytes: &[u8], place: u32, count: u32) -> Result<Se
     requires { length bytes.now ≤ FILE_BYTES }
     ensures { IfOk result (λ stores. stores ≡ stores_from bytes.now place count) }
 {
-    let mut stores = Vec::new(alloc);
+    let mut stores = Seq::new(alloc);
     for i in 0..count as usize {
         let store = store_at(alloc, bytes, place as usize + STORE_BYTES * i)?;
-        stores.push(store)?;
+        stores.add(store)?;
     }
-    Ok(Seq::from_vec(stores))
+    Ok(stores)
 }
 
 fn key_of(using_keys: bool, code: u16, flags: u32) -> RuleKey
@@ -73,12 +73,12 @@ fn rules_from(
     requires { length bytes.now ≤ FILE_BYTES }
     ensures { IfOk result (λ rules. rules ≡ rules_from bytes.now using_keys place count) }
 {
-    let mut rules = Vec::new(alloc);
+    let mut rules = Seq::new(alloc);
     for i in 0..count as usize {
         let rule = rule_at(alloc, bytes, using_keys, place as usize + RULE_BYTES * i)?;
-        rules.push(rule)?;
+        rules.add(rule)?;
     }
-    Ok(Seq::from_vec(rules))
+    Ok(rules)
 }
 
 fn group_at(alloc: Global, bytes: &[u8], place: usize) -> Result<Group, Memory>
@@ -107,12 +107,12 @@ fn groups_from(alloc: Global, bytes: &[u8], place: u32, count: u32) -> Result<Se
     requires { length bytes.now ≤ FILE_BYTES }
     ensures { IfOk result (λ groups. groups ≡ groups_from bytes.now place count) }
 {
-    let mut groups = Vec::new(alloc);
+    let mut groups = Seq::new(alloc);
     for i in 0..count as usize {
         let group = group_at(alloc, bytes, place as usize + GROUP_BYTES * i)?;
-        groups.push(group)?;
+        groups.add(group)?;
     }
-    Ok(Seq::from_vec(groups))
+    Ok(groups)
 }
 
 /// The tables that the bytes have.

@@ -4,6 +4,7 @@ ghost use Rattle.std.specs.Prelude.{◌≡◌, ◌≤◌, length, IfOk};
 ghost use Rattle.kmn_base.specs.Spelling.{unit_bytes, whole_units};
 ghost use Rattle.kmx_format.specs.TablesOf.{before_zero, string_at, name_at};
 
+use kmn_base::slices::behind;
 use kmn_base::{Memory, Seq, Text};
 use std::alloc::Global;
 
@@ -28,11 +29,10 @@ pub(crate) fn string_bytes(bytes: &[u8], offset: u32) -> &[u8]
     ensures units { result.now ≡ unit_bytes (string_at bytes.now offset) }
     ensures within { length result.now ≤ length bytes.now }
 {
-    let offset = offset as usize;
-    if offset == 0 || bytes.len() < offset {
+    if offset == 0 {
         return &[];
     }
-    bytes_before_zero(&bytes[offset..])
+    bytes_before_zero(behind(bytes, offset as usize))
 }
 
 /// The whole units of bytes.

@@ -1,5 +1,5 @@
 use crate::{Fault, VerifyError, adopt};
-use kmn_base::{Code, Element, RuleKey};
+use kmn_base::{Code, RuleKey};
 use rule_model::Out;
 use std::test::Fail;
 
@@ -26,80 +26,36 @@ const TWO_KEYS: [u8; 206] = [
 ];
 
 #[test]
-fn one_rule(rt: HostRuntime) -> Result<(), Fail> {
-    let file = adopt(rt.alloc(), &ONE_RULE)?;
-    let tables = file.tables();
-    assert_eq!(rt;
-        (tables.version, tables.start_ansi, tables.start_unicode),
-        (0x0A00, 0xFFFF_FFFF, 0)
-    );
+fn worked_files(rt: HostRuntime) -> Result<(), Fail> {
+    let one_rule = adopt(rt.alloc(), &ONE_RULE)?;
+    assert_eq!(rt; one_rule.bytes(), ONE_RULE.as_slice());
     assert_eq!(rt;
         (
-            file.version(),
-            file.store_count(),
-            file.group_count(),
-            file.rule_count()
+            one_rule.version(),
+            one_rule.store_count(),
+            one_rule.group_count(),
+            one_rule.rule_count()
         ),
         (0x0A00, 0, 1, 1)
     );
-    for group in tables.groups.as_slice() {
-        assert_eq!(rt; group.name.as_slice(), b"main".as_slice());
-        assert!(rt; group.using_keys && group.on_match.is_empty() && group.on_nomatch.is_empty());
-        for rule in group.rules.as_slice() {
-            assert_eq!(rt;
-                (rule.line, rule.place, rule.key),
-                (3, 0, RuleKey::Char(0x61))
-            );
-            assert!(rt; rule.context.is_empty());
-            assert_eq!(rt; rule.output.as_slice(), [Out::Char('b')].as_slice());
-        }
-    }
-    assert_eq!(rt; file.bytes(), ONE_RULE.as_slice());
-    Ok(())
-}
-
-#[test]
-fn two_keys(rt: HostRuntime) -> Result<(), Fail> {
-    let file = adopt(rt.alloc(), &TWO_KEYS)?;
+    let two_keys = adopt(rt.alloc(), &TWO_KEYS)?;
     assert_eq!(rt;
-        (file.store_count(), file.group_count(), file.rule_count()),
-        (2, 1, 2)
+        (
+            two_keys.version(),
+            two_keys.store_count(),
+            two_keys.group_count(),
+            two_keys.rule_count()
+        ),
+        (0x0A00, 2, 1, 2)
     );
-    let keys = [
-        Element::Key {
-            flags: 0x4000,
-            code: 0x41,
-        },
-        Element::Key {
-            flags: 0x4010,
-            code: 0x41,
-        },
-    ];
-    let characters = [Element::Char('x'), Element::Char('y')];
-    let wanted = [(b"k", keys.as_slice()), (b"o", characters.as_slice())];
-    for (store, (name, elements)) in file.tables().stores.as_slice().iter().zip(wanted.iter()) {
-        assert_eq!(rt;
-            (
-                store.system,
-                store.name.as_slice(),
-                store.elements.as_slice()
-            ),
-            (0, name.as_slice(), *elements)
-        );
-    }
     let outputs = [(0x4000, 'x'), (0x4010, 'y')];
-    for group in file.tables().groups.as_slice() {
+    for group in two_keys.tables().groups.as_slice() {
         for (rule, (flags, c)) in group.rules.as_slice().iter().zip(outputs.iter()) {
-            assert_eq!(rt;
-                (rule.line, rule.key),
-                (
-                    5,
-                    RuleKey::Virtual {
-                        flags: *flags,
-                        code: 0x41
-                    }
-                )
-            );
+            let key = RuleKey::Virtual {
+                flags: *flags,
+                code: 0x41,
+            };
+            assert_eq!(rt; (rule.line, rule.key), (5, key));
             assert_eq!(rt; rule.output.as_slice(), [Out::Char(*c)].as_slice());
         }
     }

@@ -2,7 +2,7 @@ ghost use Rattle.std.specs.Prelude.{◌≡◌, ◌∷◌, [], IfOk};
 ghost use Rattle.kmx_format.specs.WorkedFiles.{plain_rule, main_tables, one_rule, two_keys};
 
 use crate::write;
-use kmn_base::{Code, CompileError, Element, Memory, RuleKey, Seq, Text};
+use kmn_base::{Element, Memory, RuleKey, Seq, Text};
 use rule_model::{Group, Out, Rule, Store, Tables};
 use std::alloc::Global;
 use std::test::Fail;
@@ -124,22 +124,5 @@ fn worked_files(rt: HostRuntime) -> Result<(), Fail> {
     assert_eq!(rt; file.as_slice(), TWO_KEYS.as_slice());
     let picture = write(rt.alloc(), &first, &[0, 1, 2, 3])?;
     assert_eq!(rt; picture.len(), 126);
-    Ok(())
-}
-
-#[test]
-fn picture_past_its_limit(rt: HostRuntime) -> Result<(), Fail> {
-    let tables = one_rule(rt.alloc())?;
-    let picture = vec![in rt.alloc(); 0u8; 1_048_577]?;
-    let refused = write(rt.alloc(), &tables, &picture);
-    assert!(rt;
-        matches!(
-            refused,
-            Err(CompileError::TooLarge {
-                code: Code::C24,
-                size: 1_048_577
-            })
-        )
-    );
     Ok(())
 }

@@ -5,5 +5,5 @@ use Rattle.kmx_verifier.proofs.records.groups_from.Goals as goal
 
 pub loop-i-preserved : goal.loop-i-preserved
 loop-i-preserved c =
-    rw (c.in_ok-push.ensures.items, c.in_ok-group.ensures)
-    (records-more (group_at c.args.bytes.now) 24 (groups_from c.args.bytes.now) (λ _ _. refl) c.loop-i.groups.items c.args.place c.args.count c.loop-i.i _ c.loop-i-test.true c.loop-i.invariant)
+    rw (c.in_ok-add.ensures, c.in_ok-group.ensures)
+    (records-more (group_at c.args.bytes.now) 24 (groups_from c.args.bytes.now) (λ _ _. refl) c.loop-i.groups c.args.place c.args.count c.loop-i.i _ c.loop-i-test.true c.loop-i.invariant)
