@@ -1,21 +1,21 @@
 -- What holds of a program that a source is accepted with, and of the file that it compiles to.
-use Rattle.std.proofs.Common.{◌≡◌, ◌≢◌, ℕ, ◌^◌, ◌≤◌, ◌<◌, Bool, true, false, ◌&&◌, List, [], ◌∷◌, length, map, Option, Some, None, Result, Ok, Err, refl, ap, sym, ◌∙◌, subst, nat_lt, lit≤, arith}
+use Rattle.std.proofs.Common.{◌≡◌, ◌≢◌, ℕ, ◌+◌, ◌^◌, ◌≤◌, ◌<◌, Bool, true, false, List, [], ◌∷◌, length, map, Option, Some, None, Result, Ok, Err, refl, ap, sym, ◌∙◌, subst, nat_lt, lit≤, length-append, arith}
 use Rattle.std.proofs.lemmas.Bool.Decides.{nat_tests}
 use Rattle.std.specs.List.{All, list_all}
-use Rattle.std.proofs.lemmas.List.Elements.{All-head, All-tail, All-nil, All-cons}
+use Rattle.std.proofs.lemmas.List.Elements.{All-head, All-tail, All-nil, All-cons, All-weaker}
 use Rattle.kmn_base.specs.declared.codes.Code.TheVariants.{L05, N01, C23}
-use Rattle.kmn_base.specs.declared.limits.TheConstants.{FILE_BYTES, FILE_NAME_UNITS, TEXT_BYTES}
+use Rattle.kmn_base.specs.declared.limits.TheConstants.{FILE_BYTES, TEXT_BYTES}
 use Rattle.kmn_base.specs.declared.events.Event.{Event}
 use Rattle.kmn_base.specs.declared.refusals.Refusal.{Refusal}
 use Rattle.kmn_base.specs.declared.refusals.CompileError.{CompileError}
 use Rattle.kmn_base.specs.declared.refusals.CompileError.TheVariants as error
-use Rattle.std.specs.Prelude.{IfOk, IfErr}
+use Rattle.std.specs.Prelude.{IsErrAnd}
 use Rattle.rule_model.specs.declared.program.GroupDef.{GroupDef}
 use Rattle.rule_model.specs.declared.program.Program.{Program}
 use Rattle.rule_model.specs.declared.script.Entry.{Entry}
 use Rattle.rule_model.specs.declared.tables.Rule.{Rule}
 use Rattle.rule_model.specs.declared.tables.Tables.{Tables}
-use Rattle.kmn_compiler.specs.CharacterForm.{else_line, outside_form, IsSoundGroup, IsSoundProgram}
+use Rattle.kmn_compiler.specs.CharacterForm.{outside_form, IsSoundGroup, IsSoundProgram}
 use Rattle.compile_laws.specs.Compiles.{Compiles}
 use Rattle.kmx_format.specs.File.{file_of}
 use Rattle.compile_laws.specs.Means.{Means}
@@ -28,96 +28,78 @@ use Rattle.rule_model.specs.Transcript.{transcript}
 use Rattle.compile_laws.specs.WellNamed.{IsWellNamed}
 use Rattle.rule_model.specs.OwnLines.{have_own_lines}
 use Rattle.kmx_format.specs.Writable.{IsWritableName, IsWritable, IsFile}
-use Rattle.kmx_writer.specs.Excess.{excess}
+use Rattle.kmx_writer.specs.Excess.{excess, IsExcess}
 use Rattle.compile_laws.specs.Law.{HasOwnLines}
 use Rattle.compile_laws.proofs.Ordered.{in_order_permutes, in_order_sorted, tables_are_only_ones, program_compiles}
 use Rattle.compile_laws.proofs.Whole.{meaning_kept, transcript_kept}
 use Rattle.kmn_parser.proofs.SourceLines.{statements_in_order}
+use Rattle.kmn_parser.proofs.ReadPrograms.{programs_are_read}
+use Rattle.kmn_parser.specs.ProgramLaws.{IsCharacter, IsName, IsReadRule, IsReadGroup}
 use Rattle.kmn_parser.specs.SourceLaws.{has_own_lines}
-use Rattle.kmn_compiler.specs.Sound.{is_name_character, is_short, is_writable_name, has_writable_line, is_writable_group, unwritable_group, form_left}
-use Rattle.std.specs.Str.{is_utf8, chars}
-use Rattle.std.proofs.lemmas.Str.{IsUtf8-from_is_utf8}
+use Rattle.std.specs.Str.{chars}
 use Rattle.kmn_base.specs.Spelling.{char_units}
 use Rattle.kmx_format.specs.FileUnits.{name_units}
 use Rattle.rule_model.specs.declared.program.RuleDef.{RuleDef}
-use Rattle.std.proofs.lemmas.Bool.{and_parts}
+use Rattle.std.proofs.lemmas.Bool.{and_parts, cond_both}
 use Rattle.std.specs.Prelude.{flat_map}
 use Rattle.kmn_base.specs.Answers.{Answers}
 use Rattle.kmn_parser.specs.Source.{parsed}
 use Rattle.kmn_compiler.specs.InOrder.{AreRecords}
 use Rattle.kmn_compiler.specs.Records.{record_of, group_with, tables_with}
-use Rattle.kmn_compiler.specs.Refusing.{HasNoFile, IsTooLarge}
-use Rattle.kmn_compiler.specs.Source.{within_form, formed, compiled_program, IsCompiledFrom, CompilesTo}
+use Rattle.kmn_compiler.specs.Source.{within_form, formed, compiled_program, CompilesTo}
 use Rattle.kmn_compiler.specs.declared.compiling.Compiled.{Compiled}
-use Rattle.kmn_compiler.proofs.FormParts.{IsFormProgram, is_form_program, groups_are}
+use Rattle.kmn_compiler.proofs.FormParts.{IsFormProgram, is_form_program}
 use Rattle.kmn_compiler.proofs.FormTables.{form_sound, form_well_named}
 use Rattle.kmn_compiler.proofs.Meaning.{read_again, means}
 use Rattle.kmn_compiler.proofs.NoPlaces.{same_meaning}
 use Rattle.kmn_compiler.proofs.ProgramTables.{compiles}
 use Rattle.kmn_compiler.proofs.Writing.{writable}
 
--- what passes the tests can stand in a file
-name_character : (c : ℕ) → is_name_character c ≡ true → (c ≢ 0) × (c ≢ 0xFFFF)
-name_character c is = (grind (arith, nat_tests), grind (arith, nat_tests))
+few_units : (c : ℕ) → length (char_units c) ≤ 2
+few_units c = cond_both (nat_lt c 0x1_0000) _ _ (λ units. length units ≤ 2) (λ e. omega arith) (λ e. omega arith)
 
-name_characters : (cs : List ℕ) → list_all is_name_character cs ≡ true → All (λ c. (c ≢ 0) × (c ≢ 0xFFFF)) cs
-name_characters [] is = All-nil (λ (c : ℕ). (c ≢ 0) × (c ≢ 0xFFFF))
-name_characters (c ∷ cs) is =
-    let each = and_parts (is_name_character c) (list_all is_name_character cs) is in
-    All-cons (λ (c : ℕ). (c ≢ 0) × (c ≢ 0xFFFF)) c cs (name_character c each.0) (name_characters cs each.1)
+-- characters have at most two units each
+unit_count : (cs : List ℕ) → length (flat_map char_units cs) ≤ length cs + length cs
+unit_count [] = omega arith
+unit_count (c ∷ cs) =
+    let both = length-append (char_units c) (flat_map char_units cs) in
+    omega (arith, both, few_units c, unit_count cs)
 
-short_name : (cs : List ℕ) → is_short cs ≡ true → length (flat_map char_units cs) ≤ FILE_NAME_UNITS
-short_name cs is = grind (arith, nat_tests)
-
-writable_name : (name : List ℕ) → is_writable_name name ≡ true → IsWritableName name
+-- a name that is read can stand in a file
+writable_name : (name : List ℕ) → IsName name → IsWritableName name
 unfolding name_units
-writable_name name is =
-    let first = and_parts (is_utf8 name) (list_all is_name_character (chars name) && is_short (chars name)) is in
-    let second = and_parts (list_all is_name_character (chars name)) (is_short (chars name)) first.1 in
-    record { utf8 = IsUtf8-from_is_utf8 name first.0; characters = name_characters (chars name) second.0; units = short_name (chars name) second.1 }
+writable_name name read = record {
+  utf8 = read.utf8;
+  characters = All-weaker IsCharacter (λ c. (c ≢ 0) × (c ≢ 0xFFFF)) (λ c is. (is.not_first, is.not_last)) (chars name) read.characters;
+  units = omega (arith, unit_count (chars name), read.few);
+}
 
-writable_line : (n : ℕ) → nat_lt n (2 ^ 32) ≡ true → n < 2 ^ 32
-writable_line n is = grind (arith, nat_tests)
+sound_group : (group : GroupDef) → IsReadGroup group → has_own_lines group ≡ true → IsSoundGroup group
+sound_group group read own = record {
+  name = writable_name group.name read.name;
+  own_lines = own;
+  lines = All-weaker (IsReadRule group.using_keys) (λ (rule : RuleDef). rule.line < 2 ^ 32) (λ rule is. is.line.last) group.rules read.rules;
+}
 
-writable_lines : (rules : List RuleDef) → list_all has_writable_line rules ≡ true → All (λ (rule : RuleDef). rule.line < 2 ^ 32) rules
-writable_lines [] is = All-nil (λ (rule : RuleDef). rule.line < 2 ^ 32)
-writable_lines (rule ∷ rules) is =
-    let each = and_parts (has_writable_line rule) (list_all has_writable_line rules) is in
-    All-cons (λ (rule : RuleDef). rule.line < 2 ^ 32) rule rules (writable_line rule.line each.0) (writable_lines rules each.1)
-
-writable_group : (group : GroupDef) → is_writable_group group ≡ true → have_own_lines group.rules ≡ true → IsSoundGroup group
-writable_group group is own =
-    let each = and_parts (is_writable_name group.name) (list_all has_writable_line group.rules) is in
-    record { name = writable_name group.name each.0; own_lines = own; lines = writable_lines group.rules each.1 }
-
-writable_groups : (groups : List GroupDef) → unwritable_group groups ≡ None → list_all has_own_lines groups ≡ true → All IsSoundGroup groups
-writable_groups [] is own = All-nil IsSoundGroup
-writable_groups (group ∷ groups) is own = by_case (is_writable_group group) refl (writable_groups groups)
-  where
-    by_case : (b : Bool) → is_writable_group group ≡ b → (unwritable_group groups ≡ None → list_all has_own_lines groups ≡ true → All IsSoundGroup groups) → All IsSoundGroup (group ∷ groups)
-    by_case true e later =
-        let owns = and_parts (has_own_lines group) (list_all has_own_lines groups) own in
-        All-cons IsSoundGroup group groups (writable_group group e owns.0) (later (rw e at is) owns.1)
-    by_case false e later =
-        let some : Some group.line ≡ None = rw e at is in
-        absurd (cc)
-
-within_parts : (form other : Option ℕ) → else_line form other ≡ None → (form ≡ None) × (other ≡ None)
-within_parts None other is = (refl, is)
-within_parts (Some line) other is = absurd (cc)
+sound_groups : (groups : List GroupDef) → All IsReadGroup groups → list_all has_own_lines groups ≡ true → All IsSoundGroup groups
+sound_groups [] read own = All-nil IsSoundGroup
+sound_groups (group ∷ groups) read own =
+    let owns = and_parts (has_own_lines group) (list_all has_own_lines groups) own in
+    All-cons IsSoundGroup group groups (sound_group group (All-head IsReadGroup group groups read) owns.0)
+    (sound_groups groups (All-tail IsReadGroup group groups read) owns.1)
 
 -- a program of the form that was read from a source
 pub record IsAccepted (program : Program) : Type 0 where
   pub form : outside_form program ≡ None
   pub sound : IsSoundProgram program
 
-pub read_accepted : (source : List ℕ) (program : Program) → parsed source ≡ Ok program → form_left program ≡ None → IsAccepted program
-unfolding form_left
-read_accepted source program read form =
-    let parts = within_parts (outside_form program) (unwritable_group program.groups) form in
-    record { form = parts.0; sound = writable_groups program.groups parts.1 (statements_in_order source program read).own }
+pub read_accepted : (source : List ℕ) (program : Program) → parsed source ≡ Ok program → outside_form program ≡ None → IsAccepted program
+read_accepted source program read form = record {
+  form = form;
+  sound = sound_groups program.groups (programs_are_read source program read).groups (statements_in_order source program read).own;
+}
 
-formed_within : (source : List ℕ) (found : Program) (line : Option ℕ) (program : Program) → parsed source ≡ Ok found → form_left found ≡ line → within_form found line ≡ Ok program → IsAccepted program
+formed_within : (source : List ℕ) (found : Program) (line : Option ℕ) (program : Program) → parsed source ≡ Ok found → outside_form found ≡ line → within_form found line ≡ Ok program → IsAccepted program
 formed_within source found None program read form is =
     let e : found ≡ program = cc in
     subst IsAccepted e (read_accepted source found read form)
@@ -125,7 +107,7 @@ formed_within source found (Some line) program read form is = absurd (cc)
 
 formed_read : (source : List ℕ) (read : Result Program Refusal) (program : Program) → parsed source ≡ read → formed read ≡ Ok program → IsAccepted program
 formed_read source (Err refusal) program at is = absurd (cc)
-formed_read source (Ok found) program at is = formed_within source found (form_left found) program at refl is
+formed_read source (Ok found) program at is = formed_within source found (outside_form found) program at refl is
 
 -- a program that a source is compiled as is of the form, and was read from a source
 pub accepted : (source : List ℕ) (program : Program) → compiled_program source ≡ Ok program → IsAccepted program
@@ -133,11 +115,11 @@ unfolding compiled_program
 accepted source program is = formed_read source (parsed source) program refl is
 
 -- what a source compiles to, by what it is read as
-pub compiled_within : (source : List ℕ) (program : Program) → parsed source ≡ Ok program → form_left program ≡ None → compiled_program source ≡ Ok program
+pub compiled_within : (source : List ℕ) (program : Program) → parsed source ≡ Ok program → outside_form program ≡ None → compiled_program source ≡ Ok program
 unfolding compiled_program
 compiled_within source program read form = ap formed read ∙ ap (within_form program) form
 
-pub compiled_outside : (source : List ℕ) (program : Program) (line : ℕ) → parsed source ≡ Ok program → form_left program ≡ Some line → compiled_program source ≡ Err (record { line = line; code = N01 })
+pub compiled_outside : (source : List ℕ) (program : Program) (line : ℕ) → parsed source ≡ Ok program → outside_form program ≡ Some line → compiled_program source ≡ Err (record { line = line; code = N01 })
 unfolding compiled_program
 compiled_outside source program line read form = ap formed read ∙ ap (within_form program) form
 
@@ -150,8 +132,8 @@ own_lines_all [] sound = refl
 own_lines_all (group ∷ groups) sound = rw ((All-head IsSoundGroup group groups sound).own_lines, own_lines_all groups (All-tail IsSoundGroup group groups sound)) refl
 
 module _ (program : Program) (h : IsAccepted program) where
-  named : IsWellNamed program
-  named = form_well_named program h.form h.sound
+  pub accepted_named : IsWellNamed program
+  accepted_named = form_well_named program h.form h.sound
 
   own_lines : HasOwnLines program
   own_lines = own_lines_all program.groups h.sound
@@ -178,14 +160,14 @@ module _ (program : Program) (h : IsAccepted program) where
   accepted_same tables compiled = tables_are_only_ones program tables own_lines compiled
 
   pub accepted_steps : (events : List Event) → trace (src program) events ≡ trace (tab (compiled_tables program)) events
-  accepted_steps events = meaning_kept program (compiled_tables program) named (program_compiles program) events
+  accepted_steps events = meaning_kept program (compiled_tables program) accepted_named (program_compiles program) events
 
   pub accepted_prints : (entries : List Entry) → transcript (src program) entries ≡ transcript (tab (compiled_tables program)) entries
-  accepted_prints entries = transcript_kept program (compiled_tables program) named (program_compiles program) entries
+  accepted_prints entries = transcript_kept program (compiled_tables program) accepted_named (program_compiles program) entries
 
   pub accepted_means : length (file_of (compiled_tables program) []) ≤ FILE_BYTES → Means (file_of (compiled_tables program) []) program
   accepted_means size =
-      means program (compiled_tables program) (file_of (compiled_tables program) []) named (program_compiles program)
+      means program (compiled_tables program) (file_of (compiled_tables program) []) accepted_named (program_compiles program)
       (read_again (compiled_tables program) [] (file_of (compiled_tables program) []) accepted_writable refl size)
       (record { tables = compiled_tables program; picture = []; writable = accepted_writable; picture_size = lit≤ tt; file_size = size; is = refl })
 
@@ -209,51 +191,50 @@ pub compiled_means : (source : List ℕ) (program : Program) → compiled_progra
 compiled_means source program is within = accepted_means program (accepted source program is) (within_size (compiled_tables program) within)
 
 -- what the last step answers is the file of the program
-pub compiled_from : (program : Program) (compiled : Compiled) → IsAccepted program → Compiles program compiled.tables → compiled.bytes ≡ file_of compiled.tables [] → IsWritable compiled.tables → IsFile compiled.bytes
-    → excess compiled.tables [] ≡ None → tables_of compiled.bytes ≡ no_places compiled.tables → IsCompiledFrom program compiled
-compiled_from program compiled h compile bytes writes file within read =
-    let same : compiled.tables ≡ compiled_tables program = accepted_same program h compiled.tables compile in
-    record {
-      tables = same;
-      bytes = bytes;
-      writable = writes;
-      file = file;
-      within = subst (λ (t : Tables). excess t [] ≡ None) same within;
-      keyboard = ap tab read ∙ same_meaning compiled.tables;
-      no_store = ap (λ (t : Tables). t.stores) read ∙ (ap (λ (t : Tables). t.stores) same ∙ accepted_stores program h);
-    }
+pub compiled_from : (program : Program) (compiled : Compiled) (picture : List ℕ) → picture ≡ [] → IsAccepted program → Compiles program compiled.tables
+    → compiled.bytes ≡ file_of compiled.tables picture → IsWritable compiled.tables → IsFile compiled.bytes → excess compiled.tables picture ≡ None
+    → CompilesTo (Ok program) (Ok compiled)
+compiled_from program compiled picture none h compiles written writes file kept =
+    let bytes = subst (λ (p : List ℕ). compiled.bytes ≡ file_of compiled.tables p) none written in
+    let within = subst (λ (p : List ℕ). excess compiled.tables p ≡ None) none kept in
+    let same : compiled.tables ≡ compiled_tables program = accepted_same program h compiled.tables compiles in
+    let read : tables_of compiled.bytes ≡ no_places compiled.tables = read_again compiled.tables [] compiled.bytes writes bytes file.file_size in (
+      program,
+      refl,
+      record {
+        named = accepted_named program h;
+        compiles = compiles;
+        tables = same;
+        bytes = bytes;
+        within = subst (λ (t : Tables). excess t [] ≡ None) same within;
+        writable = writes;
+        file = file;
+        means = means program compiled.tables compiled.bytes (accepted_named program h) compiles read file;
+        keyboard = ap tab read ∙ same_meaning compiled.tables;
+        no_store = ap (λ (t : Tables). t.stores) read ∙ (ap (λ (t : Tables). t.stores) same ∙ accepted_stores program h);
+      },
+    )
+
+-- a file that isn't written is too large
+pub unwritten : (program : Program) (tables : Tables) (picture : List ℕ) (e : CompileError) → picture ≡ [] → IsAccepted program → Compiles program tables
+    → IsExcess (excess tables picture) e → CompilesTo (Ok program) (Err e)
+unwritten program tables picture (error.Refused refusal) none h compiles passed = absurd passed
+unwritten program tables picture (error.TooLarge code size) none h compiles passed =
+    let over = subst (λ (p : List ℕ). excess tables p ≡ Some (code, size)) none passed in
+    (program, refl, subst (λ (t : Tables). excess t [] ≡ Some (code, size)) (accepted_same program h tables compiles) over)
+unwritten program tables picture error.Memory none h compiles passed = tt
+
+-- what is answered for an error is what the error says
+pub answered : (program : Program) (e : CompileError) (result : Result Compiled CompileError) → IsErrAnd result (λ f. f ≡ e) → CompilesTo (Ok program) (Err e)
+    → CompilesTo (Ok program) result
+answered program e (Ok compiled) is says = absurd is
+answered program e (Err f) is says = subst (λ (g : CompileError). CompilesTo (Ok program) (Err g)) (sym is) says
 
 -- a source that isn't read is not compiled
 pub unread : (source : List ℕ) (e : CompileError) → Answers (parsed source) (Err e) → CompilesTo (compiled_program source) (Err e)
 unread source (error.Refused refusal) read = compiled_refused source refusal read
 unread source (error.TooLarge code size) read = absurd read
 unread source error.Memory read = tt
-
--- what the last step answers for a program that is accepted
-pub backed : (source : List ℕ) (program : Program) (result : Result Compiled CompileError) → parsed source ≡ Ok program → form_left program ≡ None
-    → IfOk result (λ c. Compiles program c.tables) → IfOk result (λ c. c.bytes ≡ file_of c.tables []) → IfOk result (λ c. IsWritable c.tables) → IfOk result (λ c. IsFile c.bytes)
-    → IfOk result (λ c. excess c.tables [] ≡ None) → IfOk result (λ c. tables_of c.bytes ≡ no_places c.tables) → IfErr result (HasNoFile program [])
-    → CompilesTo (compiled_program source) result
-backed source program (Ok compiled) read form compile bytes writes file within again refused =
-    (program, compiled_within source program read form, compiled_from program compiled (read_accepted source program read form) compile bytes writes file within again)
-backed source program (Err (error.Refused refusal)) read form compile bytes writes file within again refused = absurd refused
-backed source program (Err (error.TooLarge code size)) read form compile bytes writes file within again refused =
-    let h : IsAccepted program = read_accepted source program read form in (
-      program,
-      compiled_within source program read form,
-      subst (λ (t : Tables). excess t [] ≡ Some (code, size)) (accepted_same program h refused.tables refused.compiles) refused.excess,
-    )
-backed source program (Err error.Memory) read form compile bytes writes file within again refused = tt
-
-pub backed_without : (source : List ℕ) (program : Program) (picture : List ℕ) (result : Result Compiled CompileError) → picture ≡ [] → parsed source ≡ Ok program → form_left program ≡ None
-    → IfOk result (λ c. Compiles program c.tables) → IfOk result (λ c. c.bytes ≡ file_of c.tables picture) → IfOk result (λ c. IsWritable c.tables) → IfOk result (λ c. IsFile c.bytes)
-    → IfOk result (λ c. excess c.tables picture ≡ None) → IfOk result (λ c. tables_of c.bytes ≡ no_places c.tables) → IfErr result (HasNoFile program picture)
-    → CompilesTo (compiled_program source) result
-backed_without source program picture result empty read form compile bytes writes file within again refused =
-    backed source program result read form compile
-    (subst (λ (p : List ℕ). IfOk result (λ c. c.bytes ≡ file_of c.tables p)) empty bytes) writes file
-    (subst (λ (p : List ℕ). IfOk result (λ c. excess c.tables p ≡ None)) empty within) again
-    (subst (λ (p : List ℕ). IfErr result (HasNoFile program p)) empty refused)
 
 -- a source past its limit is refused
 over_parsed : (source : List ℕ) → TEXT_BYTES < length source → parsed source ≡ Err (record { line = 1; code = L05 })

@@ -1,17 +1,16 @@
 -- What the tables of a program of the form are.
-use Rattle.std.proofs.Common.{◌≡◌, ℕ, ◌<◌, List, [], ◌∷◌, length, None, refl, sym, subst, get_or, lit≤}
+use Rattle.std.proofs.Common.{◌≡◌, List, [], ◌∷◌, None, sym, subst, get_or, lit≤}
 use Rattle.std.specs.List.{All}
 use Rattle.rule_model.specs.declared.program.GroupDef.{GroupDef}
 use Rattle.rule_model.specs.declared.program.Program.{Program}
 use Rattle.rule_model.specs.declared.tables.Rule.{Rule}
-use Rattle.rule_model.specs.declared.tables.Tables.{Tables}
 use Rattle.kmn_compiler.specs.CharacterForm.{outside_form, IsSoundGroup, IsSoundProgram}
 use Rattle.compile_laws.specs.Compiles.{Compiles}
 use Rattle.compile_laws.specs.WellNamed.{IsWellNamed}
 use Rattle.kmx_format.specs.Writable.{IsWritable}
 use Rattle.kmn_compiler.specs.InOrder.{AreRecords}
 use Rattle.kmn_compiler.specs.Records.{group_with, tables_with}
-use Rattle.kmn_compiler.proofs.FormParts.{IsFormProgram, is_form_program, groups_are, only_group}
+use Rattle.kmn_compiler.proofs.FormParts.{is_form_program, groups_are, only_group}
 use Rattle.kmn_compiler.proofs.ProgramTables.{compiles, well_named}
 use Rattle.kmn_compiler.proofs.Writing.{writable}
 

@@ -1,4 +1,3 @@
-pub mod Names
 pub mod FormParts
 pub mod Records
 pub mod ProgramTables
@@ -7,4 +6,3 @@ pub mod NoPlaces
 pub mod Meaning
 pub mod FormTables
 pub mod Accepted
-pub mod Worked

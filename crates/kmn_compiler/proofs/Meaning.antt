@@ -1,13 +1,11 @@
 -- The file of the tables that a well-named program compiles to means the program.
 use Rattle.std.proofs.Common.{◌≡◌, ◌≤◌, ℕ, List, length, ap, sym, subst, ◌∙◌}
 use Rattle.kmn_base.specs.declared.limits.TheConstants.{FILE_BYTES}
-use Rattle.kmn_base.specs.declared.events.Event.{Event}
 use Rattle.rule_model.specs.declared.program.Program.{Program}
 use Rattle.rule_model.specs.declared.tables.Tables.{Tables}
 use Rattle.compile_laws.specs.Compiles.{Compiles}
 use Rattle.kmx_format.specs.File.{file_of}
 use Rattle.compile_laws.specs.Means.{Means}
-use Rattle.rule_model.specs.Src.{src}
 use Rattle.rule_model.specs.Tab.{tab}
 use Rattle.kmx_format.specs.TablesOf.{tables_of, no_places}
 use Rattle.rule_model.specs.Trace.{trace}

@@ -1,11 +1,11 @@
 -- The meaning of tables does not look at the places of keys in key stores.
-use Rattle.std.proofs.Common.{◌≡◌, Bool, List, [], ◌∷◌, ◌++◌, map, refl, ap, ap₂}
-use Rattle.std.specs.Prelude.{ℕ, flat_map}
+use Rattle.std.proofs.Common.{◌≡◌, Bool, List, [], ◌∷◌, ◌++◌, map, refl, ap}
+use Rattle.std.specs.Prelude.{flat_map}
 use Rattle.rule_model.specs.declared.tables.Rule.{Rule}
 use Rattle.rule_model.specs.declared.tables.Store.{Store}
 use Rattle.rule_model.specs.declared.tables.Group.{Group}
 use Rattle.rule_model.specs.declared.tables.Tables.{Tables}
-use Rattle.rule_model.specs.Keyboard.{RuleMeaning, GroupMeaning}
+use Rattle.rule_model.specs.Keyboard.{RuleMeaning}
 use Rattle.rule_model.specs.Tab.{tab, tab_rule, tab_group, tab_options, rule_options, group_options, with_options}
 use Rattle.kmx_format.specs.TablesOf.{rule_without_place, group_without_places, no_places}
 

@@ -1,8 +1,7 @@
 -- A program of the form is well named, and its tables are those that it compiles to.
-use Rattle.std.proofs.Common.{◌≡◌, ℕ, zero, suc, ◌<◌, ◌&&◌, Bool, true, false, List, [], ◌∷◌, ◌++◌, length, map, Option, Some, None, refl, sym, ap, subst, arith, append-nil}
-use Rattle.std.specs.Prelude.{flat_map, slice_index_or}
+use Rattle.std.proofs.Common.{◌≡◌, ℕ, zero, suc, ◌<◌, Bool, true, List, [], ◌∷◌, length, Option, Some, None, refl, sym, subst, arith, append-nil}
+use Rattle.std.specs.Prelude.{slice_index_or}
 use Rattle.std.specs.List.{list_all}
-use Rattle.std.specs.List.Sorted.{IsPermutation, IsSortedBy}
 use Rattle.std.proofs.lemmas.Bool.{and_parts}
 use Rattle.kmn_base.specs.Names.{same_name}
 use Rattle.rule_model.specs.declared.program.SrcItem.{SrcItem}
@@ -13,15 +12,14 @@ use Rattle.rule_model.specs.declared.program.BeginDef.{BeginDef}
 use Rattle.rule_model.specs.declared.program.Program.{Program}
 use Rattle.rule_model.specs.declared.tables.Rule.{Rule}
 use Rattle.rule_model.specs.declared.tables.Group.{Group}
-use Rattle.rule_model.specs.declared.tables.Tables.{Tables}
 use Rattle.rule_model.specs.Naming.{names_of, stores_of, mark_names, key_names}
 use Rattle.compile_laws.specs.Numbers.{values_of, item_values, numbers_of, Numbers}
-use Rattle.compile_laws.specs.Compiles.{Compiles, AreOrderedGroups, IsOrderedGroup, file_group, stands_before}
-use Rattle.compile_laws.specs.WellNamed.{IsWellNamed, is_known_rule, is_known_pattern, is_known_output, is_known_key, is_known_group}
+use Rattle.compile_laws.specs.Compiles.{Compiles, AreOrderedGroups, IsOrderedGroup, file_group}
+use Rattle.compile_laws.specs.WellNamed.{IsWellNamed, is_known_rule, is_known_pattern, is_known_output, is_known_key}
 use Rattle.rule_model.specs.OwnLines.{have_own_lines}
-use Rattle.kmn_compiler.specs.CharacterForm.{is_character, is_character_item, is_character_key, is_character_rule}
+use Rattle.kmn_compiler.specs.CharacterForm.{is_character, is_character_item, is_character_key}
 use Rattle.kmn_compiler.specs.InOrder.{AreRecords}
-use Rattle.kmn_compiler.specs.Records.{record_of, group_with, tables_with}
+use Rattle.kmn_compiler.specs.Records.{group_with, tables_with}
 use Rattle.kmn_compiler.proofs.FormParts.{AreCharacterRules, IsFormRule, form_rule, IsFormGroup, IsFormProgram, program_of}
 use Rattle.kmn_compiler.proofs.Records.{records_are, all_plain, no_match, no_nomatch, source_characters, rules_characters, none_of}
 

@@ -1,10 +1,9 @@
 -- The records of rules of the form, and what such rules name: nothing.
-use Rattle.std.proofs.Common.{◌≡◌, ℕ, ◌≤◌, Bool, true, false, ◌&&◌, List, [], ◌∷◌, ◌++◌, length, map, Option, Some, None, refl, sym, ap, arith, append-nil, lt-ltb, ◌∙◌}
-use Rattle.std.specs.Prelude.{flat_map, filter, find, nat_lt, option_to_list, if◌then◌else◌}
+use Rattle.std.proofs.Common.{◌≡◌, ℕ, ◌≤◌, true, false, List, [], ◌∷◌, ◌++◌, length, map, Option, Some, None, refl, ap, arith, ◌∙◌}
+use Rattle.std.specs.Prelude.{flat_map, filter, find, nat_lt, option_to_list}
 use Rattle.std.specs.List.{list_all}
-use Rattle.std.proofs.lemmas.Bool.{and_parts, ltb-true}
+use Rattle.std.proofs.lemmas.Bool.{and_parts}
 use Rattle.std.proofs.lemmas.List.Folds.{list_all-append}
-use Rattle.kmn_base.specs.declared.keys.RuleKey.TheVariants as key
 use Rattle.rule_model.specs.declared.program.SrcItem.{SrcItem}
 use Rattle.rule_model.specs.declared.program.SrcItem.TheVariants as source
 use Rattle.rule_model.specs.declared.program.RuleKind.{RuleKind}
@@ -18,7 +17,7 @@ use Rattle.rule_model.specs.declared.tables.Rule.{Rule}
 use Rattle.rule_model.specs.Naming.{rule_items, items_from}
 use Rattle.compile_laws.specs.Numbers.{Numbers}
 use Rattle.rule_model.specs.Src.{is_plain, is_on_match, is_on_nomatch, is_plain_kind, is_match_kind, is_nomatch_kind}
-use Rattle.compile_laws.specs.Compiles.{file_pattern, file_output, file_outputs, or_nul, file_record, own_key, keyed_records, rule_records}
+use Rattle.compile_laws.specs.Compiles.{file_pattern, file_output, file_outputs, or_nul, file_record, keyed_records, rule_records}
 use Rattle.kmn_compiler.specs.CharacterForm.{is_character, is_character_item, is_character_key, is_character_rule}
 use Rattle.kmn_compiler.specs.Records.{context_item, output_item, record_key, record_of}
 use Rattle.kmn_compiler.proofs.FormParts.{AreCharacterRules, IsFormRule, form_rule}

@@ -1,6 +1,6 @@
 -- The tables of a program of the form are tables that a file can have.
-use Rattle.std.proofs.Common.{◌≡◌, ◌≢◌, ℕ, suc, ◌^◌, ◌<◌, ◌≤◌, Bool, true, false, ◌&&◌, List, [], ◌∷◌, length, map, Option, Some, None, refl, sym, ap, subst, ◌∙◌, append-nil, arith, inr, lit≤}
-use Rattle.std.specs.Prelude.{nat_eq, nat_lt, not, flat_map, if◌then◌else◌, take, slice_index_or}
+use Rattle.std.proofs.Common.{◌≡◌, ◌≢◌, ℕ, suc, ◌^◌, ◌<◌, ◌≤◌, Bool, true, ◌&&◌, List, [], ◌∷◌, length, map, Option, Some, None, refl, sym, ap, subst, ◌∙◌, append-nil, arith, inr, lit≤}
+use Rattle.std.specs.Prelude.{nat_eq, nat_lt, not, flat_map, take}
 use Rattle.std.specs.List.{All, list_all}
 use Rattle.std.proofs.lemmas.Bool.{and_parts, ltb-true}
 use Rattle.std.proofs.lemmas.Bool.Decides.{nat_tests}
@@ -8,8 +8,6 @@ use Rattle.std.proofs.lemmas.List.{length-map}
 use Rattle.std.proofs.lemmas.List.Elements.{All-nil, All-cons, All-head, All-tail, All-same}
 use Rattle.std.proofs.lemmas.List.Sorted.{All-permutation, length_permutation}
 use Rattle.kmn_base.specs.declared.limits.TheConstants.{CONTEXT_ITEMS, OUTPUT_ITEMS}
-use Rattle.kmn_base.specs.declared.keys.RuleKey.{RuleKey}
-use Rattle.kmn_base.specs.declared.keys.RuleKey.TheVariants as key
 use Rattle.kmn_base.specs.declared.units.UnitItem.TheVariants as spelled
 use Rattle.kmn_base.specs.Spelling.{IsSpellable}
 use Rattle.rule_model.specs.declared.program.SrcItem.{SrcItem}
@@ -21,10 +19,8 @@ use Rattle.rule_model.specs.declared.tables.Pat.TheVariants as pattern
 use Rattle.rule_model.specs.declared.tables.Out.{Out}
 use Rattle.rule_model.specs.declared.tables.Out.TheVariants as output
 use Rattle.rule_model.specs.declared.tables.Rule.{Rule}
-use Rattle.rule_model.specs.declared.tables.Group.{Group}
-use Rattle.rule_model.specs.declared.tables.Tables.{Tables}
-use Rattle.kmx_format.specs.FileUnits.{unit_item_of_pattern, unit_item_of_output}
-use Rattle.kmx_format.specs.Writable.{IsWritable, IsWritableName, stores_of_pattern, PointsBack, PointsInto, IsWritableContext, IsWritableOutput, IsWritableKey, IsWritableRule, IsWritableGroup, IsWritableStore}
+use Rattle.kmx_format.specs.FileUnits.{unit_item_of_pattern}
+use Rattle.kmx_format.specs.Writable.{IsWritable, stores_of_pattern, PointsBack, PointsInto, IsWritableContext, IsWritableOutput, IsWritableKey, IsWritableRule, IsWritableGroup, IsWritableStore}
 use Rattle.kmn_compiler.specs.CharacterForm.{is_character, is_character_item, is_character_key, is_character_rule, IsSoundGroup}
 use Rattle.kmx_format.proofs.WritableParts.{characters_output, no_output}
 use Rattle.kmn_compiler.specs.InOrder.{AreRecords}

@@ -6,6 +6,7 @@ ghost use Rattle.kmn_base.specs.Names.{same_name};
 ghost use Rattle.kmn_compiler.specs.CharacterForm.{is_character, is_character_item, is_character_key, is_character_rule, rule_line, earlier, outside_group, outside_groups, is_form_start, outside_start, outside_starts, outside_statement, outside_form};
 
 use kmn_base::limits::{CONTEXT_ITEMS, OUTPUT_ITEMS, RECORDS};
+use kmn_base::names::same_name;
 use rule_model::{BeginDef, GroupDef, Program, RuleDef, RuleKind, SrcItem};
 
 /// The first character of two UTF-16 units.
@@ -119,14 +120,6 @@ fn outside_groups(groups: &[GroupDef]) -> Option<u32>
         [group] => outside_group(group),
         [group, second, ..] => earlier(outside_group(group), Some(second.line)),
     }
-}
-
-/// Whether two names are the same, without ASCII case.
-#[tactic(auto, unfolding(kmn_base::specs::Names::same_name))]
-fn same_name(known: &[u8], name: &[u8]) -> bool
-    ensures { result ≡ same_name known.now name.now }
-{
-    known.eq_ignore_ascii_case(name)
 }
 
 /// Whether a start statement is `begin Unicode`, and names the first group, if any.

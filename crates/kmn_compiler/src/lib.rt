@@ -1,16 +1,15 @@
-//! The compiler: the file of a program, and so far of programs of one form, from characters to characters.
+//! The compiler: the file of a source, and so far of programs of one form, from characters to characters.
 //!
-//! It stands on `kmn_base`, `virtual_keys`, `rule_model`, `kmn_parser`, `kmx_format`, `compile_laws` and `kmx_writer`, and
-//! owns the form that is compiled (`specs/CharacterForm`). The layer above asks `outside_form` where a program leaves the
-//! form, and calls `back`, whose bytes are the file of tables that the program compiles to, and mean the program: whatever
-//! events come, both take the same steps.
+//! It stands on `kmn_parser` for the program of a source, `compile_laws` for what a program compiles to, and `kmx_writer` for
+//! the bytes, and owns the form that is compiled (`specs/CharacterForm`). The layer above calls `compile`: its bytes are the
+//! file of the tables that the source's program compiles to, and mean the program, so that both take the same steps whatever
+//! events come; a refusal is the source's first (`specs/Source`). `back` is the part of it behind the reading.
 #![tactic(auto)]
 
 mod compiling;
 mod expanding;
 mod form;
 mod ordering;
-mod sound;
 mod tables;
 
 pub use compiling::{Compiled, back, compile};

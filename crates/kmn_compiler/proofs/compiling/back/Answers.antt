@@ -1,12 +1,15 @@
-use Rattle.kmn_compiler.proofs.FormTables.{form_well_named}
-use Rattle.kmn_compiler.proofs.Meaning.{read_again, means}
+use Rattle.kmn_compiler.proofs.Accepted.{compiled_from, unwritten, answered}
 use Rattle.kmn_compiler.proofs.compiling.back.Goals as goal
 
-pub returns-clause-tables : goal.returns-clause-tables
-returns-clause-tables c = read_again c.in-Ok.tables c.args.picture.now _ c.in-Ok.ensures.writable c.in_ok-bytes.ensures.written c.in_ok-bytes.ensures.file.file_size
+pub returns-in_err-bytes : goal.returns-in_err-bytes
+returns-in_err-bytes c =
+    let e = c.in_err-bytes.field-0.0 in
+    answered c.args.program.now e c.from_residual-in_err-bytes.result c.from_residual-in_err-bytes.ensures.1
+    (unwritten c.args.program.now c.in_ok-tables.tables c.args.picture.now e c.requires.no_picture (record { form = c.requires.form; sound = c.requires.sound })
+    c.in_ok-tables.ensures.compiles c.in_err-bytes.ensures.refused)
 
-pub returns-clause-means : goal.returns-clause-means
-returns-clause-means c =
-    means c.args.program.now c.in-Ok.tables _ (form_well_named c.args.program.now c.requires.form c.requires.sound) c.in-Ok.ensures.compiles
-    (read_again c.in-Ok.tables c.args.picture.now _ c.in-Ok.ensures.writable c.in_ok-bytes.ensures.written c.in_ok-bytes.ensures.file.file_size)
-    c.in_ok-bytes.ensures.file
+pub returns : goal.returns
+returns c =
+    compiled_from c.args.program.now (record { bytes = c.in_ok-bytes.bytes; tables = c.in_ok-tables.tables }) c.args.picture.now c.requires.no_picture
+    (record { form = c.requires.form; sound = c.requires.sound })
+    c.in_ok-tables.ensures.compiles c.in_ok-bytes.ensures.written c.in_ok-tables.ensures.writable c.in_ok-bytes.ensures.file c.in_ok-bytes.ensures.within
