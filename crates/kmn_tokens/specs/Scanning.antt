@@ -5,12 +5,12 @@ use Rattle.kmn_base.specs.declared.refusals.CompileError.{CompileError}
 use Rattle.kmn_base.specs.declared.refusals.CompileError.TheVariants.{Refused, Memory}
 use Rattle.kmn_lines.specs.declared.token.Token.{Token}
 use Rattle.kmn_lines.specs.Tokens.{refusal, scanned, first_fault}
-use Rattle.kmn_tokens.specs.declared.stop.Stop.{Stop}
-use Rattle.kmn_tokens.specs.declared.stop.Stop.TheVariants.{Broken, NoMemory}
+use Rattle.kmn_tokens.specs.declared.token_error.TokenError.{TokenError}
+use Rattle.kmn_tokens.specs.declared.token_error.TokenError.TheVariants.{Fault, NoMemory}
 
--- the error of a line that has stopped
-abbrev pub error_at : ℕ → Stop → CompileError
-error_at line (Broken code) = Refused (refusal line code)
+-- the error of a line that has no tokens
+abbrev pub error_at : ℕ → TokenError → CompileError
+error_at line (Fault code) = Refused (refusal line code)
 error_at line NoMemory = Memory
 
 -- the value where there is no fault, else the fault
@@ -19,16 +19,16 @@ Gives fault value (Ok x) = (fault ≡ None) × (x ≡ value)
 Gives fault value (Err code) = fault ≡ Some code
 
 -- the tokens are appended where there is no fault, else the fault is answered; want of memory is free
-abbrev pub Appends : List Token → List Token → Option Code → List Token → Result (Unit {0}) Stop → Type 0
+abbrev pub Appends : List Token → List Token → Option Code → List Token → Result (Unit {0}) TokenError → Type 0
 Appends old new fault tokens (Ok x) = (fault ≡ None) × (new ≡ old ++ tokens)
-Appends old new fault tokens (Err (Broken code)) = fault ≡ Some code
+Appends old new fault tokens (Err (Fault code)) = fault ≡ Some code
 Appends old new fault tokens (Err NoMemory) = Unit {0}
 
 -- a step of some bytes from a place on: what it appends and what is left make up the whole, and it has no fault
-abbrev pub Steps : List Token → List Token → ℕ → ℕ → List ℕ → Result ℕ Stop → Type 0
+abbrev pub Steps : List Token → List Token → ℕ → ℕ → List ℕ → Result ℕ TokenError → Type 0
 Steps old new line at bytes (Ok size) =
     (0 < size) × (size ≤ length bytes)
     × (new ++ scanned line 0 (at + size) (drop size bytes) ≡ old ++ scanned line 0 at bytes)
     × (first_fault 0 (drop size bytes) ≡ first_fault 0 bytes)
-Steps old new line at bytes (Err (Broken code)) = first_fault 0 bytes ≡ Some code
+Steps old new line at bytes (Err (Fault code)) = first_fault 0 bytes ≡ Some code
 Steps old new line at bytes (Err NoMemory) = Unit {0}

@@ -15,9 +15,9 @@ mod faults;
 mod numbers;
 mod scan;
 mod sizes;
-mod stop;
 #[cfg(test)]
 mod tests;
+mod token_error;
 
 use kmn_base::{CompileError, Seq};
 use kmn_lines::{Logical, parts};
@@ -37,6 +37,6 @@ pub fn tokens(alloc: Global, source: &str, logical: Logical) -> Result<Seq<Token
     let mut out = Seq::new(alloc);
     match add_all(&mut out, source.as_bytes(), parts(source, logical)) {
         Ok(()) => Ok(out),
-        Err(stop) => Err(stop.at(logical.first_line)),
+        Err(error) => Err(error.at(logical.first_line)),
     }
 }

@@ -8,14 +8,14 @@ ghost use Rattle.kmn_tokens.specs.Scanning.{Appends, Steps};
 
 use crate::faults::token_at;
 use crate::sizes::token_size;
-use crate::stop::Stop;
+use crate::token_error::TokenError;
 use kmn_base::Seq;
 use kmn_base::bytes::is_blank;
 use kmn_base::slices::{before, behind};
 use kmn_lines::{Part, Parts, Token};
 
 /// Appends the token with which the bytes from a place on begin, none at a blank, and answers how far it reaches.
-fn add_next(out: &mut Seq<Token>, line: u32, at: usize, bytes: &[u8]) -> Result<usize, Stop>
+fn add_next(out: &mut Seq<Token>, line: u32, at: usize, bytes: &[u8]) -> Result<usize, TokenError>
     requires some { 0 < length bytes.now }
     requires few { at + length bytes.now < 2 ^ 32 }
     ensures { Steps out.old out.new line at bytes.now result }
@@ -25,40 +25,38 @@ fn add_next(out: &mut Seq<Token>, line: u32, at: usize, bytes: &[u8]) -> Result<
     }
     let size = token_size(bytes);
     match token_at(line, at, before(bytes, size)) {
-        Ok(token) => match out.push(token) {
+        Ok(token) => match out.add(token) {
             Ok(()) => Ok(size),
-            Err(_) => Err(Stop::NoMemory),
+            Err(_) => Err(TokenError::NoMemory),
         },
-        Err(code) => Err(Stop::Broken(code)),
+        Err(code) => Err(TokenError::Fault(code)),
     }
 }
 
 /// Appends the tokens of the bytes from a place on.
-fn add_tokens(out: &mut Seq<Token>, line: u32, from: usize, bytes: &[u8]) -> Result<(), Stop>
+fn add_tokens(out: &mut Seq<Token>, line: u32, from: usize, bytes: &[u8]) -> Result<(), TokenError>
     requires { length bytes.now ≤ TEXT_BYTES }
     ensures { Appends out.old out.new (first_fault 0 (drop from bytes.now)) (scanned line 0 from (drop from bytes.now)) result }
 {
     let mut at = from;
     while at < bytes.len() {
-        match add_next(out, line, at, behind(bytes, at)) {
-            Ok(size) => at += size,
-            Err(stop) => return Err(stop),
-        }
+        at += add_next(out, line, at, behind(bytes, at))?;
     }
     Ok(())
 }
 
 /// Appends the tokens of parts of a source.
-pub(crate) fn add_all(out: &mut Seq<Token>, source: &[u8], walk: Parts<'_>) -> Result<(), Stop>
+pub(crate) fn add_all(
+    out: &mut Seq<Token>,
+    source: &[u8],
+    walk: Parts<'_>,
+) -> Result<(), TokenError>
     requires { length source.now ≤ TEXT_BYTES }
     ensures { Appends out.old out.new (parts_fault source.now (parts_left walk.entry)) (parts_tokens source.now (parts_left walk.entry)) result }
 {
     for part in walk {
         let bytes = before(source, part.to as usize);
-        match add_tokens(out, part.line, part.from as usize, bytes) {
-            Ok(()) => {}
-            Err(stop) => return Err(stop),
-        }
+        add_tokens(out, part.line, part.from as usize, bytes)?;
     }
     Ok(())
 }

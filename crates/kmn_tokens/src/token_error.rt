@@ -1,13 +1,13 @@
 use kmn_base::{Code, CompileError, Refusal};
 
-/// Why no more tokens come.
+/// Why a line has no tokens: what is wrong with one of them, or want of memory.
 #[derive(Clone, Copy, Debug, PartialEq, Eq)]
-pub(crate) enum Stop {
-    Broken(Code),
+pub(crate) enum TokenError {
+    Fault(Code),
     NoMemory,
 }
 
-impl Stop {
+impl TokenError {
     ghost use Rattle.std.specs.Prelude.{◌≡◌};
     ghost use Rattle.kmn_tokens.specs.Scanning.{error_at};
 
@@ -16,8 +16,8 @@ impl Stop {
         ensures { result ≡ error_at line self }
     {
         match self {
-            Stop::Broken(code) => CompileError::Refused(Refusal { line, code }),
-            Stop::NoMemory => CompileError::Memory,
+            TokenError::Fault(code) => CompileError::Refused(Refusal { line, code }),
+            TokenError::NoMemory => CompileError::Memory,
         }
     }
 }
