@@ -1,5 +1,5 @@
 -- A program with each kind of number, and the stores and records that it compiles to, by computation.
-use Rattle.std.proofs.Common.{◌≡◌, ℕ, zero, suc, ◌<◌, true, List, [], ◌∷◌, ◌++◌, map, Option, Some, None, refl, arith}
+use Rattle.std.proofs.Common.{◌≡◌, ℕ, zero, suc, true, List, [], ◌∷◌, map, Some, refl, arith}
 use Rattle.std.specs.Prelude.{codes}
 use Rattle.std.specs.List.Sorted.{IsSortedBy}
 use Rattle.std.specs.Str.{chars}
@@ -13,11 +13,9 @@ use Rattle.rule_model.specs.declared.program.RuleKind.TheVariants.{Plain}
 use Rattle.rule_model.specs.declared.program.StoreDef.{StoreDef}
 use Rattle.rule_model.specs.declared.program.GroupDef.{GroupDef}
 use Rattle.rule_model.specs.declared.program.Program.{Program}
-use Rattle.rule_model.specs.declared.tables.Store.{Store}
 use Rattle.rule_model.specs.declared.tables.Pat.TheVariants as pattern
 use Rattle.rule_model.specs.declared.tables.Out.TheVariants as output
 use Rattle.rule_model.specs.declared.tables.Rule.{Rule}
-use Rattle.rule_model.specs.declared.tables.Group.{Group}
 use Rattle.rule_model.specs.Naming.{names_of, stores_of}
 use Rattle.compile_laws.specs.Numbers.{values_of, numbers_of, compiled_stores}
 use Rattle.compile_laws.specs.Compiles.{file_group, stands_before}

@@ -1,5 +1,5 @@
 -- The tables that a program compiles to are in order, and there are no others.
-use Rattle.std.proofs.Common.{◌≡◌, ℕ, zero, suc, ◌+◌, ◌<◌, ◌≤◌, Bool, true, false, ◌&&◌, not, List, [], ◌∷◌, ◌++◌, length, map, get_or, Option, Some, None, refl, ap, sym, ◌∙◌, subst, arith, nat_eq, nat_lt, if◌then◌else◌, nat_cmp, ◌⊎◌, inl, inr}
+use Rattle.std.proofs.Common.{◌≡◌, ℕ, zero, suc, ◌+◌, ◌<◌, ◌≤◌, Bool, true, false, not, List, [], ◌∷◌, length, map, get_or, Option, Some, None, refl, ap, sym, ◌∙◌, arith, nat_eq, if◌then◌else◌, nat_cmp, ◌⊎◌, inl, inr}
 use Rattle.std.specs.Prelude.{All, Contains, filter, flat_map, unwrap_or, slice_index_or}
 use Rattle.std.specs.Cmp.{IsStrictWeakOrder}
 use Rattle.std.specs.List.{list_all, list_any, sum_by}
@@ -22,15 +22,14 @@ use Rattle.rule_model.specs.declared.program.SrcItem.{SrcItem}
 use Rattle.rule_model.specs.declared.program.SrcItem.TheVariants as source
 use Rattle.rule_model.specs.declared.tables.Group.{Group}
 use Rattle.rule_model.specs.declared.tables.Rule.{Rule}
-use Rattle.rule_model.specs.declared.tables.Tables.{Tables}
 use Rattle.rule_model.specs.Hold.{key_of_element}
 use Rattle.rule_model.specs.Naming.{elements_named}
 use Rattle.compile_laws.specs.Numbers.{Numbers, numbers_of}
 use Rattle.rule_model.specs.Src.{is_plain}
-use Rattle.compile_laws.specs.Compiles.{Compiles, IsOrderedGroup, AreOrderedGroups, file_record, own_key, records_from, keyed_records, rule_records, file_group, stands_before}
+use Rattle.compile_laws.specs.Compiles.{IsOrderedGroup, file_record, own_key, records_from, keyed_records, rule_records, file_group, stands_before}
 use Rattle.compile_laws.specs.Ordered.{placed, in_order, ordered_group, compiled_tables}
 use Rattle.rule_model.specs.OwnLines.{have_own_lines}
-use Rattle.compile_laws.specs.Law.{HasOwnLines, TablesAreOnlyOnes, ProgramCompiles}
+use Rattle.compile_laws.specs.Law.{TablesAreOnlyOnes, ProgramCompiles}
 use Rattle.compile_laws.proofs.Choices.{records_order}
 use Rattle.compile_laws.proofs.Groups.{ordered_group as group_of_order}
 use Rattle.compile_laws.proofs.Known.{plain_lines}
