@@ -1,5 +1,5 @@
 -- What the first token of an item says of it.
-use Rattle.std.specs.Prelude.{ℕ, Bool, true, if◌then◌else◌, List, [], ◌∷◌, Option, Some, None}
+use Rattle.std.specs.Prelude.{ℕ, Bool, true, List, [], ◌∷◌, Option, Some, None}
 use Rattle.kmn_lines.specs.declared.token.TokenKind.TheVariants as kind
 use Rattle.kmn_items.specs.declared.syntax.ItemWord.{ItemWord}
 use Rattle.kmn_items.specs.declared.syntax.ItemWord.TheVariants as word
@@ -7,7 +7,7 @@ use Rattle.kmn_items.specs.declared.syntax.Lead.{Lead}
 use Rattle.kmn_items.specs.declared.syntax.Lead.TheVariants as lead
 use Rattle.kmn_items.specs.Told.{LineToken, begins_open}
 use Rattle.kmn_items.specs.Words.{item_word}
-use Rattle.kmn_items.specs.Numbers.{number_base, number_digits, digits_lead, is_number_word}
+use Rattle.kmn_items.specs.Numbers.{number_base, number_digits, digits_lead}
 
 -- a parenthesis tells `context(n)` from `context`
 abbrev pub followed : Bool → ItemWord → ItemWord
@@ -21,9 +21,10 @@ named_lead opened None = lead.Misplaced
 
 -- what a word says of the item that it begins; the test is whether a parenthesis opens behind it
 abbrev pub word_lead : Bool → List ℕ → Lead
-word_lead opened text =
-    if is_number_word text then digits_lead (number_base text) (number_digits text)
-    else named_lead opened (item_word text)
+word_lead opened text = elim (number_base text) [
+  | Some base ↦ digits_lead base (number_digits text)
+  | None ↦ named_lead opened (item_word text)
+]
 
 -- what a token says of the item that it begins
 abbrev pub token_lead : Bool → LineToken → Lead

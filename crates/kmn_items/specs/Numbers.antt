@@ -1,5 +1,5 @@
 -- The numbers in words: characters in three bases, and offsets.
-use Rattle.std.specs.Prelude.{ℕ, ◌+◌, ◌*◌, min, Bool, false, not, ◌&&◌, ◌||◌, nat_eq, nat_le, if◌then◌else◌, List, [], ◌∷◌, length, drop, fold}
+use Rattle.std.specs.Prelude.{ℕ, ◌+◌, ◌*◌, min, Bool, false, ◌&&◌, ◌||◌, nat_eq, nat_le, if◌then◌else◌, List, [], ◌∷◌, length, drop, fold, Option, Some, None, is_some}
 use Rattle.std.specs.List.{list_all}
 use Rattle.std.specs.Char.{digit_value, is_digit}
 use Rattle.std.specs.Str.{byte}
@@ -18,17 +18,17 @@ abbrev pub is_prefixed : ℕ → ℕ → List ℕ → Bool
 is_prefixed letter base [] = false
 is_prefixed letter base (b ∷ bs) = nat_eq b letter && begins_digit base bs
 
--- the base of a word that is read as a number, 0 for any other word: a digit begins an octal number, `d` and a digit a
+-- the base of a word that is read as a number: a digit begins an octal number, `d` and a digit a
 -- decimal one, `x` and a hexadecimal digit a hexadecimal one
-abbrev pub number_base : List ℕ → ℕ
+abbrev pub number_base : List ℕ → Option ℕ
 number_base text =
-    if begins_digit 10 text then 8
-    else (if is_prefixed (byte "d") 10 text then 10
-    else (if is_prefixed (byte "x") 16 text then 16 else 0))
+    if begins_digit 10 text then Some 8
+    else (if is_prefixed (byte "d") 10 text then Some 10
+    else (if is_prefixed (byte "x") 16 text then Some 16 else None))
 
 -- whether a word is read as a number
 abbrev pub is_number_word : List ℕ → Bool
-is_number_word text = not (nat_eq (number_base text) 0)
+is_number_word text = is_some (number_base text)
 
 -- the digits of such a word
 abbrev pub number_digits : List ℕ → List ℕ

@@ -2,7 +2,7 @@ ghost use Rattle.std.specs.Prelude.{◌≡◌};
 ghost use Rattle.kmn_items.specs.Told.{texts, told_token};
 ghost use Rattle.kmn_items.specs.Leads.{followed, word_lead, token_lead, lead_of};
 
-use crate::numbers::{digits_lead, is_number_word, number_base, number_digits};
+use crate::numbers::{digits_lead, number_base, number_digits};
 use crate::syntax::{ItemWord, Lead};
 use crate::text::{LineTokens, begins_open, text_in};
 use crate::words::item_word;
@@ -22,8 +22,8 @@ fn followed(opened: bool, word: ItemWord) -> ItemWord
 fn word_lead(opened: bool, text: &[u8]) -> Lead
     ensures { result ≡ word_lead opened text.now }
 {
-    if is_number_word(text) {
-        return digits_lead(number_base(text), number_digits(text));
+    if let Some(base) = number_base(text) {
+        return digits_lead(base, number_digits(text));
     }
     match item_word(text) {
         Some(word) => Lead::Named(followed(opened, word)),

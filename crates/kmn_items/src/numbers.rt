@@ -1,4 +1,4 @@
-ghost use Rattle.std.specs.Prelude.{◌≡◌, ◌≤◌, ◌<◌, ◌^◌, length};
+ghost use Rattle.std.specs.Prelude.{◌≡◌, ◌≤◌, IfSome, ◌<◌, ◌^◌, length};
 ghost use Rattle.std.specs.List.{list_all};
 ghost use Rattle.std.specs.Char.{digit_value, is_digit};
 ghost use Rattle.kmn_items.specs.Numbers.{begins_digit, is_prefixed, number_base, is_number_word, number_digits, with_digit, bounded_value, character_lead, digits_lead, is_offset, offset_value};
@@ -46,19 +46,20 @@ fn is_prefixed(letter: u8, base: u32, text: &[u8]) -> bool
     }
 }
 
-/// The base of a word that is read as a number, 0 for any other word.
-pub(crate) fn number_base(text: &[u8]) -> u32
+/// The base of a word that is read as a number.
+pub(crate) fn number_base(text: &[u8]) -> Option<u32>
     ensures base { result ≡ number_base text.now }
-    ensures most { result ≤ 16 }
+    ensures least { IfSome result (λ base. 2 ≤ base) }
+    ensures most { IfSome result (λ base. base ≤ 16) }
 {
     if begins_digit(10, text) {
-        8
+        Some(8)
     } else if is_prefixed(b'd', 10, text) {
-        10
+        Some(10)
     } else if is_prefixed(b'x', 16, text) {
-        16
+        Some(16)
     } else {
-        0
+        None
     }
 }
 
@@ -66,7 +67,7 @@ pub(crate) fn number_base(text: &[u8]) -> u32
 pub fn is_number_word(text: &[u8]) -> bool
     ensures { result ≡ is_number_word text.now }
 {
-    number_base(text) != 0
+    number_base(text).is_some()
 }
 
 /// The digits of a word that is read as a number.

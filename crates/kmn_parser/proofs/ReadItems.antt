@@ -29,7 +29,7 @@ use Rattle.kmn_items.specs.declared.syntax.Taken.{Taken}
 use Rattle.kmn_base.specs.Answers.{and_then}
 use Rattle.kmn_items.specs.Told.{LineToken, fault, text_at, inside, quoted, begins_open, is_word}
 use Rattle.kmn_items.specs.Words.{is_system_name, item_word, is_key_name}
-use Rattle.kmn_items.specs.Numbers.{character_lead, digits_lead, number_base, number_digits, bounded_value, is_number_word}
+use Rattle.kmn_items.specs.Numbers.{character_lead, digits_lead, number_base, number_digits, bounded_value}
 use Rattle.kmn_items.specs.Slots.{unless, or_fault, broken}
 use Rattle.kmn_items.specs.Leads.{named_lead, word_lead, token_lead, lead_of}
 use Rattle.kmn_items.specs.Standing.{standing_code, is_crowded}
@@ -85,7 +85,13 @@ named-sound opened (Some named) = tt
 
 word-sound : (opened : Bool) (text : List ℕ) → IsSoundLead (word_lead opened text)
 word-sound opened text =
-    cond_both (is_number_word text) _ _ IsSoundLead (λ e. digits-sound (number_base text) (number_digits text)) (λ e. named-sound opened (item_word text))
+    elim (number_base text) as (λ found. IsSoundLead (elim found [
+      | Some base ↦ digits_lead base (number_digits text)
+      | None ↦ named_lead opened (item_word text)
+    ])) [
+      | Some base ↦ digits-sound base (number_digits text)
+      | None ↦ named-sound opened (item_word text)
+    ]
 
 token-lead-sound : (opened : Bool) (sort : TokenKind) (text : List ℕ) → IsSoundKind sort → IsSoundLead (token_lead opened (record { kind = sort; text = text }))
 token-lead-sound opened kind.Quoted text sound = tt
