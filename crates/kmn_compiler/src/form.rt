@@ -33,12 +33,7 @@ fn is_character_item(item: &SrcItem) -> bool
 fn are_characters(items: &[SrcItem]) -> bool
     ensures { result ≡ list_all is_character_item items.now }
 {
-    for item in items {
-        if !is_character_item(item) {
-            return false;
-        }
-    }
-    true
+    items.iter().all(|item| is_character_item(item))
 }
 
 /// Whether a key is such a character, of one UTF-16 unit.
@@ -79,22 +74,15 @@ fn earlier(one: Option<u32>, other: Option<u32>) -> Option<u32>
 fn first_other_rule(rules: &[RuleDef]) -> Option<u32>
     ensures { result ≡ option_map rule_line (find (λ rule. not (is_character_rule rule)) rules.now) }
 {
-    for rule in rules {
-        if !is_character_rule(rule) {
-            return Some(rule.line);
-        }
-    }
-    None
+    let other = rules.iter().find(|rule| !is_character_rule(rule));
+    other.map(|rule| rule.line)
 }
 
 /// The line of the rule past the limit of a file.
 fn rule_past_limit(rules: &[RuleDef]) -> Option<u32>
     ensures { result ≡ option_map rule_line (slice_get rules.now RECORDS) }
 {
-    match rules.get(RECORDS) {
-        Some(rule) => Some(rule.line),
-        None => None,
-    }
+    rules.get(RECORDS).map(|rule| rule.line)
 }
 
 /// The line of a group that doesn't use keys, or of its first rule that leaves the form.
