@@ -1,5 +1,5 @@
 -- The text of a physical line ends where first a comment begins or a joining backslash stands.
-use Rattle.std.proofs.Common.{◌≡◌, ℕ, zero, suc, ◌+◌, ◌<◌, ◌≤◌, ◌⊎◌, inl, inr, Bool, true, false, ◌&&◌, ◌||◌, not, if◌then◌else◌, ◌==◌, List, [], ◌∷◌, ◌++◌, length, take, drop, Option, None, Some, is_some, refl, sym, ◌∙◌, ap, subst, arith, length-append, length-drop, append_assoc, below_more}
+use Rattle.std.proofs.Common.{◌≡◌, ℕ, ◌+◌, ◌<◌, ◌≤◌, ◌⊎◌, inl, inr, Bool, true, false, ◌&&◌, ◌||◌, not, if◌then◌else◌, ◌==◌, List, [], ◌∷◌, ◌++◌, length, take, drop, Option, None, Some, is_some, refl, sym, ◌∙◌, ap, subst, arith, length-append, length-drop, append_assoc, below_more}
 use Rattle.std.specs.Prelude.{All, unwrap_or}
 use Rattle.std.specs.List.{list_all}
 use Rattle.std.proofs.Math.Seq.{take-append_seam, drop-append_seam}
@@ -8,7 +8,7 @@ use Rattle.std.proofs.lemmas.List.{append-nil, take-append-le, drop-append-le}
 use Rattle.std.proofs.lemmas.List.Elements.{All-head, All-tail}
 use Rattle.kmn_base.specs.Bytes.{is_blank, is_quote}
 use Rattle.kmn_lines.specs.declared.line_state.LineState.{LineState}
-use Rattle.kmn_lines.specs.Lines.{starts_comment, line_start, outside, inside, in_line, after_byte}
+use Rattle.kmn_lines.specs.Lines.{starts_comment, line_start, outside, in_line, after_byte}
 use Rattle.kmn_lines.specs.Laws.{quote_behind, open_quote, first_or, last_or, is_outside, is_lone_c, comment_at, is_lone_backslash, joint_at, IsInLine, IsCut}
 use Rattle.kmn_lines.proofs.Sizes.{or-false, and-true}
 

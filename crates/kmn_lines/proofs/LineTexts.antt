@@ -13,8 +13,8 @@ use Rattle.kmn_lines.specs.declared.logical.Logical.{Logical}
 use Rattle.kmn_lines.specs.declared.logical.Part.{Part}
 use Rattle.kmn_lines.specs.Bytes.{first_or_end}
 use Rattle.kmn_lines.specs.Lines.{ends_line, line_start, after_byte, physical_line, physical_lines, physical_lines_at, extended, gather, mark_size, logicals, is_skipped, dropped, physical_text, part_behind, opening_parts, parts_in}
-use Rattle.kmn_lines.specs.Laws.{bytes_between, first_or, IsInLine, IsLineEnd, IsCut, IsPhysicalLine, IsJoined, AreJoined, PartsAreTexts}
-use Rattle.kmn_lines.proofs.Sizes.{or-false, or-both}
+use Rattle.kmn_lines.specs.Laws.{first_or, IsInLine, IsLineEnd, IsCut, IsPhysicalLine, IsJoined, AreJoined, PartsAreTexts}
+use Rattle.kmn_lines.proofs.Sizes.{or-both}
 use Rattle.kmn_lines.proofs.Whole.{mark-within}
 use Rattle.kmn_lines.proofs.Cuts.{after_bytes, Cut, line_cut}
 

@@ -1,9 +1,9 @@
 -- What is dropped before a text are blanks and a word.
-use Rattle.std.proofs.Common.{◌≡◌, ℕ, ◌+◌, ◌⊎◌, inl, inr, Bool, true, false, ◌||◌, List, [], ◌∷◌, take, drop, refl, sym, subst}
+use Rattle.std.proofs.Common.{◌≡◌, ℕ, ◌+◌, ◌⊎◌, inl, inr, true, List, [], ◌∷◌, take, drop, refl, sym, subst}
 use Rattle.std.specs.Prelude.{codes}
 use Rattle.std.specs.List.{list_all}
 use Rattle.kmn_base.specs.Bytes.{is_blank}
-use Rattle.kmn_lines.specs.Lines.{blanks, begins_with, begins_other, is_skipped, dropped}
+use Rattle.kmn_lines.specs.Lines.{blanks, begins_with, is_skipped, dropped}
 use Rattle.kmn_lines.specs.Laws.{IsBlankText, IsPrefix, PrefixesAreDropped}
 use Rattle.kmn_lines.proofs.Sizes.{both, take-one}
 use Rattle.kmn_lines.proofs.Cuts.{and-both, or-cases}

@@ -1,7 +1,6 @@
 pub mod Bytes
 pub mod Lines
 pub mod Tokens
-pub mod Answers
 pub mod Places
 pub mod Walks
 pub mod Laws

@@ -1,6 +1,6 @@
 -- The tokens of a logical line, and the first fault among them.
 use Rattle.std.specs.Prelude.{ℕ, ◌+◌, ◌-◌, ◌*◌, ◌==◌, nat_lt, nat_le, min, zero, suc, Bool, true, false, not, ◌&&◌, ◌||◌, if◌then◌else◌, List, [], ◌∷◌, ◌++◌, length, take, drop, Option, None, Some, is_some, unwrap_or, option_map}
-use Rattle.std.specs.List.{list_any, starts_with}
+use Rattle.std.specs.List.{list_all, list_any, starts_with}
 use Rattle.kmn_base.specs.declared.codes.Code.{Code}
 use Rattle.kmn_base.specs.declared.codes.Code.TheVariants.{L02, L03, L04}
 use Rattle.kmn_base.specs.declared.refusals.Refusal.{Refusal}
@@ -96,8 +96,7 @@ is_closed (byte ∷ bytes) = not (is_quote byte) || list_any (λ b. b == byte) b
 
 -- each byte is a hexadecimal digit
 abbrev pub all_digits : List ℕ → Bool
-all_digits [] = true
-all_digits (byte ∷ bytes) = is_some (hex_digit byte) && all_digits bytes
+all_digits digits = list_all (λ digit. is_some (hex_digit digit)) digits
 
 -- a number that is a Unicode scalar value
 abbrev pub is_scalar : ℕ → Bool

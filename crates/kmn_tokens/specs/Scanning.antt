@@ -1,8 +1,9 @@
 -- What the steps of a scan answer.
 use Rattle.std.specs.Prelude.{◌≡◌, ℕ, ◌+◌, ◌<◌, ◌≤◌, List, ◌++◌, length, drop, Option, None, Some, Result, Ok, Err}
 use Rattle.kmn_base.specs.declared.codes.Code.{Code}
+use Rattle.kmn_base.specs.declared.refusals.Refusal.{Refusal}
 use Rattle.kmn_base.specs.declared.refusals.CompileError.{CompileError}
-use Rattle.kmn_base.specs.declared.refusals.CompileError.TheVariants.{Refused, Memory}
+use Rattle.kmn_base.specs.declared.refusals.CompileError.TheVariants.{Refused, TooLarge, Memory}
 use Rattle.kmn_lines.specs.declared.token.Token.{Token}
 use Rattle.kmn_lines.specs.Tokens.{refusal, scanned, first_fault}
 use Rattle.kmn_tokens.specs.declared.token_error.TokenError.{TokenError}
@@ -12,6 +13,13 @@ use Rattle.kmn_tokens.specs.declared.token_error.TokenError.TheVariants.{Fault, 
 abbrev pub error_at : ℕ → TokenError → CompileError
 error_at line (Fault code) = Refused (refusal line code)
 error_at line NoMemory = Memory
+
+-- the tokens of a line where there is no refusal, else the refusal; want of memory alone is free
+abbrev pub GivesTokens : Option Refusal → List Token → Result (List Token) CompileError → Type 0
+GivesTokens refusal tokens (Ok found) = (refusal ≡ None) × (found ≡ tokens)
+GivesTokens refusal tokens (Err (Refused r)) = refusal ≡ Some r
+GivesTokens refusal tokens (Err (TooLarge code size)) = ⊥
+GivesTokens refusal tokens (Err Memory) = Unit {0}
 
 -- the value where there is no fault, else the fault
 abbrev pub Gives : {A : Type 0} → Option Code → A → Result A Code → Type 0

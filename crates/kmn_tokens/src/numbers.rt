@@ -23,12 +23,7 @@ fn hex_value(digits: &[u8]) -> u32
 fn all_digits(digits: &[u8]) -> bool
     ensures { result ≡ all_digits digits.now }
 {
-    for digit in digits {
-        if hex_digit(*digit).is_none() {
-            return false;
-        }
-    }
-    true
+    digits.iter().all(|digit| hex_digit(*digit).is_some())
 }
 
 /// The character of a number.
