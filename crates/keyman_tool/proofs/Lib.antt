@@ -9,3 +9,4 @@ pub mod RunLaws
 pub mod ScriptLinesLaws
 pub mod ScriptWordsLaws
 pub mod TextLinesLaws
+pub mod WorkLaws

@@ -1,5 +1,5 @@
 -- What stands in a sink where a play goes on, and where it stops.
-use Rattle.std.proofs.Common.{◌≡◌, ℕ, ◌+◌, ◌-◌, ◌^◌, ◌<◌, ◌≤◌, Bool, true, false, List, [], ◌∷◌, ◌++◌, length, drop, get_or, Option, Some, None, Result, Ok, Err, refl, ap, sym, ◌∙◌, subst, arith, add-one, drop-cons, append-nil, if◌then◌else◌}
+use Rattle.std.proofs.Common.{◌≡◌, ℕ, ◌+◌, ◌-◌, ◌^◌, ◌<◌, ◌≤◌, Bool, true, false, List, [], ◌∷◌, ◌++◌, length, drop, get_or, Option, Some, None, Result, Ok, Err, refl, ap, sym, ◌∙◌, subst, arith, add-one, drop-cons, append-nil}
 use Rattle.std.specs.Prelude.{map, position}
 use Rattle.std.proofs.lemmas.Bool.Decides.{nat_tests}
 use Rattle.std.proofs.Math.ListN.{drop_of_length-le}
@@ -19,8 +19,8 @@ use Rattle.rule_model.specs.Event.{State, Happening, happening, event_refusal, u
 use Rattle.rule_model.specs.Keyboard.{Keyboard}
 use Rattle.rule_model.specs.KeyEvent.{begin_event, after_key}
 use Rattle.rule_model.specs.Tab.{tab}
-use Rattle.rule_model.specs.Trace.{Step, Steps, trace, steps_from, step_then, before_steps, first_state}
-use Rattle.rule_model.specs.Transcript.{events_of, transcript, transcript_of, lines_from, step_lines}
+use Rattle.rule_model.specs.Trace.{Step, Steps, trace, steps_from, step_then, first_state}
+use Rattle.rule_model.specs.Transcript.{events_of, transcript, lines_from, step_lines}
 use Rattle.play_session.specs.Session.{SessionState, first_session, happened, after_step}
 use Rattle.keyman_tool.specs.declared.playing.PlayEnd.{PlayEnd}
 use Rattle.keyman_tool.specs.declared.playing.PlayEnd.TheVariants as play

@@ -1,5 +1,5 @@
 -- The first word of a text, and the words behind it.
-use Rattle.std.proofs.Common.{◌≡◌, inl, inr, Bool, get_or, ℕ, ◌+◌, ◌<◌, ◌≤◌, not, nat_lt, true, false, List, [], ◌∷◌, length, take, drop, refl, ap, ◌∙◌, sym, subst, arith}
+use Rattle.std.proofs.Common.{◌≡◌, inl, inr, Bool, get_or, ℕ, ◌+◌, ◌<◌, not, nat_lt, List, [], ◌∷◌, length, take, drop, refl, ap, ◌∙◌, sym, subst, arith}
 use Rattle.std.proofs.lemmas.Grind.{common_steps}
 use Rattle.std.proofs.lemmas.Bool.{cases_lt}
 use Rattle.std.proofs.lemmas.List.{drop_all, drop_more, length-take-le, take_all}

@@ -1,13 +1,10 @@
 -- The calls of a folder that a run makes.
-use Rattle.std.specs.Prelude.{◌≡◌, ◌⊎◌, ℕ, Bool, true, false, List, [], ◌∷◌, ◌++◌, map, Option, Some, None, Result, Ok, Err}
+use Rattle.std.specs.Prelude.{◌≡◌, ◌⊎◌, ℕ, Bool, true, false, not, ◌&&◌, IsTrue, List, [], ◌∷◌, ◌++◌, map}
+use Rattle.std.specs.List.{list_any}
 use Rattle.kmn_outside.specs.Outside.{call_of}
 use Rattle.kmn_outside.specs.declared.traits.Call.{Call}
 use Rattle.keyman_tool.specs.declared.status.Status.{Status}
 use Rattle.keyman_tool.specs.declared.status.Status.TheVariants as status
-use Rattle.keyman_tool.specs.declared.preparing.Stop.{Stop}
-use Rattle.keyman_tool.specs.declared.preparing.Stop.TheVariants as stop
-use Rattle.keyman_tool.specs.Command.{Request}
-use Rattle.keyman_tool.specs.Command.Request.{Compile, Test}
 
 -- a name that is asked for, and whether its file is to be written
 abbrev pub Ask : Type 0
@@ -45,28 +42,21 @@ pub record AsksUntil (is_write : Bool) (wanted : List Ask) (before after : List 
   pub parts : wanted ≡ front ++ (name, is_write) ∷ rest
   pub made : after ≡ before ++ (map answered front ++ failed (name, is_write) ∷ [])
 
--- the calls of work that stopped
-abbrev pub AsksStopped : List Ask → List Call → List Call → Stop → Type 0
-AsksStopped wanted before after stop.ReadFault = AsksUntil false wanted before after
-AsksStopped wanted before after other = AsksFirst wanted before after
-
--- the calls of work that is a part of a run: all where it succeeds, else by why it stops
-abbrev pub Asks : {A : Type 0} → List Ask → List Call → List Call → Result A Stop → Type 0
-Asks wanted before after (Ok x) = AsksAll wanted before after
-Asks wanted before after (Err s) = AsksStopped wanted before after s
-
 -- the calls of a run by its status, and the fact that the sink's count of faults rose: a run ends with a fault of reading
 -- exactly where its last call is a read that failed, and with a fault of writing exactly where its last call is a write that
--- failed or the sink failed; all is asked where all is done
+-- failed or the sink failed; all is asked and answered where the run doesn't end early
 abbrev pub AsksBy : Type 0 → List Ask → List Call → List Call → Status → Type 0
-AsksBy sink_rose wanted before after status.Done = AsksAll wanted before after
-AsksBy sink_rose wanted before after status.ExpectFailed = AsksAll wanted before after
 AsksBy sink_rose wanted before after status.ReadFault = AsksUntil false wanted before after
-AsksBy sink_rose wanted before after status.WriteFault = AsksUntil true wanted before after ⊎ (sink_rose × AsksFirst wanted before after)
-AsksBy sink_rose wanted before after _ = AsksFirst wanted before after
+AsksBy sink_rose wanted before after status.WriteFault = AsksUntil true wanted before after ⊎ (sink_rose × AsksAll wanted before after)
+AsksBy sink_rose wanted before after status.Memory = AsksFirst wanted before after
+AsksBy sink_rose wanted before after _ = AsksAll wanted before after
 
--- what the words ask of the folder
-abbrev pub asks_of : Option Request → List Ask
-asks_of None = []
-asks_of (Some (Compile source file)) = read_of source ∷ write_of file ∷ []
-asks_of (Some (Test source file keys)) = read_of source ∷ read_of keys ∷ write_of file ∷ []
+-- a write that was answered
+abbrev pub has_written : Call → Bool
+has_written call = call.is_write && not call.failed
+
+-- among the calls that were made is a write that was answered
+pub record HasWritten (before after : List Call) : Type 0 where
+  pub made : List Call
+  pub added : after ≡ before ++ made
+  pub written : IsTrue (list_any has_written made)

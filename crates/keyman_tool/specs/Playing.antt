@@ -1,14 +1,12 @@
 -- What is printed of a script that presses keys, event by event.
-use Rattle.std.specs.Prelude.{◌≡◌, ℕ, List, [], ◌∷◌, ◌++◌, Option, Some, None, Result, Ok, Err}
+use Rattle.std.specs.Prelude.{◌≡◌, ℕ, List, [], ◌++◌, Option, Some, None, Result, Ok, Err}
 use Rattle.kmn_base.specs.declared.codes.Code.{Code}
 use Rattle.kmn_base.specs.declared.events.Event.{Event}
 use Rattle.kmn_base.specs.Lists.{characters, window}
 use Rattle.rule_model.specs.declared.script.Entry.{Entry}
 use Rattle.rule_model.specs.declared.script.Entry.TheVariants.{Act, Expect}
-use Rattle.rule_model.specs.declared.tables.Tables.{Tables}
 use Rattle.rule_model.specs.Act.{one_more}
-use Rattle.rule_model.specs.Event.{State, Happening, event_of}
-use Rattle.rule_model.specs.Keyboard.{Keyboard}
+use Rattle.rule_model.specs.Event.{Happening, event_of}
 use Rattle.rule_model.specs.Lines.{event_line, text_line, end_line}
 use Rattle.rule_model.specs.Tab.{tab}
 use Rattle.rule_model.specs.Trace.{Steps, steps_from}

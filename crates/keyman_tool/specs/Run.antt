@@ -1,140 +1,92 @@
--- How a run ends, and what it leaves.
-use Rattle.std.specs.Prelude.{◌≡◌, ◌⊎◌, ℕ, List, [], ◌∷◌, ◌++◌, length, codes, Option, Some, None, option_map, IfSome, Result, Ok, Err}
-use Rattle.std.specs.List.{concat}
-use Rattle.std.specs.Fmt.{decimal}
-use Rattle.kmn_base.specs.declared.codes.Code.{Code}
+-- What a run of work does to a folder and a sink.
+use Rattle.std.specs.Prelude.{◌≡◌, ◌≢◌, ◌⊎◌, ℕ, false, IsTrue, List, [], ◌∷◌, ◌++◌, map, Option, Some, None, IsSomeAnd, Ok}
 use Rattle.kmn_outside.specs.Outside.{Files, Rose, SameFiles, SameOthers}
-use Rattle.kmx_format.specs.File.{file_of, all_rules}
-use Rattle.compile_laws.specs.Means.{Means}
-use Rattle.compile_laws.specs.Ordered.{compiled_tables}
-use Rattle.rule_model.specs.Src.{src}
-use Rattle.rule_model.specs.Tab.{tab}
-use Rattle.rule_model.specs.Trace.{trace}
-use Rattle.rule_model.specs.Transcript.{events_of, transcript}
-use Rattle.rule_model.specs.Keyboard.{Keyboard}
+use Rattle.rule_model.specs.Means.{Means}
 use Rattle.rule_model.specs.declared.program.Program.{Program}
-use Rattle.rule_model.specs.declared.script.Entry.{Entry}
-use Rattle.rule_model.specs.declared.tables.Tables.{Tables}
-use Rattle.keyman_tool.specs.declared.reason.Reason.{Reason}
 use Rattle.keyman_tool.specs.declared.status.Status.{Status}
 use Rattle.keyman_tool.specs.declared.status.Status.TheVariants as status
-use Rattle.keyman_tool.specs.Command.{Request, request_of}
+use Rattle.keyman_tool.specs.Asked.{Ask, write_of, answered, failed, AsksAll, AsksFirst, AsksUntil, HasWritten}
+use Rattle.keyman_tool.specs.Command.{Request}
 use Rattle.keyman_tool.specs.Command.Request.{Compile, Test}
-use Rattle.keyman_tool.specs.Inputs.{Job, job_of, file_program, file_tables, file_script}
-use Rattle.keyman_tool.specs.Reasons.{reason_line}
+use Rattle.keyman_tool.specs.Endings.{Ending, ends, file_asks}
+use Rattle.keyman_tool.specs.Orders.{program_work}
 use Rattle.keyman_tool.specs.Printing.{IsBegun}
-
--- how a run ends where no call fails but the reading of a missing file: its status, the file that it writes by name and
--- bytes, and all that it prints
-pub record Ending : Type 0 where
-  pub status : Status
-  pub file : Option (List ℕ × List ℕ)
-  pub printed : List ℕ
-
--- an end with nothing written or printed
-abbrev pub bare_ending : Status → Ending
-bare_ending status = record { status = status; file = None; printed = [] }
-
--- an end with the line of a reason
-abbrev pub refused_ending : Reason → Ending
-refused_ending why = record { status = status.Refused; file = None; printed = reason_line why }
-
--- what is printed of a compiled file: its counts and its size
-unfoldable pub compiled_line : Tables → List ℕ
-compiled_line tables = concat (
-    codes "compiled stores=" ∷ decimal (length tables.stores)
-    ∷ codes " groups=" ∷ decimal (length tables.groups)
-    ∷ codes " rules=" ∷ decimal (length (all_rules tables))
-    ∷ codes " bytes=" ∷ decimal (length (file_of tables []))
-    ∷ codes "\n" ∷ [])
-
--- a compilation writes the file of the tables and prints its line
-abbrev pub compile_ending : List ℕ → Option (Result Tables Reason) → Ending
-compile_ending name None = bare_ending status.ReadFault
-compile_ending name (Some (Err why)) = refused_ending why
-compile_ending name (Some (Ok tables)) = record { status = status.Done; file = Some (name, file_of tables []); printed = compiled_line tables }
-
--- a play ends well, or with the refusal of an event
-abbrev pub play_status : Option (ℕ × Code) → Status
-play_status None = status.Done
-play_status (Some refused) = status.Refused
-
--- a test writes the file of the tables, and prints what a keyboard does with the script
-abbrev pub played_ending : List ℕ → Tables → Keyboard → List Entry → Ending
-played_ending name tables kb entries =
-    record {
-      status = play_status (trace kb (events_of entries)).refused;
-      file = Some (name, file_of tables []);
-      printed = transcript kb entries;
-    }
-
--- a test that is refused prints the reason's line; else it prints what the program means
-abbrev pub meant_ending : List ℕ → Option (Result (Job Program) Reason) → Ending
-meant_ending name None = bare_ending status.ReadFault
-meant_ending name (Some (Err why)) = refused_ending why
-meant_ending name (Some (Ok job)) = played_ending name (compiled_tables job.keyboard) (src job.keyboard) job.entries
-
--- the same ending by the tables of the program
-abbrev pub test_ending : List ℕ → Option (Result (Job Tables) Reason) → Ending
-test_ending name None = bare_ending status.ReadFault
-test_ending name (Some (Err why)) = refused_ending why
-test_ending name (Some (Ok job)) = played_ending name job.keyboard (tab job.keyboard) job.entries
-
--- how the run of a request ends
-abbrev pub request_ending : Files → Option Request → Ending
-request_ending files None = bare_ending status.Words
-request_ending files (Some (Compile source file)) = compile_ending file (file_tables files source)
-request_ending files (Some (Test source file keys)) = meant_ending file (job_of (file_program files source) (file_script files keys))
-
--- how the run of words ends
-abbrev pub ending : Files → List (List ℕ) → Ending
-ending files words = request_ending files (request_of words)
+use Rattle.keyman_tool.specs.Seen.{FolderView, SinkView, FolderState, SinkState, seen_folder, seen_sink}
+use Rattle.keyman_tool.specs.Work.{Work, reads, comes_to}
 
 -- the file of an ending is written, and no other name differs
 abbrev pub Written : Option (List ℕ × List ℕ) → Files → Files → Type 0
 Written None before after = SameFiles before after
 Written (Some file) before after = SameOthers file.0 before after × (after file.0 ≡ Some file.1)
 
--- at most the name of the file of an ending differs
-abbrev pub Spoilt : Option (List ℕ × List ℕ) → Files → Files → Type 0
-Spoilt None before after = SameFiles before after
-Spoilt (Some file) before after = SameOthers file.0 before after
+-- all that is to be read was read, and no file differs
+pub record HasRead (wanted : List Ask) (before after : FolderState) : Type 0 where
+  pub asked : AsksAll wanted before.calls after.calls
+  pub files : SameFiles before.files after.files
 
--- the files and what was printed, before and after a run
-pub record Effect : Type 0 where
-  pub files : Files
-  pub files_after : Files
-  pub printed : List ℕ
-  pub printed_after : List ℕ
+-- a first part of it was read, and no file differs
+pub record HasBegunToRead (wanted : List Ask) (before after : FolderState) : Type 0 where
+  pub asked : AsksFirst wanted before.calls after.calls
+  pub files : SameFiles before.files after.files
 
--- no file differs, and nothing was printed
-abbrev pub IsQuiet : Effect → Type 0
-IsQuiet effect = SameFiles effect.files effect.files_after × (effect.printed_after ≡ effect.printed)
+-- the last read failed, and no file differs
+pub record HasFailedToRead (wanted : List Ask) (before after : FolderState) : Type 0 where
+  pub asked : AsksUntil false wanted before.calls after.calls
+  pub files : SameFiles before.files after.files
 
--- the run came to its end with this status
-abbrev pub IsEnded : Ending → Status → Effect → Type 0
-IsEnded ending status effect =
-    (ending.status ≡ status)
-    × Written ending.file effect.files effect.files_after
-    × (effect.printed_after ≡ effect.printed ++ ending.printed)
+-- all that is to be read was read, and the file was written
+pub record HasWorked (wanted : List Ask) (ending : Ending) (before after : FolderState) : Type 0 where
+  pub asked : AsksAll (wanted ++ file_asks ending.file) before.calls after.calls
+  pub files : Written ending.file before.files after.files
 
--- the write failed: at most the file that was to be written differs, and nothing was printed
-abbrev pub IsSpoilt : Ending → Effect → Type 0
-IsSpoilt ending effect = Spoilt ending.file effect.files effect.files_after × (effect.printed_after ≡ effect.printed)
+-- all that is to be read was read, and the write failed: at most its name differs
+pub record HasFailedToWrite (wanted : List Ask) (ending : Ending) (before after : FolderState) : Type 0 where
+  pub name : List ℕ
+  pub bytes : List ℕ
+  pub file : ending.file ≡ Some (name, bytes)
+  pub asked : after.calls ≡ before.calls ++ (map answered wanted ++ failed (write_of name) ∷ [])
+  pub files : SameOthers name before.files after.files
 
--- the printing broke off: the file is written, and a first part of the output was printed
-abbrev pub IsCutOff : Ending → Effect → Type 0
-IsCutOff ending effect = Written ending.file effect.files effect.files_after × IsBegun effect.printed effect.printed_after ending.printed
+-- nothing was printed, where a sink tells it
+abbrev pub IsSilent : SinkState → SinkState → Type 0
+IsSilent before after = IsTrue before.told → after.written ≡ before.written
 
--- what a run leaves, by its status; the two facts say that the folder's and the sink's count of faults rose
-abbrev pub Leaves : Ending → Type 0 → Type 0 → Effect → Status → Type 0
-Leaves ending folder_rose sink_rose effect status.Done = IsEnded ending status.Done effect
-Leaves ending folder_rose sink_rose effect status.Refused = IsEnded ending status.Refused effect
-Leaves ending folder_rose sink_rose effect status.Words = (ending.status ≡ status.Words) × IsQuiet effect
-Leaves ending folder_rose sink_rose effect status.ReadFault = folder_rose × IsQuiet effect
-Leaves ending folder_rose sink_rose effect status.WriteFault = (folder_rose × IsSpoilt ending effect) ⊎ (sink_rose × IsCutOff ending effect)
-Leaves ending folder_rose sink_rose effect status.Memory = IsQuiet effect ⊎ IsCutOff ending effect
-Leaves ending folder_rose sink_rose effect status.ExpectFailed = IsEnded ending status.ExpectFailed effect
+-- the run came to its end with this status: all of its output was printed
+pub record IsEnded (wanted : List Ask) (end : Option Ending) (before after : FolderState) (sink sink_after : SinkState) (how : Status) : Type 0 where
+  pub ending : Ending
+  pub is : end ≡ Some ending
+  pub how_is : how ≡ ending.status
+  pub worked : HasWorked wanted ending before after
+  pub printed : IsTrue sink.told → sink_after.written ≡ sink.written ++ ending.printed
+
+-- the write failed
+pub record IsSpoilt (wanted : List Ask) (end : Option Ending) (before after : FolderState) (sink sink_after : SinkState) : Type 0 where
+  pub ending : Ending
+  pub is : end ≡ Some ending
+  pub spoilt : HasFailedToWrite wanted ending before after
+  pub silent : IsSilent sink sink_after
+
+-- the printing broke off: a first part of the output was printed
+pub record IsCutOff (wanted : List Ask) (end : Option Ending) (before after : FolderState) (sink sink_after : SinkState) : Type 0 where
+  pub ending : Ending
+  pub is : end ≡ Some ending
+  pub worked : HasWorked wanted ending before after
+  pub begun : IsTrue sink.told → IsBegun sink.written sink_after.written ending.printed
+
+-- what a run leaves, by its status, of work that reads these names and ends so
+abbrev pub LeavesBy : List Ask → Option Ending → FolderState → FolderState → SinkState → SinkState → Status → Type 0
+LeavesBy wanted end before after sink sink_after status.ReadFault =
+    Rose before.faults after.faults × HasFailedToRead wanted before after × IsSilent sink sink_after
+LeavesBy wanted end before after sink sink_after status.WriteFault =
+    (Rose before.faults after.faults × IsSpoilt wanted end before after sink sink_after)
+    ⊎ (Rose sink.faults sink_after.faults × IsCutOff wanted end before after sink sink_after)
+LeavesBy wanted end before after sink sink_after status.Memory =
+    (HasBegunToRead wanted before after × IsSilent sink sink_after) ⊎ IsCutOff wanted end before after sink sink_after
+LeavesBy wanted end before after sink sink_after other = IsEnded wanted end before after sink sink_after other
+
+-- what a run of work leaves, by its status
+abbrev pub Leaves : Work Ending → FolderState → FolderState → SinkState → SinkState → Status → Type 0
+Leaves work before after sink sink_after how = LeavesBy (reads before.files work) (ends before.files work) before after sink sink_after how
 
 -- which counts of faults a run raises, by its status: none but with the two statuses of faults
 abbrev pub FaultCounts : ℕ → ℕ → ℕ → ℕ → Status → Type 0
@@ -143,19 +95,21 @@ FaultCounts folder folder_after sink sink_after status.WriteFault =
     (Rose folder folder_after × (sink_after ≡ sink)) ⊎ ((folder_after ≡ folder) × Rose sink sink_after)
 FaultCounts folder folder_after sink sink_after _ = (folder_after ≡ folder) × (sink_after ≡ sink)
 
--- where a file of a source was written, it means the program of the source
-abbrev pub SourceMeans : Files → Files → List ℕ → List ℕ → Type 0
-SourceMeans before after source file = (program : Program) → file_program before source ≡ Some (Ok program) → IfSome (after file) (λ bytes. Means bytes program)
+-- a run of work from one state of a folder and a sink to another, with this status: the contract of every command
+pub record Does {F S : Type 0} (work : Work Ending) (folders : FolderView F) (folder folder_after : F) (sinks : SinkView S) (out out_after : S) (how : Status) : Type 0 where
+  pub form : how ≢ status.Words
+  pub counts : FaultCounts (folders.faults folder) (folders.faults folder_after) (sinks.faults out) (sinks.faults out_after) how
+  pub told : (folders.told folder_after ≡ folders.told folder) × (sinks.told out_after ≡ sinks.told out)
+  pub leaves : IsTrue (folders.told folder) → Leaves work (seen_folder folders folder) (seen_folder folders folder_after) (seen_sink sinks out) (seen_sink sinks out_after) how
 
--- a run with this status wrote the file of its ending
-abbrev pub HasWritten : Option (List ℕ × List ℕ) → Status → Type 0
-HasWritten (Some file) status.Done = Unit {0}
-HasWritten (Some file) status.Refused = Unit {0}
-HasWritten (Some file) status.ExpectFailed = Unit {0}
-HasWritten file s = ⊥
+-- the source has a program, and the file means it
+pub record SourceMeans (before after : Files) (source file : List ℕ) : Type 0 where
+  pub program : Program
+  pub is : comes_to before (program_work source) ≡ Some (Ok program)
+  pub means : IsSomeAnd (after file) (λ bytes. Means bytes program)
 
--- the file that a request wrote means the program of the source that it named
-abbrev pub FileMeans : Files → Files → Option Request → Type 0
+-- where a request's file was written, it means the source
+abbrev pub FileMeans : FolderState → FolderState → Option Request → Type 0
 FileMeans before after None = Unit {0}
-FileMeans before after (Some (Compile source file)) = SourceMeans before after source file
-FileMeans before after (Some (Test source file keys)) = SourceMeans before after source file
+FileMeans before after (Some (Compile source file)) = HasWritten before.calls after.calls → SourceMeans before.files after.files source file
+FileMeans before after (Some (Test source file keys)) = HasWritten before.calls after.calls → SourceMeans before.files after.files source file

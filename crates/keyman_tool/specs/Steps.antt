@@ -1,7 +1,6 @@
 -- What the steps of a run answer.
-use Rattle.std.specs.Prelude.{◌≡◌, ◌≤◌, ℕ, Bool, true, false, List, [], ◌∷◌, ◌++◌, length, Option, Some, None, Result, Ok, Err}
+use Rattle.std.specs.Prelude.{◌≡◌, IsTrue, ◌≤◌, ℕ, Bool, true, false, List, [], ◌++◌, length, Option, Some, Result, Ok, Err}
 use Rattle.std.specs.List.{list_all}
-use Rattle.kmn_base.specs.declared.refusals.Refusal.{Refusal}
 use Rattle.kmn_base.specs.declared.refusals.CompileError.{CompileError}
 use Rattle.kmn_base.specs.declared.refusals.CompileError.TheVariants as compile
 use Rattle.kmn_base.specs.declared.codes.Code.{Code}
@@ -28,8 +27,13 @@ use Rattle.keyman_tool.specs.declared.reason.Reason.{Reason}
 use Rattle.keyman_tool.specs.declared.reason.Reason.TheVariants as reason
 use Rattle.keyman_tool.specs.declared.status.Status.{Status}
 use Rattle.keyman_tool.specs.declared.status.Status.TheVariants as status
-use Rattle.keyman_tool.specs.Inputs.{Job}
+use Rattle.keyman_tool.specs.Asked.{Ask}
+use Rattle.keyman_tool.specs.Endings.{Job}
 use Rattle.keyman_tool.specs.Printing.{IsBegun}
+use Rattle.keyman_tool.specs.Reasons.{reason_line}
+use Rattle.keyman_tool.specs.Run.{HasRead, HasBegunToRead, HasFailedToRead}
+use Rattle.keyman_tool.specs.Seen.{FolderView, SinkView, FolderState, seen_folder}
+use Rattle.keyman_tool.specs.Work.{Work, reads, comes_to}
 
 -- why a run stops where a script isn't of its form
 abbrev pub form_stop : FormError → Stop
@@ -50,25 +54,21 @@ read_stop code read.Memory = stop.Memory
 
 -- the folder's count of faults rises where a read failed, and stays where not
 abbrev pub StopCounts : {A : Type 0} → ℕ → ℕ → Result A Stop → Type 0
-StopCounts before after (Ok value) = after ≡ before
-StopCounts before after (Err (stop.Refused why)) = after ≡ before
 StopCounts before after (Err stop.ReadFault) = Rose before after
-StopCounts before after (Err stop.Memory) = after ≡ before
+StopCounts before after _ = after ≡ before
 
--- the answer, seen as the stated value, is the stated one, and a reason is the stated one
-abbrev pub Answers : {A B : Type 0} → (A → B) → Option (Result B Reason) → Result A Stop → Type 0
-Answers seen stated (Ok value) = stated ≡ Some (Ok (seen value))
-Answers seen stated (Err (stop.Refused why)) = stated ≡ Some (Err why)
-Answers seen stated (Err stop.ReadFault) = Unit {0}
-Answers seen stated (Err stop.Memory) = Unit {0}
+-- what work that only reads leaves, by its answer, which is seen as a value
+abbrev pub GivesBy : {A B : Type 0} → (A → B) → List Ask → Option (Result B Reason) → FolderState → FolderState → Result A Stop → Type 0
+GivesBy seen wanted end before after (Ok value) = (end ≡ Some (Ok (seen value))) × HasRead wanted before after
+GivesBy seen wanted end before after (Err (stop.Refused why)) = (end ≡ Some (Err why)) × HasRead wanted before after
+GivesBy seen wanted end before after (Err stop.ReadFault) = HasFailedToRead wanted before after
+GivesBy seen wanted end before after (Err stop.Memory) = HasBegunToRead wanted before after
 
--- a script is read as it is stated, or refused by the stated refusal
-abbrev pub AnswersLine : {A : Type 0} → Option (Result A Refusal) → Result A Stop → Type 0
-AnswersLine stated (Ok value) = stated ≡ Some (Ok value)
-AnswersLine stated (Err (stop.Refused (reason.Line refusal))) = stated ≡ Some (Err refusal)
-AnswersLine stated (Err (stop.Refused (reason.Size code size))) = ⊥
-AnswersLine stated (Err stop.ReadFault) = Unit {0}
-AnswersLine stated (Err stop.Memory) = Unit {0}
+-- work that only reads, from one state of a folder to another, with this answer
+pub record Gives {F A B : Type 0} (seen : A → B) (work : Work B) (folders : FolderView F) (folder folder_after : F) (result : Result A Stop) : Type 0 where
+  pub counts : StopCounts (folders.faults folder) (folders.faults folder_after) result
+  pub told : folders.told folder_after ≡ folders.told folder
+  pub gives : IsTrue (folders.told folder) → GivesBy seen (reads (folders.files folder) work) (comes_to (folders.files folder) work) (seen_folder folders folder) (seen_folder folders folder_after) result
 
 -- bytes with the tables that they are the file of; the keyboard of the bytes is that of the tables, and has no store
 pub record IsCompiled (compiled : Compiled) : Type 0 where
@@ -82,6 +82,10 @@ pub record IsCompiled (compiled : Compiled) : Type 0 where
 abbrev pub tables_in : Compiled → Tables
 tables_in compiled = compiled.tables
 
+-- the entries that were read
+abbrev pub entries_in : List Entry → List Entry
+entries_in entries = entries
+
 -- an entry of a script that presses a key
 abbrev pub is_press : Entry → Bool
 is_press (Act line event) = is_key event
@@ -93,7 +97,7 @@ pub record IsPressing (entries : List Entry) : Type 0 where
   pub few : length entries ≤ 65_536
 
 -- what is prepared, as a job
-abbrev pub prepared_job : Prepared → Job Tables
+abbrev pub prepared_job : Prepared → Job
 prepared_job prepared = record { keyboard = prepared.compiled.tables; entries = prepared.entries }
 
 -- a file and a script that are ready to be played
@@ -103,19 +107,29 @@ pub record IsPrepared (prepared : Prepared) : Type 0 where
 
 -- the count of faults of a sink that something is printed to before a run ends well with a status
 abbrev pub SinkCounts : Status → ℕ → ℕ → Status → Type 0
-SinkCounts good before after status.Done = (status.Done ≡ good) × (after ≡ before)
-SinkCounts good before after status.Refused = (status.Refused ≡ good) × (after ≡ before)
 SinkCounts good before after status.WriteFault = Rose before after
 SinkCounts good before after status.Memory = after ≡ before
-SinkCounts good before after s = ⊥
+SinkCounts good before after status.Words = ⊥
+SinkCounts good before after status.ReadFault = ⊥
+SinkCounts good before after other = (other ≡ good) × (after ≡ before)
 
 -- what was printed before a run ends well with a status: all bytes, or where printing broke off a first part
-abbrev pub PrintsBy : Status → List ℕ → List ℕ → List ℕ → Status → Type 0
-PrintsBy good bytes before after status.Done = (status.Done ≡ good) × (after ≡ before ++ bytes)
-PrintsBy good bytes before after status.Refused = (status.Refused ≡ good) × (after ≡ before ++ bytes)
-PrintsBy good bytes before after status.WriteFault = IsBegun before after bytes
-PrintsBy good bytes before after status.Memory = IsBegun before after bytes
-PrintsBy good bytes before after s = ⊥
+abbrev pub PrintsBy : List ℕ → List ℕ → List ℕ → Status → Type 0
+PrintsBy bytes before after status.WriteFault = IsBegun before after bytes
+PrintsBy bytes before after status.Memory = IsBegun before after bytes
+PrintsBy bytes before after other = after ≡ before ++ bytes
+
+-- bytes are printed, and then the run ends with a good status, unless the printing breaks off
+pub record Tells {S : Type 0} (good : Status) (bytes : List ℕ) (sinks : SinkView S) (out out_after : S) (how : Status) : Type 0 where
+  pub counts : SinkCounts good (sinks.faults out) (sinks.faults out_after) how
+  pub told : sinks.told out_after ≡ sinks.told out
+  pub prints : IsTrue (sinks.told out) → PrintsBy bytes (sinks.written out) (sinks.written out_after) how
+
+-- a run that stops before it writes prints the line of a reason, or nothing
+abbrev pub TellsStop : {S : Type 0} → Stop → SinkView S → S → S → Status → Type 0
+TellsStop (stop.Refused why) sinks out out_after s = Tells status.Refused (reason_line why) sinks out out_after s
+TellsStop stop.ReadFault sinks out out_after s = (s ≡ status.ReadFault) × (out_after ≡ out)
+TellsStop stop.Memory sinks out out_after s = (s ≡ status.Memory) × (out_after ≡ out)
 
 -- the status of a run that ends with a write or a put that didn't succeed
 abbrev pub write_status : WriteError → Status

@@ -1,8 +1,10 @@
 //! The program: it compiles keyboard sources and plays key presses on the compiled files.
 //!
-//! It stands on every other crate. `run` does one command over a folder and a sink. Its contract says which files it
-//! asks for, and by the status in which it ends what it leaves in the files and prints. `main` calls it over the real
-//! files and standard output. So far one command and one form of source and script are built.
+//! It stands on every other crate. `run` does one command over a folder and a sink. `specs/Orders` has the order of work of
+//! each command as a value: which file is read first, how it goes on by what came, and how it ends. `specs/Run` says once
+//! what a run of such work asks for, leaves and answers (`Does`); each command's contract is its row, and `run` says the
+//! whole by name. `main` calls it over the real files and standard output. Two commands are built, `compile` and `test`, and
+//! one form of source and script.
 #![tactic(auto)]
 
 mod command;
@@ -19,16 +21,14 @@ mod status;
 mod tests;
 mod text_lines;
 mod transcript;
+mod words;
 
-use kmn_base::{Seq, Text};
+use kmn_base::Memory;
 use kmn_outside::{DiskFolder, StreamSink};
 use run::run;
 use status::Status;
-use std::alloc::Global;
-use std::env;
-use std::io::{self, ErrorKind};
 use std::process::ExitCode;
-use std::rt::Env;
+use words::words;
 
 fn main(rt: HostRuntime) -> ExitCode {
     let status = match words(&rt) {
@@ -38,17 +38,7 @@ fn main(rt: HostRuntime) -> ExitCode {
             &mut DiskFolder::new(&rt),
             &mut StreamSink::new(rt.stdout()),
         ),
-        Err(error) if error.kind() == ErrorKind::OutOfMemory => Status::Memory,
-        Err(_) => Status::Words,
+        Err(Memory) => Status::Memory,
     };
     ExitCode::from(status.number())
-}
-
-/// The words behind the program's name. One that isn't UTF-8 is an error.
-fn words(rt: &(impl Env + Alloc<A = Global>)) -> io::Result<Seq<Text>> {
-    let mut words = Vec::new(rt.alloc());
-    for word in env::args(rt)?.skip(1) {
-        words.push(Seq::from_vec(word.into_bytes()))?;
-    }
-    Ok(Seq::from_vec(words))
 }

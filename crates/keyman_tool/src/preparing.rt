@@ -1,8 +1,6 @@
-ghost use Rattle.std.specs.Prelude.{◌≡◌, ◌∷◌, [], IsTrue, IfOk, option_map};
-ghost use Rattle.kmn_outside.specs.Outside.{SameFiles};
-ghost use Rattle.keyman_tool.specs.Asked.{Asks, read_of};
-ghost use Rattle.keyman_tool.specs.Inputs.{job_of, file_tables, file_script};
-ghost use Rattle.keyman_tool.specs.Steps.{StopCounts, Answers, AnswersLine, IsCompiled, IsPressing, IsPrepared, tables_in, prepared_job, form_stop, compile_stop, read_stop};
+ghost use Rattle.std.specs.Prelude.{◌≡◌, IfOk};
+ghost use Rattle.keyman_tool.specs.Orders.{job_work, tables_work, script_work};
+ghost use Rattle.keyman_tool.specs.Steps.{Gives, IsCompiled, IsPressing, IsPrepared, tables_in, entries_in, prepared_job, form_stop, compile_stop, read_stop};
 
 use crate::forms::{FormError, INPUT_BYTES};
 use crate::reason::Reason;
@@ -37,11 +35,7 @@ pub fn prepare<F: Folder>(
     folder: &mut F,
 ) -> Result<Prepared, Stop>
     ensures prepared { IfOk result IsPrepared }
-    ensures counts { StopCounts (F.faults folder.old) (F.faults folder.new) result }
-    ensures told { F.told folder.new ≡ F.told folder.old }
-    ensures files { IsTrue (F.told folder.old) → SameFiles (F.files folder.old) (F.files folder.new) }
-    ensures asked { IsTrue (F.told folder.old) → Asks (read_of source.now ∷ read_of keys.now ∷ []) (F.calls folder.old) (F.calls folder.new) result }
-    ensures states { IsTrue (F.told folder.old) → Answers prepared_job (job_of (file_tables (F.files folder.old) source.now) (file_script (F.files folder.old) keys.now)) result }
+    ensures gives { Gives prepared_job (job_work source.now keys.now) F.Folder folder.old folder.new result }
 {
     let compiled = match read_and_compile(alloc, source, folder) {
         Ok(compiled) => compiled,
@@ -60,11 +54,7 @@ pub fn read_and_compile<F: Folder>(
     folder: &mut F,
 ) -> Result<Compiled, Stop>
     ensures compiled { IfOk result IsCompiled }
-    ensures counts { StopCounts (F.faults folder.old) (F.faults folder.new) result }
-    ensures told { F.told folder.new ≡ F.told folder.old }
-    ensures files { IsTrue (F.told folder.old) → SameFiles (F.files folder.old) (F.files folder.new) }
-    ensures asked { IsTrue (F.told folder.old) → Asks (read_of name.now ∷ []) (F.calls folder.old) (F.calls folder.new) result }
-    ensures states { IsTrue (F.told folder.old) → Answers tables_in (file_tables (F.files folder.old) name.now) result }
+    ensures gives { Gives tables_in (tables_work name.now) F.Folder folder.old folder.new result }
 {
     match folder.read(alloc, name, TEXT_BYTES) {
         Ok(source) => match compile(alloc, source.as_slice(), &[]) {
@@ -78,11 +68,7 @@ pub fn read_and_compile<F: Folder>(
 /// Reads the script of a name.
 fn read_entries<F: Folder>(alloc: Global, name: &[u8], folder: &mut F) -> Result<Seq<Entry>, Stop>
     ensures presses { IfOk result IsPressing }
-    ensures counts { StopCounts (F.faults folder.old) (F.faults folder.new) result }
-    ensures told { F.told folder.new ≡ F.told folder.old }
-    ensures files { IsTrue (F.told folder.old) → SameFiles (F.files folder.old) (F.files folder.new) }
-    ensures asked { IsTrue (F.told folder.old) → Asks (read_of name.now ∷ []) (F.calls folder.old) (F.calls folder.new) result }
-    ensures states { IsTrue (F.told folder.old) → AnswersLine (file_script (F.files folder.old) name.now) result }
+    ensures gives { Gives entries_in (script_work name.now) F.Folder folder.old folder.new result }
 {
     match folder.read(alloc, name, INPUT_BYTES) {
         Ok(script) => match read_script(alloc, script.as_slice()) {

@@ -1,15 +1,16 @@
-ghost use Rattle.std.specs.Prelude.{◌≡◌, ◌≢◌, ◌⊎◌, ◌↔◌, ◌∷◌, [], false, length, Some, Ok, IsTrue, option_map};
+ghost use Rattle.std.specs.Prelude.{◌≡◌, ◌⊎◌, ◌↔◌, false, IsTrue, IsSomeAnd};
 ghost use Rattle.kmn_outside.specs.Outside.{Rose};
 ghost use Rattle.rule_model.specs.Tab.{tab};
 ghost use Rattle.rule_model.specs.Trace.{trace};
 ghost use Rattle.rule_model.specs.Transcript.{events_of, transcript};
-ghost use Rattle.keyman_tool.specs.Asked.{asks_of, read_of, write_of, AsksBy};
+ghost use Rattle.keyman_tool.specs.Asked.{AsksBy};
 ghost use Rattle.keyman_tool.specs.Command.{is_form, request_of};
-ghost use Rattle.keyman_tool.specs.Command.Request.{Compile, Test};
-ghost use Rattle.keyman_tool.specs.Inputs.{job_of, file_program, file_tables, file_script};
+ghost use Rattle.keyman_tool.specs.Endings.{asked, ends, compiled_line, play_status};
+ghost use Rattle.keyman_tool.specs.Orders.{compile_work, test_work, work_of};
 ghost use Rattle.keyman_tool.specs.Reasons.{reason_line};
-ghost use Rattle.keyman_tool.specs.Run.{compile_ending, compiled_line, ending, meant_ending, test_ending, play_status, FileMeans, SourceMeans, HasWritten, Leaves, FaultCounts};
-ghost use Rattle.keyman_tool.specs.Steps.{IsCompiled, IsPrepared, SinkCounts, PrintsBy, prepared_job, write_status};
+ghost use Rattle.keyman_tool.specs.Run.{Does, FaultCounts, FileMeans, Leaves};
+ghost use Rattle.keyman_tool.specs.Seen.{seen_folder, seen_sink};
+ghost use Rattle.keyman_tool.specs.Steps.{IsCompiled, IsPrepared, Tells, TellsStop, write_status};
 
 use crate::command::{Command, command_of};
 use crate::playing::{PlayEnd, play};
@@ -24,26 +25,24 @@ use kmn_outside::{Folder, Sink, WriteError};
 use kmx_verifier::adopt;
 use std::alloc::Global;
 
-/// Runs the command that the words are, over a folder and a sink.
+/// Runs the command that the words are, over a folder and a sink. The order of its work is `work_of` of the words.
 pub fn run<F: Folder, S: Sink>(alloc: Global, words: &[Text], folder: &mut F, out: &mut S) -> Status
     ensures words { (result ≡ Status.Words) ↔ (is_form words.now ≡ false) }
     ensures counts { FaultCounts (F.faults folder.old) (F.faults folder.new) (S.faults out.old) (S.faults out.new) result }
     ensures told { (F.told folder.new ≡ F.told folder.old) × (S.told out.new ≡ S.told out.old) }
     ensures asked { IsTrue (F.told folder.old)
-        → AsksBy (Rose (S.faults out.old) (S.faults out.new)) (asks_of (request_of words.now)) (F.calls folder.old) (F.calls folder.new) result }
-    ensures leaves { IsTrue (F.told folder.old) → IsTrue (S.told out.old)
-        → Leaves (ending (F.files folder.old) words.now)
-        (Rose (F.faults folder.old) (F.faults folder.new)) (Rose (S.faults out.old) (S.faults out.new))
-        (record { files = F.files folder.old; files_after = F.files folder.new; printed = S.written out.old; printed_after = S.written out.new })
-        result }
+        → AsksBy (Rose (S.faults out.old) (S.faults out.new)) (asked (F.files folder.old) (work_of (request_of words.now)))
+        (F.calls folder.old) (F.calls folder.new) result }
+    ensures leaves { IsTrue (F.told folder.old)
+        → Leaves (work_of (request_of words.now)) (seen_folder F.Folder folder.old) (seen_folder F.Folder folder.new)
+        (seen_sink S.Sink out.old) (seen_sink S.Sink out.new) result }
     // Where no count of faults rose, the run ends as its words and files want it.
-    ensures complete { IsTrue (F.told folder.old) → IsTrue (S.told out.old)
+    ensures complete { IsTrue (F.told folder.old)
         → ¬ Rose (F.faults folder.old) (F.faults folder.new) → ¬ Rose (S.faults out.old) (S.faults out.new)
-        → (result ≡ (ending (F.files folder.old) words.now).status) ⊎ (result ≡ Status.Memory) }
-    // The file that was written takes the steps that the source means, whatever events come.
-    ensures means { IsTrue (F.told folder.old) → IsTrue (S.told out.old)
-        → HasWritten (ending (F.files folder.old) words.now).file result
-        → FileMeans (F.files folder.old) (F.files folder.new) (request_of words.now) }
+        → (result ≡ Status.Memory) ⊎ IsSomeAnd (ends (F.files folder.old) (work_of (request_of words.now))) (λ ending. result ≡ ending.status) }
+    // The file that was written takes the steps that the source means, whatever events come and however the run ended.
+    ensures means { IsTrue (F.told folder.old)
+        → FileMeans (seen_folder F.Folder folder.old) (seen_folder F.Folder folder.new) (request_of words.now) }
 {
     match command_of(words) {
         Some(Command::Compile { source, file }) => compile(alloc, source, file, folder, out),
@@ -52,7 +51,7 @@ pub fn run<F: Folder, S: Sink>(alloc: Global, words: &[Text], folder: &mut F, ou
     }
 }
 
-/// Compiles a source, writes the file and prints its counts: the file means the source.
+/// Compiles a source, writes the file and prints its counts.
 fn compile<F: Folder, S: Sink>(
     alloc: Global,
     source: &[u8],
@@ -60,93 +59,14 @@ fn compile<F: Folder, S: Sink>(
     folder: &mut F,
     out: &mut S,
 ) -> Status
-    ensures form { result ≢ Status.Words }
-    ensures counts { FaultCounts (F.faults folder.old) (F.faults folder.new) (S.faults out.old) (S.faults out.new) result }
-    ensures told { (F.told folder.new ≡ F.told folder.old) × (S.told out.new ≡ S.told out.old) }
-    ensures asked { IsTrue (F.told folder.old)
-        → AsksBy (Rose (S.faults out.old) (S.faults out.new)) (read_of source.now ∷ write_of file.now ∷ []) (F.calls folder.old) (F.calls folder.new) result }
-    ensures leaves { IsTrue (F.told folder.old) → IsTrue (S.told out.old)
-        → Leaves (compile_ending file.now (file_tables (F.files folder.old) source.now))
-        (Rose (F.faults folder.old) (F.faults folder.new)) (Rose (S.faults out.old) (S.faults out.new))
-        (record { files = F.files folder.old; files_after = F.files folder.new; printed = S.written out.old; printed_after = S.written out.new })
-        result }
-    ensures means { IsTrue (F.told folder.old) → IsTrue (S.told out.old)
-        → HasWritten (compile_ending file.now (file_tables (F.files folder.old) source.now)).file result
-        → SourceMeans (F.files folder.old) (F.files folder.new) source.now file.now }
-{
-    compile_and_tell(alloc, source, file, folder, out)
-}
-
-/// Compiles a source, writes the file and prints its counts.
-fn compile_and_tell<F: Folder, S: Sink>(
-    alloc: Global,
-    source: &[u8],
-    file: &[u8],
-    folder: &mut F,
-    out: &mut S,
-) -> Status
-    ensures form { result ≢ Status.Words }
-    ensures counts { FaultCounts (F.faults folder.old) (F.faults folder.new) (S.faults out.old) (S.faults out.new) result }
-    ensures told { (F.told folder.new ≡ F.told folder.old) × (S.told out.new ≡ S.told out.old) }
-    ensures asked { IsTrue (F.told folder.old)
-        → AsksBy (Rose (S.faults out.old) (S.faults out.new)) (read_of source.now ∷ write_of file.now ∷ []) (F.calls folder.old) (F.calls folder.new) result }
-    ensures leaves { IsTrue (F.told folder.old) → IsTrue (S.told out.old)
-        → Leaves (compile_ending file.now (file_tables (F.files folder.old) source.now))
-        (Rose (F.faults folder.old) (F.faults folder.new)) (Rose (S.faults out.old) (S.faults out.new))
-        (record { files = F.files folder.old; files_after = F.files folder.new; printed = S.written out.old; printed_after = S.written out.new })
-        result }
+    ensures { Does (compile_work source.now file.now) F.Folder folder.old folder.new S.Sink out.old out.new result }
 {
     match read_and_compile(alloc, source, folder) {
-        Ok(compiled) => write_and_tell(alloc, file, &compiled, folder, out),
-        Err(stop) => match stop {
-            Stop::Refused(why) => refuse(alloc, why, out),
-            Stop::ReadFault => Status::ReadFault,
-            Stop::Memory => Status::Memory,
+        Ok(compiled) => match folder.write(alloc, file, compiled.bytes.as_slice()) {
+            Ok(()) => tell_compiled(alloc, &compiled, out),
+            Err(error) => write_status(error),
         },
-    }
-}
-
-/// Writes the file and prints its counts.
-fn write_and_tell<F: Folder, S: Sink>(
-    alloc: Global,
-    name: &[u8],
-    compiled: &Compiled,
-    folder: &mut F,
-    out: &mut S,
-) -> Status
-    requires { IsCompiled compiled.now }
-    ensures form { result ≢ Status.Words }
-    ensures counts { FaultCounts (F.faults folder.old) (F.faults folder.new) (S.faults out.old) (S.faults out.new) result }
-    ensures told { (F.told folder.new ≡ F.told folder.old) × (S.told out.new ≡ S.told out.old) }
-    ensures asked { IsTrue (F.told folder.old)
-        → AsksBy (Rose (S.faults out.old) (S.faults out.new)) (write_of name.now ∷ []) (F.calls folder.old) (F.calls folder.new) result }
-    ensures leaves { IsTrue (F.told folder.old) → IsTrue (S.told out.old)
-        → Leaves (compile_ending name.now (Some (Ok compiled.now.tables)))
-        (Rose (F.faults folder.old) (F.faults folder.new)) (Rose (S.faults out.old) (S.faults out.new))
-        (record { files = F.files folder.old; files_after = F.files folder.new; printed = S.written out.old; printed_after = S.written out.new })
-        result }
-{
-    match folder.write(alloc, name, compiled.bytes.as_slice()) {
-        Ok(()) => tell_compiled(alloc, compiled, out),
-        Err(error) => write_status(error),
-    }
-}
-
-/// Prints the counts of a compiled file.
-#[tactic(auto, using(crate::proofs::PrintingLaws::none_begun))]
-fn tell_compiled<S: Sink>(alloc: Global, compiled: &Compiled, out: &mut S) -> Status
-    requires { IsCompiled compiled.now }
-    ensures counts { SinkCounts Status.Done (S.faults out.old) (S.faults out.new) result }
-    ensures told { S.told out.new ≡ S.told out.old }
-    ensures prints { IsTrue (S.told out.old)
-        → PrintsBy Status.Done (compiled_line compiled.now.tables) (S.written out.old) (S.written out.new) result }
-{
-    let Ok(line) = compiled_line(alloc, &compiled.tables, compiled.bytes.len()) else {
-        return Status::Memory;
-    };
-    match put_all(out, line.as_slice()) {
-        Ok(()) => Status::Done,
-        Err(error) => write_status(error),
+        Err(stop) => tell_stop(alloc, stop, out),
     }
 }
 
@@ -159,75 +79,39 @@ fn test<F: Folder, S: Sink>(
     folder: &mut F,
     out: &mut S,
 ) -> Status
-    ensures form { result ≢ Status.Words }
-    ensures counts { FaultCounts (F.faults folder.old) (F.faults folder.new) (S.faults out.old) (S.faults out.new) result }
-    ensures told { (F.told folder.new ≡ F.told folder.old) × (S.told out.new ≡ S.told out.old) }
-    ensures asked { IsTrue (F.told folder.old)
-        → AsksBy (Rose (S.faults out.old) (S.faults out.new)) (read_of source.now ∷ read_of keys.now ∷ write_of file.now ∷ []) (F.calls folder.old) (F.calls folder.new) result }
-    ensures leaves { IsTrue (F.told folder.old) → IsTrue (S.told out.old)
-        → Leaves (meant_ending file.now (job_of (file_program (F.files folder.old) source.now) (file_script (F.files folder.old) keys.now)))
-        (Rose (F.faults folder.old) (F.faults folder.new)) (Rose (S.faults out.old) (S.faults out.new))
-        (record { files = F.files folder.old; files_after = F.files folder.new; printed = S.written out.old; printed_after = S.written out.new })
-        result }
-    ensures means { IsTrue (F.told folder.old) → IsTrue (S.told out.old)
-        → HasWritten (meant_ending file.now (job_of (file_program (F.files folder.old) source.now) (file_script (F.files folder.old) keys.now))).file result
-        → SourceMeans (F.files folder.old) (F.files folder.new) source.now file.now }
-{
-    compile_and_play(alloc, source, file, keys, folder, out)
-}
-
-/// Compiles a source, writes the file, and plays a script on the tables of the file.
-fn compile_and_play<F: Folder, S: Sink>(
-    alloc: Global,
-    source: &[u8],
-    file: &[u8],
-    keys: &[u8],
-    folder: &mut F,
-    out: &mut S,
-) -> Status
-    ensures form { result ≢ Status.Words }
-    ensures counts { FaultCounts (F.faults folder.old) (F.faults folder.new) (S.faults out.old) (S.faults out.new) result }
-    ensures told { (F.told folder.new ≡ F.told folder.old) × (S.told out.new ≡ S.told out.old) }
-    ensures asked { IsTrue (F.told folder.old)
-        → AsksBy (Rose (S.faults out.old) (S.faults out.new)) (read_of source.now ∷ read_of keys.now ∷ write_of file.now ∷ []) (F.calls folder.old) (F.calls folder.new) result }
-    ensures leaves { IsTrue (F.told folder.old) → IsTrue (S.told out.old)
-        → Leaves (test_ending file.now (job_of (file_tables (F.files folder.old) source.now) (file_script (F.files folder.old) keys.now)))
-        (Rose (F.faults folder.old) (F.faults folder.new)) (Rose (S.faults out.old) (S.faults out.new))
-        (record { files = F.files folder.old; files_after = F.files folder.new; printed = S.written out.old; printed_after = S.written out.new })
-        result }
+    ensures { Does (test_work source.now file.now keys.now) F.Folder folder.old folder.new S.Sink out.old out.new result }
 {
     match prepare(alloc, source, keys, folder) {
-        Ok(prepared) => write_and_play(alloc, file, &prepared, folder, out),
-        Err(stop) => match stop {
-            Stop::Refused(why) => refuse(alloc, why, out),
-            Stop::ReadFault => Status::ReadFault,
-            Stop::Memory => Status::Memory,
+        Ok(prepared) => match folder.write(alloc, file, prepared.compiled.bytes.as_slice()) {
+            Ok(()) => play_file(alloc, &prepared, out),
+            Err(error) => write_status(error),
         },
+        Err(stop) => tell_stop(alloc, stop, out),
     }
 }
 
-/// Writes the file and plays the script on it.
-fn write_and_play<F: Folder, S: Sink>(
-    alloc: Global,
-    name: &[u8],
-    prepared: &Prepared,
-    folder: &mut F,
-    out: &mut S,
-) -> Status
-    requires { IsPrepared prepared.now }
-    ensures form { result ≢ Status.Words }
-    ensures counts { FaultCounts (F.faults folder.old) (F.faults folder.new) (S.faults out.old) (S.faults out.new) result }
-    ensures told { (F.told folder.new ≡ F.told folder.old) × (S.told out.new ≡ S.told out.old) }
-    ensures asked { IsTrue (F.told folder.old)
-        → AsksBy (Rose (S.faults out.old) (S.faults out.new)) (write_of name.now ∷ []) (F.calls folder.old) (F.calls folder.new) result }
-    ensures leaves { IsTrue (F.told folder.old) → IsTrue (S.told out.old)
-        → Leaves (test_ending name.now (Some (Ok (prepared_job prepared.now))))
-        (Rose (F.faults folder.old) (F.faults folder.new)) (Rose (S.faults out.old) (S.faults out.new))
-        (record { files = F.files folder.old; files_after = F.files folder.new; printed = S.written out.old; printed_after = S.written out.new })
-        result }
+/// Ends a run that stops before it writes: prints the line of a reason, and nothing after a fault.
+fn tell_stop<S: Sink>(alloc: Global, stop: Stop, out: &mut S) -> Status
+    ensures { TellsStop stop S.Sink out.old out.new result }
 {
-    match folder.write(alloc, name, prepared.compiled.bytes.as_slice()) {
-        Ok(()) => play_file(alloc, prepared, out),
+    match stop {
+        Stop::Refused(why) => refuse(alloc, why, out),
+        Stop::ReadFault => Status::ReadFault,
+        Stop::Memory => Status::Memory,
+    }
+}
+
+/// Prints the counts of a compiled file.
+#[tactic(auto, using(crate::proofs::PrintingLaws::none_begun))]
+fn tell_compiled<S: Sink>(alloc: Global, compiled: &Compiled, out: &mut S) -> Status
+    requires { IsCompiled compiled.now }
+    ensures { Tells Status.Done (compiled_line compiled.now.tables) S.Sink out.old out.new result }
+{
+    let Ok(line) = compiled_line(alloc, &compiled.tables, compiled.bytes.len()) else {
+        return Status::Memory;
+    };
+    match put_all(out, line.as_slice()) {
+        Ok(()) => Status::Done,
         Err(error) => write_status(error),
     }
 }
@@ -236,11 +120,8 @@ fn write_and_play<F: Folder, S: Sink>(
 #[tactic(auto, using(crate::proofs::PrintingLaws::none_begun))]
 fn play_file<S: Sink>(alloc: Global, prepared: &Prepared, out: &mut S) -> Status
     requires { IsPrepared prepared.now }
-    ensures counts { SinkCounts (play_status (trace (tab prepared.now.compiled.tables) (events_of prepared.now.entries)).refused) (S.faults out.old) (S.faults out.new) result }
-    ensures told { S.told out.new ≡ S.told out.old }
-    ensures prints { IsTrue (S.told out.old)
-        → PrintsBy (play_status (trace (tab prepared.now.compiled.tables) (events_of prepared.now.entries)).refused)
-        (transcript (tab prepared.now.compiled.tables) prepared.now.entries) (S.written out.old) (S.written out.new) result }
+    ensures { Tells (play_status (trace (tab prepared.now.compiled.tables) (events_of prepared.now.entries)).refused)
+        (transcript (tab prepared.now.compiled.tables) prepared.now.entries) S.Sink out.old out.new result }
 {
     let file = match adopt(alloc, prepared.compiled.bytes.as_slice()) {
         Ok(file) => file,
@@ -256,10 +137,7 @@ fn play_file<S: Sink>(alloc: Global, prepared: &Prepared, out: &mut S) -> Status
 /// Prints the line of a reason.
 #[tactic(auto, using(crate::proofs::PrintingLaws::none_begun))]
 fn refuse<S: Sink>(alloc: Global, why: Reason, out: &mut S) -> Status
-    ensures counts { SinkCounts Status.Refused (S.faults out.old) (S.faults out.new) result }
-    ensures told { S.told out.new ≡ S.told out.old }
-    ensures prints { IsTrue (S.told out.old)
-        → PrintsBy Status.Refused (reason_line why) (S.written out.old) (S.written out.new) result }
+    ensures { Tells Status.Refused (reason_line why) S.Sink out.old out.new result }
 {
     let Ok(line) = reason_line(alloc, why) else {
         return Status::Memory;

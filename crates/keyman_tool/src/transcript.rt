@@ -5,7 +5,7 @@ ghost use Rattle.kmx_format.specs.File.{file_of, all_rules, rules_of};
 ghost use Rattle.std.specs.List.{flat_map};
 ghost use Rattle.rule_model.specs.Transcript.{refused_event_line};
 ghost use Rattle.keyman_tool.specs.Reasons.{reason_line, size_line};
-ghost use Rattle.keyman_tool.specs.Run.{compiled_line};
+ghost use Rattle.keyman_tool.specs.Endings.{compiled_line};
 ghost use Rattle.rule_model.specs.Lines.{event_line, counts_text, text_line, end_line, refusal_line, hexadecimal, item_text, joined};
 
 use crate::reason::Reason;
@@ -132,7 +132,7 @@ fn count_rules(groups: &[Group]) -> usize
 }
 
 /// The line of a file that was compiled from tables and has so many bytes.
-#[tactic(auto, unfolding(crate::specs::Run::compiled_line))]
+#[tactic(auto, unfolding(crate::specs::Endings::compiled_line))]
 pub fn compiled_line(alloc: Global, tables: &Tables, bytes: usize) -> Result<Text, Memory>
     requires few { length (all_rules tables.now) < 2 ^ 64 }
     requires size { bytes ≡ length (file_of tables.now []) }

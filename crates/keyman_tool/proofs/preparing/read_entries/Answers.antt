@@ -1,13 +1,20 @@
+use Rattle.std.proofs.Common.{List, ℕ, Err, refl, subst}
 use Rattle.kmn_base.specs.declared.codes.Code.TheVariants.{N02}
-use Rattle.keyman_tool.proofs.AskedLaws.{read_asks, form_asks}
-use Rattle.keyman_tool.proofs.InputLaws.{script_presses}
+use Rattle.keyman_tool.specs.declared.forms.TheConstants.{INPUT_BYTES}
+use Rattle.keyman_tool.specs.Forms.{Reads}
+use Rattle.keyman_tool.specs.ScriptLines.{script_entries}
+use Rattle.keyman_tool.specs.Steps.{entries_in}
+use Rattle.keyman_tool.proofs.InputLaws.{gives_answered, gives_unread, script_concludes, script_states, script_presses}
 use Rattle.keyman_tool.proofs.preparing.read_entries.Goals as goal
 
 pub returns-in-Ok-read_script-clause-presses : goal.returns-in-Ok-read_script-clause-presses
 returns-in-Ok-read_script-clause-presses g c = script_presses c.as_slice.result.now c.in-Ok-read_script.entries c.in-Ok-read_script.ensures
 
-pub returns-in-Ok-clause-asked : goal.returns-in-Ok-clause-asked
-returns-in-Ok-clause-asked g c = λ told. rw c.form_stop.ensures (form_asks _ _ c.args.name.now c.in-Err-read_script.error (c.in-Ok.ensures.reads told).1.2)
+pub returns-in-Ok-clause-gives : goal.returns-in-Ok-clause-gives
+returns-in-Ok-clause-gives g c = rw c.form_stop.ensures
+    (gives_answered entries_in c.args.name.now INPUT_BYTES _ _ g.F.Folder c.args.folder.now _ c.in-Ok.script _ script_concludes c.in-Ok.ensures.counts c.in-Ok.ensures.told c.in-Ok.ensures.reads
+    (script_states (script_entries c.in-Ok.script) c.in-Err-read_script.error (subst (λ (script : List ℕ). Reads (script_entries script) (Err c.in-Err-read_script.error)) c.as_slice.ensures c.in-Err-read_script.ensures)))
 
-pub returns-clause-asked : goal.returns-clause-asked
-returns-clause-asked g c = λ told. rw c.read_stop.ensures (read_asks _ _ _ _ _ _ N02 _ (c.in-Err.ensures.reads told))
+pub returns-clause-gives : goal.returns-clause-gives
+returns-clause-gives g c = rw c.read_stop.ensures
+    (gives_unread entries_in c.args.name.now INPUT_BYTES _ _ N02 g.F.Folder c.args.folder.now _ c.in-Err.error script_concludes (λ size. refl) c.in-Err.ensures.counts c.in-Err.ensures.told c.in-Err.ensures.reads)

@@ -1,0 +1,29 @@
+use Rattle.std.proofs.Common.{◌≡◌, Option, Some, rules}
+use Rattle.keyman_tool.specs.Command.{Request, request_of}
+use Rattle.keyman_tool.specs.Command.Request.{Compile, Test}
+use Rattle.keyman_tool.proofs.MeaningLaws.{run_asks, run_means}
+use Rattle.keyman_tool.proofs.run.run.Goals as goal
+
+pub returns-in-Some-Compile-clause-asked : goal.returns-in-Some-Compile-clause-asked
+returns-in-Some-Compile-clause-asked g c =
+    let request : Option Request = Some (Compile c.in-Some-Compile.source.now c.in-Some-Compile.file.now) in
+    let is : request ≡ request_of c.args.words.now = search rules in
+    run_asks request (request_of c.args.words.now) g.F.Folder _ _ g.S.Sink _ _ c.compile.result is c.compile.ensures
+
+pub returns-in-Some-Compile-clause-means : goal.returns-in-Some-Compile-clause-means
+returns-in-Some-Compile-clause-means g c =
+    let request : Option Request = Some (Compile c.in-Some-Compile.source.now c.in-Some-Compile.file.now) in
+    let is : request ≡ request_of c.args.words.now = search rules in
+    run_means request (request_of c.args.words.now) g.F.Folder _ _ g.S.Sink _ _ c.compile.result is c.compile.ensures
+
+pub returns-in-Some-Test-clause-asked : goal.returns-in-Some-Test-clause-asked
+returns-in-Some-Test-clause-asked g c =
+    let request : Option Request = Some (Test c.in-Some-Test.source.now c.in-Some-Test.file.now c.in-Some-Test.keys.now) in
+    let is : request ≡ request_of c.args.words.now = search rules in
+    run_asks request (request_of c.args.words.now) g.F.Folder _ _ g.S.Sink _ _ c.test.result is c.test.ensures
+
+pub returns-in-Some-Test-clause-means : goal.returns-in-Some-Test-clause-means
+returns-in-Some-Test-clause-means g c =
+    let request : Option Request = Some (Test c.in-Some-Test.source.now c.in-Some-Test.file.now c.in-Some-Test.keys.now) in
+    let is : request ≡ request_of c.args.words.now = search rules in
+    run_means request (request_of c.args.words.now) g.F.Folder _ _ g.S.Sink _ _ c.test.result is c.test.ensures

@@ -1,0 +1,86 @@
+-- How work on files ends: with which status, which file it writes, and what it prints.
+use Rattle.std.specs.Prelude.{ℕ, List, [], ◌∷◌, ◌++◌, length, codes, Option, Some, None, option_map, Result, Ok, Err}
+use Rattle.std.specs.List.{concat}
+use Rattle.std.specs.Fmt.{decimal}
+use Rattle.kmn_base.specs.declared.codes.Code.{Code}
+use Rattle.kmn_outside.specs.Outside.{Files}
+use Rattle.rule_model.specs.File.{file_of, all_rules}
+use Rattle.rule_model.specs.Keyboard.{Keyboard}
+use Rattle.rule_model.specs.Trace.{trace}
+use Rattle.rule_model.specs.Transcript.{events_of, transcript}
+use Rattle.rule_model.specs.declared.script.Entry.{Entry}
+use Rattle.rule_model.specs.declared.tables.Tables.{Tables}
+use Rattle.keyman_tool.specs.declared.reason.Reason.{Reason}
+use Rattle.keyman_tool.specs.declared.status.Status.{Status}
+use Rattle.keyman_tool.specs.declared.status.Status.TheVariants as status
+use Rattle.keyman_tool.specs.Asked.{Ask, write_of}
+use Rattle.keyman_tool.specs.Reasons.{reason_line}
+use Rattle.keyman_tool.specs.Work.{Work, reads, comes_to}
+
+-- how work ends where nothing fails: its status, the file that it writes by name and bytes, and all that it prints
+pub record Ending : Type 0 where
+  pub status : Status
+  pub file : Option (List ℕ × List ℕ)
+  pub printed : List ℕ
+
+-- an end with the line of a reason: nothing is written
+abbrev pub refused_ending : Reason → Ending
+refused_ending why = record { status = status.Refused; file = None; printed = reason_line why }
+
+-- words that are no command end so at once
+abbrev pub words_ending : Ending
+words_ending = record { status = status.Words; file = None; printed = [] }
+
+-- what is printed of a compiled file: its counts and its size
+unfoldable pub compiled_line : Tables → List ℕ
+compiled_line tables = concat (
+    codes "compiled stores=" ∷ decimal (length tables.stores)
+    ∷ codes " groups=" ∷ decimal (length tables.groups)
+    ∷ codes " rules=" ∷ decimal (length (all_rules tables))
+    ∷ codes " bytes=" ∷ decimal (length (file_of tables []))
+    ∷ codes "\n" ∷ [])
+
+-- a compilation writes the file of the tables and prints its line
+abbrev pub compile_ending : List ℕ → Tables → Ending
+compile_ending name tables = record { status = status.Done; file = Some (name, file_of tables []); printed = compiled_line tables }
+
+-- a play ends well, or with the refusal of an event
+abbrev pub play_status : Option (ℕ × Code) → Status
+play_status None = status.Done
+play_status (Some refused) = status.Refused
+
+-- tables and the script to play on them
+pub record Job : Type 0 where
+  pub keyboard : Tables
+  pub entries : List Entry
+
+-- a test writes the file of the tables, and prints what a keyboard does with the script
+abbrev pub test_ending : List ℕ → Tables → Keyboard → List Entry → Ending
+test_ending name tables kb entries =
+    record {
+      status = play_status (trace kb (events_of entries)).refused;
+      file = Some (name, file_of tables []);
+      printed = transcript kb entries;
+    }
+
+-- work that is refused ends with the reason's line
+abbrev pub conclusion : Result Ending Reason → Ending
+conclusion (Ok ending) = ending
+conclusion (Err why) = refused_ending why
+
+-- how work ends; None where a file is missing
+abbrev pub ends : Files → Work Ending → Option Ending
+ends files work = option_map conclusion (comes_to files work)
+
+-- the name that is written
+abbrev pub file_asks : Option (List ℕ × List ℕ) → List Ask
+file_asks None = []
+file_asks (Some file) = write_of file.0 ∷ []
+
+abbrev pub writes : Option Ending → List Ask
+writes None = []
+writes (Some ending) = file_asks ending.file
+
+-- all names that are asked for, in order: those that are read, and where the work comes to its end the one that is written
+abbrev pub asked : Files → Work Ending → List Ask
+asked files work = reads files work ++ writes (ends files work)
