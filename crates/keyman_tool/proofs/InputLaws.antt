@@ -11,7 +11,7 @@ use Rattle.kmn_compiler.specs.Source.{CompilesTo}
 use Rattle.kmn_outside.specs.Outside.{Files, ReadCounts, Reads}
 use Rattle.kmn_outside.specs.declared.traits.ReadError.{ReadError}
 use Rattle.kmn_outside.specs.declared.traits.ReadError.TheVariants as read
-use Rattle.rule_model.specs.Ordered.{compiled_tables}
+use Rattle.compile_laws.specs.Ordered.{compiled_tables}
 use Rattle.rule_model.specs.declared.program.Program.{Program}
 use Rattle.rule_model.specs.declared.script.Entry.{Entry}
 use Rattle.rule_model.specs.declared.script.Entry.TheVariants.{Act, Expect}

@@ -5,7 +5,7 @@ use Rattle.kmn_base.specs.declared.codes.Code.TheVariants.{L05}
 use Rattle.kmn_base.specs.declared.refusals.Refusal.{Refusal}
 use Rattle.rule_model.specs.declared.program.Program.{Program}
 use Rattle.rule_model.specs.declared.script.Entry.{Entry}
-use Rattle.rule_model.specs.Ordered.{compiled_tables}
+use Rattle.compile_laws.specs.Ordered.{compiled_tables}
 use Rattle.kmx_writer.specs.Excess.{excess}
 use Rattle.kmn_compiler.specs.Source.{compiled_program}
 use Rattle.keyman_tool.specs.declared.reason.Reason.{Reason}

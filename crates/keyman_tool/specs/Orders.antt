@@ -1,7 +1,7 @@
 -- The order of work of each command.
 use Rattle.std.specs.Prelude.{ℕ, List, Option, Some, None}
 use Rattle.kmn_base.specs.declared.limits.TheConstants.{TEXT_BYTES}
-use Rattle.rule_model.specs.Ordered.{compiled_tables}
+use Rattle.compile_laws.specs.Ordered.{compiled_tables}
 use Rattle.rule_model.specs.Src.{src}
 use Rattle.rule_model.specs.declared.program.Program.{Program}
 use Rattle.rule_model.specs.declared.script.Entry.{Entry}

@@ -1,7 +1,7 @@
 -- What a run of work does to a folder and a sink.
 use Rattle.std.specs.Prelude.{◌≡◌, ◌≢◌, ◌⊎◌, ℕ, false, IsTrue, List, [], ◌∷◌, ◌++◌, map, Option, Some, None, IsSomeAnd, Ok}
 use Rattle.kmn_outside.specs.Outside.{Files, Rose, SameFiles, SameOthers}
-use Rattle.rule_model.specs.Means.{Means}
+use Rattle.compile_laws.specs.Means.{Means}
 use Rattle.rule_model.specs.declared.program.Program.{Program}
 use Rattle.keyman_tool.specs.declared.status.Status.{Status}
 use Rattle.keyman_tool.specs.declared.status.Status.TheVariants as status

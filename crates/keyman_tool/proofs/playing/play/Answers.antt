@@ -1,6 +1,6 @@
 use Rattle.std.proofs.Common.{◌≡◌, ◌+◌, ◌∙◌, ap, refl, rules, arith}
 use Rattle.rule_model.specs.Act.{one_more}
-use Rattle.rule_model.specs.TablesOf.{tables_of}
+use Rattle.kmx_format.specs.TablesOf.{tables_of}
 use Rattle.keyman_tool.proofs.PrintingLaws.{none_begun}
 use Rattle.keyman_tool.proofs.PlayingLaws.{Begins, session_begins, HasGoneOn, gone_on, refused_prints, play_stops, play_ends, counts_on}
 use Rattle.keyman_tool.proofs.playing.play.Goals as goal

@@ -1,6 +1,6 @@
 use Rattle.std.proofs.Common.{◌∙◌, List, [], ℕ}
 use Rattle.rule_model.specs.declared.tables.Tables.{Tables}
-use Rattle.rule_model.specs.File.{file_of}
+use Rattle.kmx_format.specs.File.{file_of}
 use Rattle.keyman_tool.specs.declared.status.Status.TheVariants as status
 use Rattle.keyman_tool.specs.Endings.{Ending, compile_ending, compiled_line}
 use Rattle.keyman_tool.specs.Orders.{tables_work, compile_work}

@@ -1,5 +1,5 @@
 use Rattle.std.proofs.Common.{◌∙◌, List, [], ℕ}
-use Rattle.rule_model.specs.File.{file_of}
+use Rattle.kmx_format.specs.File.{file_of}
 use Rattle.rule_model.specs.Tab.{tab}
 use Rattle.rule_model.specs.Trace.{trace}
 use Rattle.rule_model.specs.Transcript.{events_of, transcript}
