@@ -118,7 +118,8 @@ abbrev pub is_lone_c : List ℕ → Bool
 is_lone_c [] = false
 is_lone_c (byte ∷ bytes) = ((byte == 99) || (byte == 67)) && is_blank (first_or 32 bytes)
 
--- a comment begins at a place of a physical line: outside quotes, behind a blank or at the start, a c or C before a blank or the end
+-- a comment begins at a place of a physical line: outside quotes, behind a blank or at the start, stands a c or C before
+-- a blank or the end
 abbrev pub comment_at : List ℕ → ℕ → Bool
 comment_at line at = is_outside line at && (is_blank (last_or 32 (take at line)) && is_lone_c (drop at line))
 
