@@ -1,6 +1,7 @@
 -- What holds of each program that is read from a source, statement by statement.
 use Rattle.std.specs.Prelude.{◌≡◌, ◌≢◌, ℕ, ◌^◌, ◌<◌, ◌≤◌, Bool, true, bit_and, List, [], length, None, is_some, IfSome, Ok, IsUtf8, chars, All}
 use lib.Utf8.{scalar}
+use Rattle.kmn_base.specs.declared.limits.TheConstants.{SOURCE_NAME_CHARS}
 use Rattle.kmn_lines.specs.Laws.{IsPlain}
 use Rattle.rule_model.specs.declared.program.KeyName.{KeyName}
 use Rattle.rule_model.specs.declared.program.SrcItem.{SrcItem}
@@ -25,7 +26,7 @@ pub record IsName (name : List ℕ) : Type 0 where
   pub utf8 : IsUtf8 name
   pub characters : All IsCharacter (chars name)
   pub some : 1 ≤ length (chars name)
-  pub few : length (chars name) ≤ 80
+  pub few : length (chars name) ≤ SOURCE_NAME_CHARS
 
 -- the name of a key of the keyboard's own: a word of the forms `T_..` and `U_..`
 pub record IsOwnKey (name : List ℕ) : Type 0 where
