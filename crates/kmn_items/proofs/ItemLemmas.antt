@@ -8,7 +8,7 @@ use Rattle.kmn_items.specs.declared.syntax.Trouble.TheVariants.{Broken, NoMemory
 use Rattle.kmn_items.specs.declared.syntax.Where.{Where}
 use Rattle.kmn_items.specs.declared.syntax.Seen.{Seen}
 use Rattle.kmn_items.specs.declared.syntax.Taken.{Taken}
-use Rattle.kmn_items.specs.Told.{LineToken, Reads}
+use Rattle.kmn_items.specs.TokenTexts.{LineToken, Reads}
 use Rattle.kmn_items.specs.Item.{read_item, read_items, prepend, then_items, last_item}
 
 -- tokens that an item has taken are passed over

@@ -14,7 +14,7 @@ use Rattle.kmn_items.specs.declared.syntax.Lead.{Lead}
 use Rattle.kmn_items.specs.declared.syntax.Lead.TheVariants as lead
 use Rattle.kmn_items.specs.declared.syntax.ItemWord.{ItemWord}
 use Rattle.kmn_items.specs.declared.syntax.Taken.{Taken}
-use Rattle.kmn_items.specs.Told.{LineToken, fault, text_at, quoted}
+use Rattle.kmn_items.specs.TokenTexts.{LineToken, fault, text_at, quoted}
 use Rattle.kmn_items.specs.Slots.{slot_fault, or_fault, broken}
 use Rattle.kmn_items.specs.Leads.{lead_of}
 use Rattle.kmn_items.specs.Standing.{standing_code, seen_word, seen_count, is_crowded}

@@ -14,7 +14,7 @@ use Rattle.kmn_items.specs.declared.syntax.Where.TheVariants as section
 use Rattle.kmn_items.specs.declared.syntax.Seen.{Seen}
 use Rattle.kmn_items.specs.declared.syntax.Taken.{Taken}
 use Rattle.kmn_base.specs.Answers.{and_then}
-use Rattle.kmn_items.specs.Told.{LineToken}
+use Rattle.kmn_items.specs.TokenTexts.{LineToken}
 use Rattle.kmn_items.specs.Item.{unseen, formed, read_quoted, read_led, read_item, read_items, prepend, then_items, last_item}
 use Rattle.kmn_items.specs.ItemLaws.{KeysAreOneItem}
 

@@ -1,4 +1,4 @@
-pub mod ToldLemmas
+pub mod TextLemmas
 pub mod ItemLemmas
 pub mod ItemParts
 pub mod KeyItems

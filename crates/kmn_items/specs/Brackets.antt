@@ -7,7 +7,7 @@ use Rattle.rule_model.specs.declared.program.SrcItem.TheVariants as source
 use Rattle.rule_model.specs.declared.program.KeyName.{KeyName}
 use Rattle.kmn_items.specs.declared.syntax.Where.{Where}
 use Rattle.kmn_items.specs.declared.syntax.Where.TheVariants as section
-use Rattle.kmn_items.specs.Told.{LineToken, is_word}
+use Rattle.kmn_items.specs.TokenTexts.{LineToken, is_word}
 use Rattle.kmn_items.specs.Words.{is_modifier}
 
 -- the shift flag of a word

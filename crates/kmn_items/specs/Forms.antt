@@ -6,7 +6,7 @@ use Rattle.kmn_items.specs.declared.syntax.ItemWord.{ItemWord}
 use Rattle.kmn_items.specs.declared.syntax.ItemWord.TheVariants as word
 use Rattle.kmn_items.specs.declared.syntax.Slot.{Slot}
 use Rattle.kmn_items.specs.declared.syntax.Slot.TheVariants as slot
-use Rattle.kmn_items.specs.Told.{LineToken, text_at, is_equal, quoted}
+use Rattle.kmn_items.specs.TokenTexts.{LineToken, text_at, is_equal, quoted}
 use Rattle.kmn_items.specs.Words.{is_system_name}
 use Rattle.kmn_items.specs.Numbers.{offset_value}
 

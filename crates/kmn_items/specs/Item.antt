@@ -13,7 +13,7 @@ use Rattle.kmn_items.specs.declared.syntax.Lead.TheVariants as lead
 use Rattle.kmn_items.specs.declared.syntax.Slot.TheVariants as slot
 use Rattle.kmn_items.specs.declared.syntax.Taken.{Taken}
 use Rattle.kmn_base.specs.Answers.{and_then}
-use Rattle.kmn_items.specs.Told.{LineToken, fault, text_at, quoted}
+use Rattle.kmn_items.specs.TokenTexts.{LineToken, fault, text_at, quoted}
 use Rattle.kmn_items.specs.Words.{item_word}
 use Rattle.kmn_items.specs.Numbers.{is_number_word}
 use Rattle.kmn_items.specs.Slots.{broken}

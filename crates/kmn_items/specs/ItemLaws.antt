@@ -5,7 +5,7 @@ use Rattle.kmn_items.specs.declared.syntax.Where.{Where}
 use Rattle.kmn_items.specs.declared.syntax.Where.TheVariants as section
 use Rattle.kmn_items.specs.declared.syntax.Seen.{Seen}
 use Rattle.kmn_items.specs.declared.syntax.Taken.{Taken}
-use Rattle.kmn_items.specs.Told.{LineToken}
+use Rattle.kmn_items.specs.TokenTexts.{LineToken}
 use Rattle.kmn_items.specs.Item.{unseen, read_item, read_items, read_key}
 
 -- a key is the one item that its tokens stand for

@@ -5,7 +5,7 @@ use Rattle.kmn_items.specs.declared.syntax.ItemWord.{ItemWord}
 use Rattle.kmn_items.specs.declared.syntax.ItemWord.TheVariants as word
 use Rattle.kmn_items.specs.declared.syntax.Lead.{Lead}
 use Rattle.kmn_items.specs.declared.syntax.Lead.TheVariants as lead
-use Rattle.kmn_items.specs.Told.{LineToken, begins_open}
+use Rattle.kmn_items.specs.TokenTexts.{LineToken, begins_open}
 use Rattle.kmn_items.specs.Words.{item_word}
 use Rattle.kmn_items.specs.Numbers.{number_base, number_digits, digits_lead}
 

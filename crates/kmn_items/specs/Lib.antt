@@ -1,4 +1,4 @@
-pub mod Told
+pub mod TokenTexts
 pub mod Words
 pub mod Numbers
 pub mod Slots

@@ -5,7 +5,7 @@ use Rattle.kmn_base.specs.declared.codes.Code.TheVariants.{L04, S02, S11}
 use Rattle.kmn_items.specs.declared.syntax.Fault.{Fault}
 use Rattle.kmn_items.specs.declared.syntax.Slot.{Slot}
 use Rattle.kmn_items.specs.declared.syntax.Slot.TheVariants as slot
-use Rattle.kmn_items.specs.Told.{LineToken, fault, is_quoted, is_word, is_wordy, is_open, is_close, is_bracket_close, is_comma, is_equal, is_unequal}
+use Rattle.kmn_items.specs.TokenTexts.{LineToken, fault, is_quoted, is_word, is_wordy, is_open, is_close, is_bracket_close, is_comma, is_equal, is_unequal}
 use Rattle.kmn_items.specs.Words.{bare_name, is_name, is_key_name}
 use Rattle.kmn_items.specs.Numbers.{is_offset}
 

@@ -1,5 +1,5 @@
 ghost use Rattle.std.specs.Prelude.{◌≡◌, ◌+◌, ◌≤◌, ◌<◌, ◌^◌, ◌∷◌, [], IfOk, length, take, drop};
-ghost use Rattle.kmn_items.specs.Told.{texts, told_token, text_at};
+ghost use Rattle.kmn_items.specs.TokenTexts.{texts, with_text, text_at};
 ghost use Rattle.kmn_items.specs.Slots.{broken};
 ghost use Rattle.kmn_items.specs.Brackets.{flag_of, flags_of, named_key, key_item, is_modifier_token, modifier_count};
 
@@ -74,13 +74,13 @@ pub(crate) fn key_item(place: Where, key: KeyName) -> SrcItem
 
 /// Whether a token is a modifier.
 fn is_modifier_token(source: &[u8], token: Token) -> bool
-    ensures { result ≡ is_modifier_token (told_token source.now token) }
+    ensures { result ≡ is_modifier_token (with_text source.now token) }
 {
     matches!(token.kind, TokenKind::Word) && is_modifier(text_in(source, token))
 }
 
 /// How many modifiers tokens begin with.
-#[tactic(auto, using(crate::proofs::ToldLemmas::length_told))]
+#[tactic(auto, using(crate::proofs::TextLemmas::length_with_texts))]
 pub(crate) fn modifier_count(tokens: LineTokens<'_>) -> usize
     ensures count { result ≡ modifier_count (texts tokens.entry) }
     ensures most { result ≤ length (texts tokens.entry) }

@@ -1,5 +1,5 @@
 ghost use Rattle.std.specs.Prelude.{◌≡◌, ◌<◌, ◌≤◌, IfOk, length};
-ghost use Rattle.kmn_items.specs.Told.{texts};
+ghost use Rattle.kmn_items.specs.TokenTexts.{texts};
 ghost use Rattle.kmn_items.specs.Forms.{word_slots, equal_at, word_item};
 
 use crate::numbers::offset_value;
@@ -85,7 +85,7 @@ pub(crate) fn word_slots(word: ItemWord) -> &'static [Slot]
 }
 
 /// Whether the token at a place is `=`.
-#[tactic(auto, using(crate::proofs::ToldLemmas::get_told))]
+#[tactic(auto, using(crate::proofs::TextLemmas::get_with_texts))]
 fn equal_at(place: usize, tokens: LineTokens<'_>) -> bool
     ensures { result ≡ equal_at place (texts tokens.entry) }
 {

@@ -1,5 +1,5 @@
 ghost use Rattle.std.specs.Prelude.{◌≡◌, ◌+◌, ◌≤◌, ◌<◌, ◌^◌, ◌∷◌, [], IfOk, length, map};
-ghost use Rattle.kmn_items.specs.Told.{texts, fault, quoted, Reads};
+ghost use Rattle.kmn_items.specs.TokenTexts.{texts, fault, quoted, Reads};
 ghost use Rattle.kmn_items.specs.Brackets.{modifier_count};
 ghost use Rattle.kmn_items.specs.Item.{read_word, read_quoted, one_character, read_bracket, read_form, read_item};
 

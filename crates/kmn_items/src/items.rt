@@ -1,5 +1,5 @@
 ghost use Rattle.std.specs.Prelude.{◌≡◌, ◌+◌, ◌<◌, ◌^◌, ◌++◌, IfOk, length};
-ghost use Rattle.kmn_items.specs.Told.{texts, Reads};
+ghost use Rattle.kmn_items.specs.TokenTexts.{texts, Reads};
 ghost use Rattle.kmn_items.specs.Item.{unseen, is_item_word, read_items, read_key};
 
 use crate::item::{Spot, read_item, refused};

@@ -1,5 +1,5 @@
 ghost use Rattle.std.specs.Prelude.{◌≡◌};
-ghost use Rattle.kmn_items.specs.Told.{texts, told_token};
+ghost use Rattle.kmn_items.specs.TokenTexts.{texts, with_text};
 ghost use Rattle.kmn_items.specs.Leads.{followed, word_lead, token_lead, lead_of};
 
 use crate::numbers::{digits_lead, number_base, number_digits};
@@ -33,7 +33,7 @@ fn word_lead(opened: bool, text: &[u8]) -> Lead
 
 /// What a token says of the item that it begins.
 fn token_lead(source: &[u8], opened: bool, token: Token) -> Lead
-    ensures { result ≡ token_lead opened (told_token source.now token) }
+    ensures { result ≡ token_lead opened (with_text source.now token) }
 {
     match token.kind {
         TokenKind::Quoted => Lead::Characters,

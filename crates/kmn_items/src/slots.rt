@@ -1,5 +1,5 @@
 ghost use Rattle.std.specs.Prelude.{◌≡◌, ◌+◌, ◌<◌, ◌^◌, length};
-ghost use Rattle.kmn_items.specs.Told.{texts, told_token};
+ghost use Rattle.kmn_items.specs.TokenTexts.{texts, with_text};
 ghost use Rattle.kmn_items.specs.Slots.{unless, offset_fault, slot_fault, cut_code, broken};
 
 use crate::numbers::is_offset;
@@ -19,7 +19,7 @@ fn unless(holds: bool, code: Code) -> Option<Code>
 
 /// The rule that a token breaks as an offset.
 fn offset_fault(source: &[u8], token: Token) -> Option<Code>
-    ensures { result ≡ offset_fault (told_token source.now token) }
+    ensures { result ≡ offset_fault (with_text source.now token) }
 {
     if is_wordy(token.kind) {
         unless(is_offset(text_in(source, token)), Code::L04)
@@ -30,35 +30,35 @@ fn offset_fault(source: &[u8], token: Token) -> Option<Code>
 
 /// Whether a token is a name.
 fn is_name_token(source: &[u8], token: Token) -> bool
-    ensures { (slot_fault Slot.Name (told_token source.now token)) ≡ unless result Code.S02 }
+    ensures { (slot_fault Slot.Name (with_text source.now token)) ≡ unless result Code.S02 }
 {
     is_wordy(token.kind) && is_name(text_in(source, token))
 }
 
 /// Whether a token is the name of a store or of a system store.
 fn is_store_name(source: &[u8], token: Token) -> bool
-    ensures { (slot_fault Slot.StoreName (told_token source.now token)) ≡ unless result Code.S02 }
+    ensures { (slot_fault Slot.StoreName (with_text source.now token)) ≡ unless result Code.S02 }
 {
     is_wordy(token.kind) && is_name(bare_name(text_in(source, token)))
 }
 
 /// Whether a token is the name of a key.
 fn is_key_token(source: &[u8], token: Token) -> bool
-    ensures { (slot_fault Slot.KeyName (told_token source.now token)) ≡ unless result Code.S11 }
+    ensures { (slot_fault Slot.KeyName (with_text source.now token)) ≡ unless result Code.S11 }
 {
     matches!(token.kind, TokenKind::Word) && is_key_name(text_in(source, token))
 }
 
 /// Whether a token is `$` and a name.
 fn is_dollar_name(source: &[u8], token: Token) -> bool
-    ensures { (slot_fault Slot.DollarName (told_token source.now token)) ≡ unless result Code.S02 }
+    ensures { (slot_fault Slot.DollarName (with_text source.now token)) ≡ unless result Code.S02 }
 {
     is_name(behind(text_in(source, token), 1))
 }
 
 /// The rule that a token breaks at a place of a form.
 fn slot_fault(source: &[u8], slot: Slot, token: Token) -> Option<Code>
-    ensures { result ≡ slot_fault slot (told_token source.now token) }
+    ensures { result ≡ slot_fault slot (with_text source.now token) }
 {
     let holds = match slot {
         Slot::Lead => true,

@@ -1,5 +1,5 @@
 ghost use Rattle.std.specs.Prelude.{◌≡◌, IfOk, chars};
-ghost use Rattle.kmn_items.specs.Told.{text_of, text_at, texts, is_wordy, begins_open, inside, quoted};
+ghost use Rattle.kmn_items.specs.TokenTexts.{text_of, text_at, texts, is_wordy, begins_open, inside, quoted};
 
 use kmn_base::slices::{before, behind};
 use kmn_base::{Memory, Seq, Text};
@@ -24,14 +24,14 @@ impl<'a> LineTokens<'a> {
     ghost use Rattle.std.specs.Prelude.{◌==◌, take, drop, length};
 
     /// How many they are.
-    #[tactic(auto, using(crate::proofs::ToldLemmas::length_told))]
+    #[tactic(auto, using(crate::proofs::TextLemmas::length_with_texts))]
     pub fn len(self) -> usize
         ensures { result ≡ length (texts self.entry) }
     {
         self.tokens.len()
     }
 
-    #[tactic(auto, using(crate::proofs::ToldLemmas::length_told))]
+    #[tactic(auto, using(crate::proofs::TextLemmas::length_with_texts))]
     pub fn is_empty(self) -> bool
         ensures { result ≡ (length (texts self.entry) == 0) }
     {
@@ -39,7 +39,7 @@ impl<'a> LineTokens<'a> {
     }
 
     /// All but the first tokens.
-    #[tactic(auto, using(crate::proofs::ToldLemmas::drop_told))]
+    #[tactic(auto, using(crate::proofs::TextLemmas::drop_with_texts))]
     pub fn behind(self, count: usize) -> LineTokens<'a>
         ensures { texts result ≡ drop count (texts self.entry) }
     {
@@ -50,7 +50,7 @@ impl<'a> LineTokens<'a> {
     }
 
     /// The first tokens, or all where there are fewer.
-    #[tactic(auto, using(crate::proofs::ToldLemmas::take_told))]
+    #[tactic(auto, using(crate::proofs::TextLemmas::take_with_texts))]
     pub fn before(self, count: usize) -> LineTokens<'a>
         ensures { texts result ≡ take count (texts self.entry) }
     {
@@ -61,7 +61,7 @@ impl<'a> LineTokens<'a> {
     }
 
     /// The text of the token at a place; empty where there is none.
-    #[tactic(auto, using(crate::proofs::ToldLemmas::get_told))]
+    #[tactic(auto, using(crate::proofs::TextLemmas::get_with_texts))]
     pub fn text(self, place: usize) -> &'a [u8]
         ensures { result.now ≡ text_at place (texts self.entry) }
     {
@@ -114,7 +114,7 @@ fn characters(alloc: Global, text: &str) -> Result<Seq<char>, Memory>
 }
 
 /// The characters of a quoted token.
-#[tactic(auto, using(crate::proofs::ToldLemmas::decoded_text, crate::proofs::ToldLemmas::decoded_other))]
+#[tactic(auto, using(crate::proofs::TextLemmas::decoded_text, crate::proofs::TextLemmas::decoded_other))]
 pub(crate) fn quoted(alloc: Global, text: &[u8]) -> Result<Seq<char>, Memory>
     ensures { IfOk result (λ characters. characters ≡ quoted text.now) }
 {

@@ -18,15 +18,15 @@ use Rattle.rule_model.specs.declared.program.Program.{Program}
 use Rattle.kmn_parser.specs.declared.reading.Reading.{Reading}
 use Rattle.kmn_parser.specs.declared.statement.Statement.{Statement}
 use Rattle.kmn_parser.specs.declared.statement.Sign.{Sign}
-use Rattle.kmn_items.specs.Told.{told}
+use Rattle.kmn_items.specs.TokenTexts.{with_texts}
 use Rattle.kmn_parser.specs.Line.{is_sign, place_of}
 use Rattle.kmn_parser.specs.Source.{line_statement, group_after, with_statement, read_lines, with_rule, read_text, parsed}
 use Rattle.kmn_parser.specs.Reading.{read_further, reading_after, read_behind}
 
 -- a sign stands at the same place among the tokens with their texts
-pub place_told : (source : List ℕ) (wanted : Sign) (tokens : List Token) → place_of wanted (told source tokens) ≡ position_or_len (λ (token : Token). is_sign wanted token.kind) tokens
-place_told source wanted [] = refl
-place_told source wanted (token ∷ tokens) = ap (λ n. cond (not (is_sign wanted token.kind)) (1 + n) 0) (place_told source wanted tokens)
+pub place_with_texts : (source : List ℕ) (wanted : Sign) (tokens : List Token) → place_of wanted (with_texts source tokens) ≡ position_or_len (λ (token : Token). is_sign wanted token.kind) tokens
+place_with_texts source wanted [] = refl
+place_with_texts source wanted (token ∷ tokens) = ap (λ n. cond (not (is_sign wanted token.kind)) (1 + n) 0) (place_with_texts source wanted tokens)
 
 -- what holds of all, element by element
 pub by_recursion : {X : Type 0} (P : X → Type 0) (xs : List X) → All P xs → AllByRecursion P xs

@@ -27,7 +27,7 @@ use Rattle.kmn_items.specs.declared.syntax.ItemWord.{ItemWord}
 use Rattle.kmn_items.specs.declared.syntax.ItemWord.TheVariants as word
 use Rattle.kmn_items.specs.declared.syntax.Taken.{Taken}
 use Rattle.kmn_base.specs.Answers.{and_then}
-use Rattle.kmn_items.specs.Told.{LineToken, fault, text_at, inside, quoted, begins_open, is_word}
+use Rattle.kmn_items.specs.TokenTexts.{LineToken, fault, text_at, inside, quoted, begins_open, is_word}
 use Rattle.kmn_items.specs.Words.{is_system_name, item_word, is_key_name}
 use Rattle.kmn_items.specs.Numbers.{character_lead, digits_lead, number_base, number_digits, bounded_value}
 use Rattle.kmn_items.specs.Slots.{unless, or_fault, broken}

@@ -19,7 +19,7 @@ use Rattle.rule_model.specs.declared.program.Program.{Program}
 use Rattle.kmn_items.specs.declared.syntax.Fault.{Fault}
 use Rattle.kmn_parser.specs.declared.statement.Statement.{Statement}
 use Rattle.kmn_parser.specs.declared.statement.Statement.TheVariants as statement
-use Rattle.kmn_items.specs.Told.{told}
+use Rattle.kmn_items.specs.TokenTexts.{with_texts}
 use Rattle.kmn_parser.specs.Line.{read_line}
 use Rattle.kmn_parser.specs.Source.{at_line, line_statement, group_after, with_rule, with_statement, no_program, read_lines, read_text, parsed}
 use Rattle.kmn_parser.specs.ProgramLaws.{IsLine, IsReadStore, IsReadBegin, IsReadRule, IsReadGroup, IsReadProgram, ProgramsAreRead}
@@ -135,7 +135,7 @@ lines-read : (source : List ℕ) (group : Option Bool) (program : Program) (line
     → IsReadSoFar group program → WholeRead (read_lines source group program lines)
 lines-read source group program [] numbered sound far = far.read
 lines-read source group program (line ∷ lines) numbered sound far =
-    let tokens = told source (line_tokens source line) in
+    let tokens = with_texts source (line_tokens source line) in
     let placed = All-head HasLine line lines numbered in
     let here = line-read group line.first_line tokens placed (All-head (HasSoundTokens source) line lines sound) in
     (elim (line_statement source group line) as (λ (read : Result Statement Refusal). LineRead group read → WholeRead (elim read [

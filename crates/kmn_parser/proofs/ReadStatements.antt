@@ -20,7 +20,7 @@ use Rattle.kmn_parser.specs.declared.statement.Sign.TheVariants as sign
 use Rattle.kmn_parser.specs.declared.statement.Statement.{Statement}
 use Rattle.kmn_parser.specs.declared.statement.Statement.TheVariants as statement
 use Rattle.kmn_base.specs.Answers.{and_then}
-use Rattle.kmn_items.specs.Told.{LineToken, fault, text_at, begins_open, is_wordy}
+use Rattle.kmn_items.specs.TokenTexts.{LineToken, fault, text_at, begins_open, is_wordy}
 use Rattle.kmn_items.specs.Words.{character_count, is_system_name, bare_name, is_name}
 use Rattle.kmn_items.specs.Slots.{unless, broken}
 use Rattle.kmn_items.specs.Item.{unseen, read_items, read_key}

@@ -18,7 +18,7 @@ use Rattle.kmn_lines.specs.Lines.{parts_in}
 use Rattle.kmn_lines.specs.Tokens.{single, is_unequal, starts_number, hex_value, plain_kind, has_forbidden, is_closed, is_scalar, value_fault, digits_fault, token_size, token_text, token_kind, token_at, token_fault, scanned, first_fault, part_text, parts_tokens, parts_fault, line_tokens, line_refusal, tokens_refusal, refusal}
 use Rattle.kmn_lines.specs.Laws.{IsPlain, bytes_between}
 use Rattle.kmn_lines.proofs.Sizes.{words_plain}
-use Rattle.kmn_items.specs.Told.{LineToken, text_of, told_token, told}
+use Rattle.kmn_items.specs.TokenTexts.{LineToken, text_of, with_text, with_texts}
 use Rattle.kmn_parser.specs.ProgramLaws.{IsCharacter}
 
 -- the text of a token breaks no rule of tokens, and is what the token's kind says
@@ -171,7 +171,7 @@ pub record IsSoundToken (token : LineToken) : Type 0 where
   pub number : IsSoundKind token.kind
   pub word : token.kind ≡ kind.Word → All IsPlain token.text
 
-token-sound : (source : List ℕ) (t : Token) → IsUtf8 (text_of source t) → IsFaultlessIn source t → IsSoundToken (told_token source t)
+token-sound : (source : List ℕ) (t : Token) → IsUtf8 (text_of source t) → IsFaultlessIn source t → IsSoundToken (with_text source t)
 token-sound source t utf8 sound = record {
   utf8 = utf8;
   clean = (text-parts (text_of source t) sound.faultless).0;
@@ -184,13 +184,13 @@ IsText source t = IsUtf8 (bytes_between source t.from t.to)
 
 -- the tokens of a line are sound
 pub tokens-sound : (source : List ℕ) (line : Logical) → All (IsText source) (line_tokens source line) → line_refusal source line ≡ None
-    → All IsSoundToken (told source (line_tokens source line))
+    → All IsSoundToken (with_texts source (line_tokens source line))
 tokens-sound source line texts none =
     let faultless = line-faultless source line none in
-    All-map IsSoundToken (told_token source) (line_tokens source line) (λ k d l. token-sound source (get_or (line_tokens source line) k d) (texts k d l) (faultless k d l))
+    All-map IsSoundToken (with_text source) (line_tokens source line) (λ k d l. token-sound source (get_or (line_tokens source line) k d) (texts k d l) (faultless k d l))
 
 abbrev pub HasSoundTokens : List ℕ → Logical → Type 0
-HasSoundTokens source line = All IsSoundToken (told source (line_tokens source line))
+HasSoundTokens source line = All IsSoundToken (with_texts source (line_tokens source line))
 
 abbrev pub HasTexts : List ℕ → Logical → Type 0
 HasTexts source line = All (IsText source) (line_tokens source line)

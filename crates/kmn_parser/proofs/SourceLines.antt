@@ -24,7 +24,7 @@ use Rattle.rule_model.specs.OwnLines.{have_own_lines}
 use Rattle.kmn_items.specs.declared.syntax.Fault.{Fault}
 use Rattle.kmn_parser.specs.declared.statement.Statement.{Statement}
 use Rattle.kmn_parser.specs.declared.statement.Statement.TheVariants as statement
-use Rattle.kmn_items.specs.Told.{told}
+use Rattle.kmn_items.specs.TokenTexts.{with_texts}
 use Rattle.kmn_base.specs.Rising.{AllAbove, Rises, times}
 use Rattle.kmn_parser.specs.Source.{at_line, line_statement, group_after, with_rule, with_statement, no_program, read_lines, read_text, parsed}
 use Rattle.kmn_parser.specs.SourceLaws.{store_lines, begin_lines, group_lines, lines_of_rules, rule_lines, StandsAt, statements_at, has_own_lines, IsInOrder, StatementsAreInOrder}
@@ -355,7 +355,7 @@ pub lines-ordered : (source : List ℕ) (group : Option Bool) (low : ℕ) (progr
     → LinesFrom low lines → IsBefore low program → IsOrdered (read_lines source group program lines)
 lines-ordered source group low program [] from before = before.order
 lines-ordered source group low program (line ∷ lines) (here, rest) before =
-    let at = at_line-at line.first_line line.first_line _ (line-at group line.first_line (told source (line_tokens source line))) in
+    let at = at_line-at line.first_line line.first_line _ (line-at group line.first_line (with_texts source (line_tokens source line))) in
     (elim (line_statement source group line) as (λ read. AnswersAt line.first_line read → IsOrdered (elim read [
       | Ok stated ↦ read_lines source (group_after group stated) (with_statement program stated) lines
       | Err found ↦ Err found

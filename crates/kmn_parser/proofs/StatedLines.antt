@@ -11,7 +11,7 @@ use Rattle.kmn_parser.specs.declared.statement.Sign.TheVariants as sign
 use Rattle.kmn_parser.specs.declared.statement.Statement.{Statement}
 use Rattle.kmn_parser.specs.declared.statement.Statement.TheVariants as statement
 use Rattle.kmn_base.specs.Answers.{and_then}
-use Rattle.kmn_items.specs.Told.{LineToken, text_at}
+use Rattle.kmn_items.specs.TokenTexts.{LineToken, text_at}
 use Rattle.kmn_items.specs.Item.{unseen, read_items}
 use Rattle.kmn_parser.specs.Line.{place_of, begins_word, behind_close, is_none_left, checked, store_fault, store_def, begin_fault, is_using_keys, group_fault, match_fault, earliest, read_store, read_begin, read_group, read_match, rule_body, rule_head, rule_key, read_rule, read_tokens, read_line}
 use Rattle.kmn_parser.specs.SourceLaws.{StandsAt}

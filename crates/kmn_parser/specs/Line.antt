@@ -21,7 +21,7 @@ use Rattle.kmn_parser.specs.declared.statement.Sign.TheVariants as sign
 use Rattle.kmn_parser.specs.declared.statement.Statement.{Statement}
 use Rattle.kmn_parser.specs.declared.statement.Statement.TheVariants as statement
 use Rattle.kmn_base.specs.Answers.{and_then}
-use Rattle.kmn_items.specs.Told.{LineToken, fault, text_at, begins_open, is_quoted, is_word, is_number}
+use Rattle.kmn_items.specs.TokenTexts.{LineToken, fault, text_at, begins_open, is_quoted, is_word, is_number}
 use Rattle.kmn_items.specs.Words.{is_system_name, bare_name}
 use Rattle.kmn_items.specs.Slots.{unless, broken}
 use Rattle.kmn_items.specs.Item.{unseen, is_item_word, read_items, read_key}

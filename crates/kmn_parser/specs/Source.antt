@@ -13,7 +13,7 @@ use Rattle.rule_model.specs.declared.program.Program.{Program}
 use Rattle.kmn_items.specs.declared.syntax.Fault.{Fault}
 use Rattle.kmn_parser.specs.declared.statement.Statement.{Statement}
 use Rattle.kmn_parser.specs.declared.statement.Statement.TheVariants as statement
-use Rattle.kmn_items.specs.Told.{told}
+use Rattle.kmn_items.specs.TokenTexts.{with_texts}
 use Rattle.kmn_parser.specs.Line.{read_line}
 
 -- what is read of a line with this number, a fault as its refusal
@@ -24,7 +24,7 @@ at_line line (Err found) = Err (refusal line found.code)
 -- the statement of a logical line, behind a group
 abbrev pub line_statement : List ℕ → Option Bool → Logical → Result Statement Refusal
 line_statement source group line =
-    at_line line.first_line (read_line group line.first_line (told source (line_tokens source line)))
+    at_line line.first_line (read_line group line.first_line (with_texts source (line_tokens source line)))
 
 -- what is known of the last group behind a statement
 abbrev pub group_after : Option Bool → Statement → Option Bool

@@ -1,7 +1,7 @@
 //! Begin and group statements.
 
 ghost use Rattle.std.specs.Prelude.{◌≡◌, ◌+◌, ◌<◌, ◌^◌, length};
-ghost use Rattle.kmn_items.specs.Told.{texts, Reads};
+ghost use Rattle.kmn_items.specs.TokenTexts.{texts, Reads};
 ghost use Rattle.kmn_parser.specs.Line.{begins_kind, is_use, begin_head, begin_fault, read_begin, is_using_keys, group_head, group_fault, read_group};
 
 use crate::signs::{begins_word, behind_close, place_of};

@@ -1,7 +1,7 @@
 //! The statement of a logical line.
 
 ghost use Rattle.std.specs.Prelude.{◌≡◌, ◌<◌, ◌^◌, length};
-ghost use Rattle.kmn_items.specs.Told.{texts, Reads};
+ghost use Rattle.kmn_items.specs.TokenTexts.{texts, Reads};
 ghost use Rattle.kmn_parser.specs.Line.{read_tokens, read_line};
 
 use crate::group_line::{read_begin, read_group};

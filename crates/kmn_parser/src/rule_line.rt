@@ -1,7 +1,7 @@
 //! Rules, and what a group does after a match or where nothing matches.
 
 ghost use Rattle.std.specs.Prelude.{◌≡◌, ◌+◌, ◌<◌, ◌≤◌, ◌^◌, length};
-ghost use Rattle.kmn_items.specs.Told.{texts, told_token, Reads};
+ghost use Rattle.kmn_items.specs.TokenTexts.{texts, with_text, Reads};
 ghost use Rattle.kmn_parser.specs.Line.{no_group, is_empty_quote, has_items, no_output, match_fault, read_match, begins_rule, uses_keys, rule_head, rule_key, rule_body, code_number, earlier, rule_at, read_rule};
 
 use crate::signs::place_of;
@@ -31,7 +31,7 @@ fn no_group(group: Option<bool>) -> Option<Code>
 
 /// Whether a token is two quotes with nothing between them.
 fn is_empty_quote(source: &[u8], token: Token) -> bool
-    ensures { result ≡ is_empty_quote (told_token source.now token) }
+    ensures { result ≡ is_empty_quote (with_text source.now token) }
 {
     token.kind == TokenKind::Quoted && text_in(source, token).len() == 2
 }

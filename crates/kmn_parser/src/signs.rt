@@ -2,7 +2,7 @@
 
 ghost use Rattle.std.specs.Prelude.{◌≡◌, ◌≤◌, length};
 ghost use Rattle.std.specs.List.{position_or_len};
-ghost use Rattle.kmn_items.specs.Told.{texts};
+ghost use Rattle.kmn_items.specs.TokenTexts.{texts};
 ghost use Rattle.kmn_parser.specs.Line.{is_sign, place_of, begins_word, behind_close};
 
 use crate::statement::Sign;
@@ -37,7 +37,7 @@ fn sign_place(sign: Sign, tokens: &[Token]) -> usize
 }
 
 /// The place of the first token that is a sign, or the number of the tokens, which have their texts in a source.
-#[tactic(auto, using(crate::proofs::LineLemmas::place_told, kmn_items::proofs::ToldLemmas::length_told))]
+#[tactic(auto, using(crate::proofs::LineLemmas::place_with_texts, kmn_items::proofs::TextLemmas::length_with_texts))]
 pub(crate) fn place_of(sign: Sign, tokens: LineTokens<'_>) -> usize
     ensures place { result ≡ place_of sign (texts tokens.entry) }
     ensures within { result ≤ length (texts tokens.entry) }

@@ -2,7 +2,7 @@
 
 ghost use Rattle.std.specs.Prelude.{◌≡◌, ◌+◌, ◌<◌, ◌^◌, length, is_some, IfOk};
 ghost use Rattle.kmn_base.specs.Names.{named_in};
-ghost use Rattle.kmn_items.specs.Told.{texts, Reads};
+ghost use Rattle.kmn_items.specs.TokenTexts.{texts, Reads};
 ghost use Rattle.kmn_parser.specs.Line.{system_stores, store_system, store_form, store_fault, store_def, read_store};
 
 use crate::statement::Statement;

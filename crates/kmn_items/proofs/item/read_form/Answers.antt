@@ -1,6 +1,6 @@
 use Rattle.std.proofs.Common.{List, sym, subst}
 use Rattle.kmn_items.specs.declared.syntax.Lead.{Lead}
-use Rattle.kmn_items.specs.Told.{LineToken, texts, Reads}
+use Rattle.kmn_items.specs.TokenTexts.{LineToken, texts, Reads}
 use Rattle.kmn_items.specs.Item.{read_form, read_bracket}
 use Rattle.kmn_items.specs.Brackets.{modifier_count}
 use Rattle.kmn_items.proofs.item.read_form.Goals as goal

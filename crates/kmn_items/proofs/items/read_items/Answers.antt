@@ -2,7 +2,7 @@ use Rattle.std.proofs.Common.{◌+◌, ◌<◌, List, length, Result, Err, sym, 
 use Rattle.std.proofs.lemmas.Grind.{common_steps}
 use Rattle.rule_model.specs.declared.program.SrcItem.{SrcItem}
 use Rattle.kmn_items.specs.declared.syntax.Fault.{Fault}
-use Rattle.kmn_items.specs.Told.{texts, Reads}
+use Rattle.kmn_items.specs.TokenTexts.{texts, Reads}
 use Rattle.kmn_items.specs.Item.{prepend, read_items}
 use Rattle.kmn_items.proofs.ItemLemmas.{items_step, items_stop}
 use Rattle.kmn_items.proofs.items.read_items.Goals as goal

@@ -1,5 +1,5 @@
 use Rattle.std.proofs.Common.{◌≡◌, ◌+◌, ◌<◌, ◌≤◌, length}
-use Rattle.kmn_items.specs.Told.{texts}
+use Rattle.kmn_items.specs.TokenTexts.{texts}
 use Rattle.kmn_items.specs.Item.{unseen, prepend, read_items}
 use Rattle.kmn_items.proofs.items.read_items.Given as goal
 

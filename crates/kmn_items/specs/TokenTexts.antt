@@ -20,16 +20,16 @@ pub record LineToken : Type 0 where
 abbrev pub text_of : List ℕ → Token → List ℕ
 text_of source token = drop token.from (take token.to source)
 
-abbrev pub told_token : List ℕ → Token → LineToken
-told_token source token = record { kind = token.kind; text = text_of source token }
+abbrev pub with_text : List ℕ → Token → LineToken
+with_text source token = record { kind = token.kind; text = text_of source token }
 
 -- the tokens of a line with their texts
-abbrev pub told : List ℕ → List Token → List LineToken
-told source tokens = map (told_token source) tokens
+abbrev pub with_texts : List ℕ → List Token → List LineToken
+with_texts source tokens = map (with_text source) tokens
 
 -- those of tokens that stand side by side in a line
 abbrev pub texts : LineTokens → List LineToken
-texts tokens = told tokens.source.now tokens.tokens.now
+texts tokens = with_texts tokens.source.now tokens.tokens.now
 
 -- the kinds of tokens that forms ask for
 abbrev pub is_quoted : TokenKind → Bool
@@ -98,10 +98,10 @@ abbrev pub fault : ℕ → Code → Fault
 fault at code = record { at = at; code = code }
 
 -- the fault that a trouble tells; want of memory tells none
-abbrev pub told_fault : Trouble → Option Fault
-told_fault (trouble.Broken fault) = Some fault
-told_fault trouble.NoMemory = None
+abbrev pub fault_of : Trouble → Option Fault
+fault_of (trouble.Broken fault) = Some fault
+fault_of trouble.NoMemory = None
 
 -- what code answers of a reading: its value or its first fault, exactly, or want of memory at any time
 abbrev pub Reads : {A : Type 0} → Result A Fault → Result A Trouble → Type 0
-Reads read answer = AnswersBy told_fault read answer
+Reads read answer = AnswersBy fault_of read answer

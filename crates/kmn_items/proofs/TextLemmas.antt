@@ -6,19 +6,19 @@ use Rattle.std.proofs.lemmas.Str.{is_utf8-from_IsUtf8, IsUtf8-from_is_utf8}
 use Rattle.std.proofs.lemmas.Option.{slice_get-map}
 use Rattle.std.proofs.lemmas.List.{drop-map, take-map, length-map}
 use Rattle.kmn_lines.specs.declared.token.Token.{Token}
-use Rattle.kmn_items.specs.Told.{told, told_token, decoded}
+use Rattle.kmn_items.specs.TokenTexts.{with_texts, with_text, decoded}
 
-pub get_told : (source : List ℕ) (tokens : List Token) (place : ℕ) → slice_get (told source tokens) place ≡ option_map (told_token source) (slice_get tokens place)
-get_told source tokens place = slice_get-map (told_token source) tokens place
+pub get_with_texts : (source : List ℕ) (tokens : List Token) (place : ℕ) → slice_get (with_texts source tokens) place ≡ option_map (with_text source) (slice_get tokens place)
+get_with_texts source tokens place = slice_get-map (with_text source) tokens place
 
-pub drop_told : (source : List ℕ) (tokens : List Token) (n : ℕ) → drop n (told source tokens) ≡ told source (drop n tokens)
-drop_told source tokens n = drop-map (told_token source) n tokens
+pub drop_with_texts : (source : List ℕ) (tokens : List Token) (n : ℕ) → drop n (with_texts source tokens) ≡ with_texts source (drop n tokens)
+drop_with_texts source tokens n = drop-map (with_text source) n tokens
 
-pub take_told : (source : List ℕ) (tokens : List Token) (n : ℕ) → take n (told source tokens) ≡ told source (take n tokens)
-take_told source tokens n = take-map (told_token source) n tokens
+pub take_with_texts : (source : List ℕ) (tokens : List Token) (n : ℕ) → take n (with_texts source tokens) ≡ with_texts source (take n tokens)
+take_with_texts source tokens n = take-map (with_text source) n tokens
 
-pub length_told : (source : List ℕ) (tokens : List Token) → length (told source tokens) ≡ length tokens
-length_told source tokens = length-map tokens (told_token source)
+pub length_with_texts : (source : List ℕ) (tokens : List Token) → length (with_texts source tokens) ≡ length tokens
+length_with_texts source tokens = length-map tokens (with_text source)
 
 -- a text in UTF-8 is decoded, and any other is nothing
 pub decoded_text : (bytes : List ℕ) → IsUtf8 bytes → decoded bytes ≡ chars bytes
