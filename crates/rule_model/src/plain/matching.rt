@@ -128,13 +128,10 @@ fn conditions_hold(indexed: &IndexedTables, state: &EventState, context: &[Pat])
 fn pattern_count(context: &[Pat]) -> usize
     ensures { result ≡ pattern_count (map (tab_pattern []) context.now) }
 {
-    let mut count = 0;
-    for pattern in context {
-        if takes_item(*pattern) {
-            count += 1;
-        }
-    }
-    count
+    context
+        .iter()
+        .filter(|pattern| takes_item(**pattern))
+        .count()
 }
 
 /// Whether a context has a `nul`.
