@@ -2,10 +2,11 @@
 use Rattle.std.proofs.Common.{◌≡◌, ℕ, ◌+◌, ◌≤◌, List, [], ◌∷◌, ◌++◌, length, Option, Some, None, Result, Ok, Err, refl, ap, append_assoc, arith}
 use Rattle.std.proofs.lemmas.Grind.{common_steps}
 use Rattle.std.specs.List.{onto_first}
+use Rattle.kmn_base.specs.Answers.{Answers}
+use Rattle.kmn_base.specs.declared.refusals.CompileError.{CompileError}
+use Rattle.kmn_base.specs.declared.refusals.CompileError.TheVariants as form
 use Rattle.kmn_base.specs.declared.refusals.Refusal.{Refusal}
-use Rattle.keyman_tool.specs.declared.forms.FormError.{FormError}
-use Rattle.keyman_tool.specs.declared.forms.FormError.TheVariants as form
-use Rattle.keyman_tool.specs.Forms.{Reads, Appends}
+use Rattle.keyman_tool.specs.Forms.{Appends}
 use Rattle.keyman_tool.specs.Stated.{before_later, and_later}
 use Rattle.keyman_tool.specs.TextLines.{text_lines}
 
@@ -18,9 +19,11 @@ before_later_more stated more (Ok later) = ap Ok (append_assoc stated more later
 before_later_more stated more (Err refusal) = refl
 
 -- the refusal of a line is the text's
-pub refused_line : {X : Type 0} (line : Option (List X)) (refusal : Refusal) (stated before after : List X) (later read : Result (List X) Refusal) (error : FormError)
-    → Appends line refusal before after (Err error) → before_later stated (and_later refusal line later) ≡ read → Reads read (Err error)
+pub refused_line : {X : Type 0} (line : Option (List X)) (refusal : Refusal) (stated before after : List X) (later read : Result (List X) Refusal) (error : CompileError)
+    → Appends line refusal before after (Err error) → before_later stated (and_later refusal line later) ≡ read → Answers read (Err error)
 refused_line line refusal stated before after later read form.Memory appends is = tt
+refused_line None refusal stated before after later read (form.TooLarge code size) appends is = absurd appends
+refused_line (Some found) refusal stated before after later read (form.TooLarge code size) appends is = absurd appends
 refused_line None refusal stated before after later read (form.Refused given) appends is = cc
 refused_line (Some found) refusal stated before after later read (form.Refused given) appends is = absurd appends
 

@@ -1,6 +1,7 @@
 -- What the inputs that were read state.
 use Rattle.std.proofs.Common.{◌≡◌, ◌+◌, ℕ, true, IsTrue, List, [], ◌∷◌, ◌++◌, map, Option, Some, Result, Ok, Err, refl, sym, ap, ◌∙◌}
 use Rattle.std.specs.List.{AllByRecursion, list_all}
+use Rattle.kmn_base.specs.Answers.{Answers}
 use Rattle.kmn_base.specs.declared.codes.Code.{Code}
 use Rattle.kmn_base.specs.declared.events.Event.TheVariants as event
 use Rattle.kmn_base.specs.declared.refusals.CompileError.{CompileError}
@@ -16,19 +17,16 @@ use Rattle.rule_model.specs.declared.program.Program.{Program}
 use Rattle.rule_model.specs.declared.script.Entry.{Entry}
 use Rattle.rule_model.specs.declared.script.Entry.TheVariants.{Act, Expect}
 use Rattle.rule_model.specs.declared.tables.Tables.{Tables}
-use Rattle.keyman_tool.specs.declared.forms.FormError.{FormError}
-use Rattle.keyman_tool.specs.declared.forms.FormError.TheVariants as form
 use Rattle.keyman_tool.specs.declared.preparing.Stop.{Stop}
 use Rattle.keyman_tool.specs.declared.preparing.Stop.TheVariants as stop
 use Rattle.keyman_tool.specs.declared.reason.Reason.{Reason}
 use Rattle.keyman_tool.specs.declared.reason.Reason.TheVariants as reason
 use Rattle.keyman_tool.specs.Asked.{Ask, read_of, answered}
-use Rattle.keyman_tool.specs.Forms.{Reads as ReadsForm}
 use Rattle.keyman_tool.specs.Inputs.{by_line, unless_large, program_read, program_of, script_of}
 use Rattle.keyman_tool.specs.Run.{HasRead}
 use Rattle.keyman_tool.specs.ScriptLines.{IsPress, script_entries}
 use Rattle.keyman_tool.specs.Seen.{FolderView, FolderState, seen_folder}
-use Rattle.keyman_tool.specs.Steps.{StopCounts, GivesBy, Gives, read_stop, form_stop, compile_stop, tables_in, entries_in, is_press, IsPressing}
+use Rattle.keyman_tool.specs.Steps.{StopCounts, GivesBy, Gives, read_stop, compile_stop, tables_in, entries_in, is_press, IsPressing}
 use Rattle.keyman_tool.specs.Work.{Reading, Work, given, and_then, reads, comes_to}
 use Rattle.keyman_tool.specs.Work.Reading.{Bytes, Over}
 use Rattle.keyman_tool.specs.Work.Work.{Give, Read}
@@ -153,9 +151,10 @@ refused_states read (compile.TooLarge code size) h =
 refused_states read compile.Memory h = tt
 
 -- what a script states
-pub script_states : (read : Result (List Entry) Refusal) (error : FormError) → ReadsForm read (Err error) → StatesBy entries_in (by_line read) (Err (form_stop error))
-script_states read (form.Refused refusal) h = ap by_line h
-script_states read form.Memory h = tt
+pub script_states : (read : Result (List Entry) Refusal) (error : CompileError) → Answers read (Err error) → StatesBy entries_in (by_line read) (Err (compile_stop error))
+script_states read (compile.Refused refusal) h = ap by_line h
+script_states read (compile.TooLarge code size) h = absurd h
+script_states read compile.Memory h = tt
 
 one_press : (entry : Entry) → IsPress entry → is_press entry ≡ true
 one_press (Act line (event.Key press)) is = refl

@@ -9,12 +9,12 @@ use Rattle.std.proofs.lemmas.List.Splits.{slice_split_at, slice_split_none, leng
 use Rattle.std.specs.List.{All, AllByRecursion, list_any, onto_first, position, position_or_len, slice_split}
 use Rattle.kmn_base.specs.declared.events.Event.TheVariants as event
 use Rattle.kmn_base.specs.declared.keys.KeyPress.{KeyPress}
+use Rattle.kmn_base.specs.declared.refusals.CompileError.{CompileError}
+use Rattle.kmn_base.specs.declared.refusals.CompileError.TheVariants as form
 use Rattle.kmn_base.specs.declared.refusals.Refusal.{Refusal}
 use Rattle.rule_model.specs.declared.script.Entry.{Entry}
 use Rattle.rule_model.specs.declared.script.Entry.TheVariants.{Act}
-use Rattle.keyman_tool.specs.declared.forms.FormError.{FormError}
-use Rattle.keyman_tool.specs.declared.forms.FormError.TheVariants as form
-use Rattle.keyman_tool.specs.declared.forms.TheConstants.{INPUT_BYTES}
+use Rattle.keyman_tool.specs.declared.script_lines.TheConstants.{INPUT_BYTES}
 use Rattle.keyman_tool.specs.Forms.{Appends}
 use Rattle.keyman_tool.specs.ScriptLines.{IsPress, is_closing, without_blanks, bracket_press, bracket_entry, before_more, pieces_entries, line_entries, lines_entries, script_entries, outside_script}
 use Rattle.keyman_tool.specs.Stated.{and_later}
@@ -59,10 +59,12 @@ bracket_joined (Some entry) refusal before after None read x appends is = is
 bracket_joined (Some entry) refusal before after (Some more) read x appends is = ap (λ front. Some (front ++ more)) appends ∙ ap Some (append_assoc before (entry ∷ []) more) ∙ is
 
 -- the refusal of a bracket is the line's
-bracket_refused : (entry : Option Entry) (refusal : Refusal) (start before after : List Entry) (later line : Option (List Entry)) (error : FormError)
+bracket_refused : (entry : Option Entry) (refusal : Refusal) (start before after : List Entry) (later line : Option (List Entry)) (error : CompileError)
     → Appends (option_map (λ e. e ∷ []) entry) refusal before after (Err error) → option_map (λ more. before ++ more) (before_more entry later) ≡ option_map (λ more. start ++ more) line
     → Appends line refusal start after (Err error)
 bracket_refused entry refusal start before after later None form.Memory appends is = tt
+bracket_refused None refusal start before after later line (form.TooLarge code size) appends is = absurd appends
+bracket_refused (Some entry) refusal start before after later line (form.TooLarge code size) appends is = absurd appends
 bracket_refused entry refusal start before after later (Some stated) form.Memory appends is = tt
 bracket_refused None refusal start before after later None (form.Refused given) appends is = appends
 bracket_refused None refusal start before after later (Some stated) (form.Refused given) appends is = cc
@@ -78,7 +80,7 @@ next_bracket number text piece behind refusal before after read x parts appends 
     (ap (option_map (λ more. before ++ more)) (sym (ap (pieces_entries number) parts ∙ bracket_before number piece behind)) ∙ is)
 
 -- a line is refused at its first bracket that isn't one
-pub refused_bracket : (number : ℕ) (text piece behind : List ℕ) (refusal : Refusal) (start before after : List Entry) (line : Option (List Entry)) (error : FormError)
+pub refused_bracket : (number : ℕ) (text piece behind : List ℕ) (refusal : Refusal) (start before after : List Entry) (line : Option (List Entry)) (error : CompileError)
     → slice_split is_closing text ≡ piece ∷ slice_split is_closing behind → Appends (option_map (λ e. e ∷ []) (bracket_entry number piece)) refusal before after (Err error)
     → option_map (λ more. before ++ more) (pieces_entries number (slice_split is_closing text)) ≡ option_map (λ more. start ++ more) line
     → Appends line refusal start after (Err error)

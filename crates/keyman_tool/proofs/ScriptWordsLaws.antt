@@ -7,7 +7,8 @@ use Rattle.std.proofs.lemmas.List.Splits.{slice_split_first, slice_split_none, s
 use Rattle.std.proofs.lemmas.List.Sums.{fails_before_first, passes_at_first, prefix_len-le-length}
 use Rattle.std.specs.Prelude.{position, unwrap_or, filter}
 use Rattle.std.specs.List.{position_or_len, slice_split}
-use Rattle.keyman_tool.specs.ScriptLines.{is_blank, without_blanks, words}
+use Rattle.kmn_base.specs.Bytes.{is_blank}
+use Rattle.keyman_tool.specs.ScriptLines.{without_blanks, words}
 
 -- the first blank stands there, or the text ends there
 pub place_of_blank : (text : List ℕ) → unwrap_or (position is_blank text) (length text) ≡ position_or_len is_blank text

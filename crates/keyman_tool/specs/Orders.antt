@@ -6,7 +6,7 @@ use Rattle.rule_model.specs.Src.{src}
 use Rattle.rule_model.specs.declared.program.Program.{Program}
 use Rattle.rule_model.specs.declared.script.Entry.{Entry}
 use Rattle.rule_model.specs.declared.tables.Tables.{Tables}
-use Rattle.keyman_tool.specs.declared.forms.TheConstants.{INPUT_BYTES}
+use Rattle.keyman_tool.specs.declared.script_lines.TheConstants.{INPUT_BYTES}
 use Rattle.keyman_tool.specs.Command.{Request}
 use Rattle.keyman_tool.specs.Command.Request.{Compile, Test}
 use Rattle.keyman_tool.specs.Endings.{Ending, Job, compile_ending, test_ending, words_ending}

@@ -1,7 +1,8 @@
 -- Scripts whose lines are key presses: each line is one or more brackets, each with the words of one press.
-use Rattle.std.specs.Prelude.{ℕ, ◌+◌, Bool, ◌||◌, nat_eq, nat_lt, length, if◌then◌else◌, List, [], ◌∷◌, filter, Option, Some, None, option_map, option_and_then, bit_or, Result, Ok, Err}
+use Rattle.std.specs.Prelude.{ℕ, ◌+◌, Bool, nat_eq, nat_lt, length, if◌then◌else◌, List, [], ◌∷◌, filter, Option, Some, None, option_map, option_and_then, bit_or, Result, Ok, Err}
 use Rattle.std.specs.List.{list_any, slice_split}
 use Rattle.std.specs.Str.{byte}
+use Rattle.kmn_base.specs.Bytes.{is_blank}
 use Rattle.kmn_base.specs.declared.codes.Code.TheVariants.{N02}
 use Rattle.kmn_base.specs.declared.refusals.Refusal.{Refusal}
 use Rattle.kmn_base.specs.declared.keys.KeyPress.{KeyPress}
@@ -10,13 +11,9 @@ use Rattle.virtual_keys.specs.Fits.{left_control, left_alt, either_control, eith
 use Rattle.virtual_keys.specs.Keys.{key_code, shift_flag}
 use Rattle.rule_model.specs.declared.script.Entry.{Entry}
 use Rattle.rule_model.specs.declared.script.Entry.TheVariants.{Act, Expect}
-use Rattle.keyman_tool.specs.declared.forms.TheConstants.{INPUT_BYTES}
+use Rattle.keyman_tool.specs.declared.script_lines.TheConstants.{INPUT_BYTES}
 use Rattle.keyman_tool.specs.Stated.{and_later}
 use Rattle.keyman_tool.specs.TextLines.{text_lines}
-
--- a blank: a space or a tab
-abbrev pub is_blank : ℕ → Bool
-is_blank c = nat_eq c (byte " ") || nat_eq c 9
 
 -- the character that ends a bracket
 abbrev pub is_closing : ℕ → Bool

@@ -18,8 +18,6 @@ use Rattle.kmx_format.specs.TablesOf.{tables_of}
 use Rattle.kmx_format.specs.Writable.{IsFile, IsWritable}
 use Rattle.play_session.specs.Session.{is_key}
 use Rattle.kmn_compiler.specs.declared.compiling.Compiled.{Compiled}
-use Rattle.keyman_tool.specs.declared.forms.FormError.{FormError}
-use Rattle.keyman_tool.specs.declared.forms.FormError.TheVariants as form
 use Rattle.keyman_tool.specs.declared.preparing.Prepared.{Prepared}
 use Rattle.keyman_tool.specs.declared.preparing.Stop.{Stop}
 use Rattle.keyman_tool.specs.declared.preparing.Stop.TheVariants as stop
@@ -35,12 +33,7 @@ use Rattle.keyman_tool.specs.Run.{HasRead, HasBegunToRead, HasFailedToRead}
 use Rattle.keyman_tool.specs.Seen.{FolderView, SinkView, FolderState, seen_folder}
 use Rattle.keyman_tool.specs.Work.{Work, reads, comes_to}
 
--- why a run stops where a script isn't of its form
-abbrev pub form_stop : FormError → Stop
-form_stop (form.Refused refusal) = stop.Refused (reason.Line refusal)
-form_stop form.Memory = stop.Memory
-
--- why a run stops where a source was not compiled
+-- why a run stops where a source was not compiled, or a script not read
 abbrev pub compile_stop : CompileError → Stop
 compile_stop (compile.Refused refusal) = stop.Refused (reason.Line refusal)
 compile_stop (compile.TooLarge code size) = stop.Refused (reason.Size code size)

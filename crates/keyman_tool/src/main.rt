@@ -8,7 +8,6 @@
 #![tactic(auto)]
 
 mod command;
-mod forms;
 mod playing;
 mod preparing;
 mod printing;

@@ -1,10 +1,9 @@
 ghost use Rattle.std.specs.Prelude.{◌≡◌, IfOk};
 ghost use Rattle.keyman_tool.specs.Orders.{job_work, tables_work, script_work};
-ghost use Rattle.keyman_tool.specs.Steps.{Gives, IsCompiled, IsPressing, IsPrepared, tables_in, entries_in, prepared_job, form_stop, compile_stop, read_stop};
+ghost use Rattle.keyman_tool.specs.Steps.{Gives, IsCompiled, IsPressing, IsPrepared, tables_in, entries_in, prepared_job, compile_stop, read_stop};
 
-use crate::forms::{FormError, INPUT_BYTES};
 use crate::reason::Reason;
-use crate::script_lines::read_script;
+use crate::script_lines::{INPUT_BYTES, read_script};
 use kmn_base::limits::TEXT_BYTES;
 use kmn_base::{Code, CompileError, Refusal, Seq};
 use kmn_compiler::{Compiled, compile};
@@ -73,23 +72,13 @@ fn read_entries<F: Folder>(alloc: Global, name: &[u8], folder: &mut F) -> Result
     match folder.read(alloc, name, INPUT_BYTES) {
         Ok(script) => match read_script(alloc, script.as_slice()) {
             Ok(entries) => Ok(entries),
-            Err(error) => Err(form_stop(error)),
+            Err(error) => Err(compile_stop(error)),
         },
         Err(error) => Err(read_stop(error, Code::N02)),
     }
 }
 
-/// Why a run stops where the text of a script was not read.
-fn form_stop(error: FormError) -> Stop
-    ensures { result ≡ form_stop error }
-{
-    match error {
-        FormError::Refused(refusal) => Stop::Refused(Reason::Line(refusal)),
-        FormError::Memory => Stop::Memory,
-    }
-}
-
-/// Why a run stops where a source was not compiled.
+/// Why a run stops where a source was not compiled, or a script not read.
 fn compile_stop(error: CompileError) -> Stop
     ensures { result ≡ compile_stop error }
 {

@@ -2,7 +2,7 @@ ghost use Rattle.std.specs.Prelude.{◌≡◌, IsTrue};
 ghost use Rattle.kmn_outside.specs.Outside.{WriteCounts};
 ghost use Rattle.keyman_tool.specs.Printing.{Prints};
 
-use crate::text_lines::behind;
+use kmn_base::slices::behind;
 use kmn_outside::{Sink, WriteError};
 
 /// Prints a line as one piece. Where the sink takes a part of it, the rest follows.

@@ -1,14 +1,14 @@
 ghost use Rattle.std.specs.Prelude.{◌≡◌, ◌<◌, ◌≤◌, ◌∷◌, [], length, option_copied, option_map, MatchOption};
 ghost use Rattle.std.specs.List.{position, slice_split};
-ghost use Rattle.keyman_tool.specs.Forms.{Reads, Appends};
+ghost use Rattle.kmn_base.specs.Answers.{Answers};
+ghost use Rattle.keyman_tool.specs.Forms.{Appends};
 ghost use Rattle.keyman_tool.specs.TextLines.{text_lines};
 ghost use Rattle.keyman_tool.specs.WordsLeft.{words_left};
 ghost use Rattle.keyman_tool.specs.ScriptLines.{script_entries, lines_entries, line_entries, pieces_entries, bracket_entry, bracket_press, press_with, modifier_bit, held_bit, opened, is_closing, outside_script};
 
-use crate::forms::{FormError, INPUT_BYTES, append};
 use crate::script_words::{TextWords, without_blanks, words};
 use crate::text_lines::text_lines;
-use kmn_base::{Code, Event, KeyPress, Refusal, Seq};
+use kmn_base::{Code, CompileError, Event, KeyPress, Refusal, Seq};
 use rule_model::Entry;
 use std::alloc::Global;
 use virtual_keys::{key_named, modifier_named};
@@ -16,12 +16,15 @@ use virtual_keys::{key_named, modifier_named};
 #[cfg(test)]
 mod tests;
 
+/// The most bytes that a script may have.
+pub const INPUT_BYTES: usize = 65_536;
+
 /// The key presses of a script, each with the number of its line from 1. N02 comes at the first line that isn't one or
 /// more brackets of modifiers and a key, blank lines and comments among them, and at line 1 of a script that is longer
 /// than `INPUT_BYTES`. How a bracket is written follows the form of this program's scripts, which is our own choice; the
 /// names of keys are those of the Keyman language.
-pub fn read_script(alloc: Global, script: &[u8]) -> Result<Seq<Entry>, FormError>
-    ensures { Reads (script_entries script.now) result }
+pub fn read_script(alloc: Global, script: &[u8]) -> Result<Seq<Entry>, CompileError>
+    ensures { Answers (script_entries script.now) result }
 {
     if script.len() > INPUT_BYTES {
         return Err(outside_script(1));
@@ -31,9 +34,9 @@ pub fn read_script(alloc: Global, script: &[u8]) -> Result<Seq<Entry>, FormError
 
 /// The entries of all lines.
 #[tactic(auto, using(crate::proofs::FormLaws::line_steps, crate::proofs::FormLaws::refused_line))]
-fn read_lines(alloc: Global, script: &[u8]) -> Result<Seq<Entry>, FormError>
+fn read_lines(alloc: Global, script: &[u8]) -> Result<Seq<Entry>, CompileError>
     requires { length script.now ≤ INPUT_BYTES }
-    ensures { Reads (lines_entries 1 (text_lines script.now)) result }
+    ensures { Answers (lines_entries 1 (text_lines script.now)) result }
 {
     let mut entries = Seq::new(alloc);
     let mut number = 1;
@@ -48,7 +51,7 @@ fn read_lines(alloc: Global, script: &[u8]) -> Result<Seq<Entry>, FormError>
 }
 
 /// Appends the entries of a line.
-fn add_line(number: u32, line: &[u8], entries: &mut Seq<Entry>) -> Result<(), FormError>
+fn add_line(number: u32, line: &[u8], entries: &mut Seq<Entry>) -> Result<(), CompileError>
     ensures { Appends (line_entries number line.now) (outside_script number) entries.old entries.new result }
 {
     if line.contains(&b']') {
@@ -59,7 +62,7 @@ fn add_line(number: u32, line: &[u8], entries: &mut Seq<Entry>) -> Result<(), Fo
 }
 
 /// Appends the entries of the brackets of a line.
-fn add_brackets(number: u32, line: &[u8], entries: &mut Seq<Entry>) -> Result<(), FormError>
+fn add_brackets(number: u32, line: &[u8], entries: &mut Seq<Entry>) -> Result<(), CompileError>
     ensures { Appends (pieces_entries number (slice_split is_closing line.now)) (outside_script number) entries.old entries.new result }
 {
     let mut rest = line;
@@ -97,17 +100,14 @@ fn first_closing(text: &[u8]) -> Option<usize>
 }
 
 /// Appends the entry of a bracket.
-fn add_bracket(number: u32, piece: &[u8], entries: &mut Seq<Entry>) -> Result<(), FormError>
+fn add_bracket(number: u32, piece: &[u8], entries: &mut Seq<Entry>) -> Result<(), CompileError>
     ensures { Appends (option_map (λ entry. entry ∷ []) (bracket_entry number piece.now)) (outside_script number) entries.old entries.new result }
 {
     match bracket_press(piece) {
-        Some(press) => Ok(append(
-            entries,
-            Entry::Act {
-                line: number,
-                event: Event::Key(press),
-            },
-        )?),
+        Some(press) => Ok(entries.add(Entry::Act {
+            line: number,
+            event: Event::Key(press),
+        })?),
         None => Err(outside_script(number)),
     }
 }
@@ -164,10 +164,10 @@ fn held_bit(flag: u16) -> Option<u16>
 }
 
 /// The refusal of a script at its first line outside the form.
-fn outside_script(line: u32) -> FormError
-    ensures { result ≡ FormError.Refused (outside_script line) }
+fn outside_script(line: u32) -> CompileError
+    ensures { result ≡ CompileError.Refused (outside_script line) }
 {
-    FormError::Refused(Refusal {
+    CompileError::Refused(Refusal {
         line,
         code: Code::N02,
     })

@@ -1,10 +1,12 @@
 ghost use Rattle.std.specs.Prelude.{◌≡◌, ◌≤◌, length};
 ghost use Rattle.std.specs.List.{position, position_or_len};
 ghost use Rattle.std.specs.Iterator.{YieldsFirstBy, item_count};
-ghost use Rattle.keyman_tool.specs.ScriptLines.{is_blank, without_blanks, words};
+ghost use Rattle.kmn_base.specs.Bytes.{is_blank};
+ghost use Rattle.keyman_tool.specs.ScriptLines.{without_blanks, words};
 ghost use Rattle.keyman_tool.specs.WordsLeft.{words_left};
 
-use crate::text_lines::behind;
+use kmn_base::bytes::is_blank;
+use kmn_base::slices::behind;
 
 /// The words of a text.
 #[derive(Clone, Copy)]
@@ -17,13 +19,6 @@ pub fn words(text: &[u8]) -> TextWords<'_>
     ensures { words_left result ≡ words text.now }
 {
     TextWords { rest: text }
-}
-
-/// Whether a byte is a space or a tab.
-fn is_blank(byte: u8) -> bool
-    ensures { result ≡ is_blank byte }
-{
-    byte == b' ' || byte == b'\t'
 }
 
 /// The text from its first byte that is no blank.

@@ -1,8 +1,10 @@
-ghost use Rattle.std.specs.Prelude.{◌≡◌, ◌+◌, ◌<◌, ◌≤◌, ◌∷◌, nat_eq, length, position, slice_index, take, drop};
+ghost use Rattle.std.specs.Prelude.{◌≡◌, ◌+◌, ◌<◌, ◌≤◌, ◌∷◌, nat_eq, length, position};
 ghost use Rattle.std.specs.List.{position_or_len};
 ghost use Rattle.std.specs.Iterator.{YieldsFirstBy, item_count};
 ghost use Rattle.keyman_tool.specs.TextLines.{text_lines};
 ghost use Rattle.keyman_tool.specs.LinesLeft.{lines_left};
+
+use kmn_base::slices::behind;
 
 /// The lines of a text.
 #[derive(Clone, Copy)]
@@ -31,20 +33,6 @@ fn line_length(text: &[u8]) -> usize
     ensures is { result ≡ position_or_len (λ byte. nat_eq byte 10) text.now }
 {
     first_end(text).unwrap_or(text.len())
-}
-
-/// The bytes from a place on, none past the end.
-pub fn behind(text: &[u8], from: usize) -> &[u8]
-    ensures { result.now ≡ drop from text.now }
-{
-    text.get(from..).unwrap_or(&[])
-}
-
-/// The byte at a place, 0 past the end.
-pub fn byte_at(text: &[u8], place: usize) -> u8
-    ensures { result ≡ slice_index text.now place }
-{
-    text.get(place).copied().unwrap_or(0)
 }
 
 impl<'a> Iterator for TextLines<'a> {

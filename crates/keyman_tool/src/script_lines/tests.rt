@@ -1,7 +1,6 @@
 //! Scripts, `|` for their line ends, and the entries that they give: line, code and modifiers of each press.
 use super::read_script;
-use crate::forms::FormError;
-use kmn_base::{Event, Seq};
+use kmn_base::{CompileError, Event, Seq};
 use rule_model::Entry;
 use std::alloc::Global;
 use std::test::Fail;
@@ -68,14 +67,14 @@ fn shown_presses(alloc: Global, entries: &[Entry]) -> Result<String, Fail> {
 }
 
 /// What a script gives, as a row has it.
-fn shown(alloc: Global, read: Result<Seq<Entry>, FormError>) -> Result<String, Fail> {
+fn shown(alloc: Global, read: Result<Seq<Entry>, CompileError>) -> Result<String, Fail> {
     match read {
         Ok(entries) => shown_presses(alloc, entries.as_slice()),
-        Err(FormError::Refused(refusal)) => Ok(format!(in alloc;
+        Err(CompileError::Refused(refusal)) => Ok(format!(in alloc;
             "{:?} {}",
             refusal.code, refusal.line
         )?),
-        Err(FormError::Memory) => Ok(format!(in alloc; "memory")?),
+        Err(_) => Ok(format!(in alloc; "memory")?),
     }
 }
 
