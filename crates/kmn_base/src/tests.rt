@@ -1,81 +1,45 @@
-//! The public calls with ample memory, and what is printed.
+//! What errors print, gathered in a list, and look-ups.
 
-use super::*;
-use std::alloc::AllocError;
+use crate::bytes::hex_digit;
+use crate::names::named_in;
+use crate::slices::{before, behind};
+use crate::{Code, CompileError, Refusal, Seq, Text};
 use std::test::Fail;
 
-#[test]
-fn a_list_grows_and_shrinks(rt: HostRuntime) -> Result<(), Fail> {
-    let mut list: Seq<u8> = Seq::new(rt.alloc());
-    assert!(rt; list.is_empty());
-    list.push(b'a')?;
-    list.extend_from_slice(b"bcd")?;
-    assert_eq!(rt; list.pop(), Some(b'd'));
-    assert_eq!(rt; list.len(), 3);
-    assert_eq!(rt; list.as_slice(), b"abc".as_slice());
-    assert!(rt; !list.is_empty());
-    Ok(())
+/// The refusal of a line.
+fn refused(line: u32, code: Code) -> CompileError {
+    CompileError::Refused(Refusal { line, code })
 }
 
 #[test]
-fn a_list_is_written_and_copied(rt: HostRuntime) -> Result<(), Fail> {
-    let mut list = Seq::from_slice(rt.alloc(), b"abc")?;
-    assert_eq!(rt; list.len(), 3);
-    list.set(1, b'x');
-    let before = list.copy(rt.alloc())?;
-    list.as_mut_slice().reverse();
-    assert_eq!(rt; list.as_slice(), b"cxa".as_slice());
-    assert_eq!(rt; before.as_slice(), b"axc".as_slice());
-    let units = Seq::from_vec([3u16, 4].to_vec(rt.alloc())?);
-    assert_eq!(rt; units.as_slice(), [3u16, 4].as_slice());
-    Ok(())
-}
-
-#[test]
-fn codes_print_their_names(rt: HostRuntime) -> Result<(), Fail> {
-    let cases = [
-        (Code::L01, "L01"),
-        (Code::S12, "S12"),
-        (Code::C24, "C24"),
-        (Code::V16, "V16"),
-        (Code::P08, "P08"),
-        (Code::X3, "X3"),
-        (Code::T7, "T7"),
-        (Code::G1, "G1"),
-        (Code::E2, "E2"),
-    ];
-    for (code, name) in cases {
-        assert_eq!(rt; code.text(), name.as_bytes());
-        let printed = format!(in rt.alloc(); "{code}")?;
-        assert_eq!(rt; printed.as_str(), name);
-    }
-    Ok(())
-}
-
-#[test]
-fn refusals_print_as_lines(rt: HostRuntime) -> Result<(), Fail> {
-    let refused = CompileError::Refused(Refusal {
-        line: 3,
-        code: Code::L04,
-    });
-    let too_large = CompileError::TooLarge {
-        code: Code::C23,
-        size: 67_108_865,
-    };
-    let cases = [
-        (refused, "refused L04 line 3"),
-        (too_large, "refused C23 size 67108865"),
+fn errors_print_as_lines(rt: HostRuntime) -> Result<(), Fail> {
+    let size = 67_108_865;
+    let rows = [
+        (refused(3, Code::L04), "refused L04 line 3"),
+        (refused(12, Code::S10), "refused S10 line 12"),
+        (
+            CompileError::TooLarge {
+                code: Code::C23,
+                size,
+            },
+            "refused C23 size 67108865",
+        ),
         (CompileError::Memory, "out of memory"),
     ];
-    for (error, line) in cases {
+    let mut lines: Text = Seq::new(rt.alloc());
+    for (error, line) in rows {
         let printed = format!(in rt.alloc(); "{error}")?;
         assert_eq!(rt; printed.as_str(), line);
+        lines.extend_from_slice(printed.as_str().as_bytes())?;
+        lines.add(b'\n')?;
     }
+    assert_eq!(rt; lines.len(), 79);
+    assert_eq!(rt; before(lines.as_slice(), 7), b"refused".as_slice());
+    assert_eq!(rt; behind(lines.as_slice(), 72), b"memory\n".as_slice());
+    assert_eq!(rt;
+        named_in(&[("Shift", 16), ("Caps", 256)], b"CAPS"),
+        Some(256)
+    );
+    assert_eq!(rt; hex_digit(b'f'), Some(15));
     Ok(())
-}
-
-#[test]
-fn small_values_convert(rt: HostRuntime) {
-    assert_eq!(rt; Item::default(), Item::Char('\0'));
-    assert_eq!(rt; Memory::from(AllocError), Memory);
 }
