@@ -8,4 +8,4 @@
 
 mod law;
 
-pub use law::compiling_keeps_meaning;
+pub use law::{compiling_keeps_meaning, compiling_keeps_transcripts, program_has_its_tables};
