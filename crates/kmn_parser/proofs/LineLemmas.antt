@@ -16,6 +16,7 @@ use Rattle.rule_model.specs.declared.program.RuleDef.{RuleDef}
 use Rattle.rule_model.specs.declared.program.GroupDef.{GroupDef}
 use Rattle.rule_model.specs.declared.program.Program.{Program}
 use Rattle.kmn_parser.specs.declared.reading.Reading.{Reading}
+use Rattle.kmn_parser.specs.declared.statement.LastGroup.{LastGroup}
 use Rattle.kmn_parser.specs.declared.statement.Statement.{Statement}
 use Rattle.kmn_parser.specs.declared.statement.Sign.{Sign}
 use Rattle.kmn_items.specs.TokenTexts.{with_texts}
@@ -33,7 +34,7 @@ pub by_recursion : {X : Type 0} (P : X → Type 0) (xs : List X) → All P xs �
 by_recursion P [] all = tt
 by_recursion P (x ∷ xs) all = (All-head P x xs all, by_recursion P xs (All-tail P x xs all))
 
-read_one : (group : Option Bool) (program : Program) (refused : Option Refusal) (source : List ℕ) (line : Logical) (lines : List Logical)
+read_one : (group : LastGroup) (program : Program) (refused : Option Refusal) (source : List ℕ) (line : Logical) (lines : List Logical)
     → let reading : Reading = record { program = program; group = group; refused = refused } in
     read_behind source (reading_after source reading line) lines ≡ read_behind source reading (line ∷ lines)
 read_one group program None source line lines =

@@ -17,11 +17,13 @@ use Rattle.rule_model.specs.declared.program.RuleDef.{RuleDef}
 use Rattle.rule_model.specs.declared.program.GroupDef.{GroupDef}
 use Rattle.rule_model.specs.declared.program.Program.{Program}
 use Rattle.kmn_items.specs.declared.syntax.Fault.{Fault}
+use Rattle.kmn_parser.specs.declared.statement.LastGroup.{LastGroup}
+use Rattle.kmn_parser.specs.declared.statement.LastGroup.TheVariants.{Missing}
 use Rattle.kmn_parser.specs.declared.statement.Statement.{Statement}
 use Rattle.kmn_parser.specs.declared.statement.Statement.TheVariants as statement
 use Rattle.kmn_items.specs.TokenTexts.{with_texts}
 use Rattle.kmn_parser.specs.Line.{read_line}
-use Rattle.kmn_parser.specs.Source.{at_line, line_statement, group_after, with_rule, with_statement, no_program, read_lines, read_text, parsed}
+use Rattle.kmn_parser.specs.Source.{at_line, line_statement, last_group, group_after, with_rule, with_statement, no_program, read_lines, read_text, parsed}
 use Rattle.kmn_parser.specs.ProgramLaws.{IsLine, IsReadStore, IsReadBegin, IsReadRule, IsReadGroup, IsReadProgram, ProgramsAreRead}
 use Rattle.kmn_parser.proofs.SoundTokens.{HasSoundTokens, lines-sound}
 use Rattle.kmn_parser.proofs.ReadStatements.{IsReadStatement, StatementRead, line-read}
@@ -47,38 +49,41 @@ lines-numbered source short = λ k d l.
     let few = few-ends line.from source in
     record { first = omega (arith, number); last = omega (arith, number, few, short) }
 
--- what is known of the last group is whether it uses keys
-abbrev Knows : Option Bool → List GroupDef → Type 0
-Knows group [] = group ≡ None
-Knows group (last ∷ []) = group ≡ Some last.using_keys
+-- the last of the groups is the one that is known
+abbrev Knows : LastGroup → List GroupDef → Type 0
+Knows group [] = group ≡ Missing
+Knows group (last ∷ []) = group ≡ last_group last.using_keys
 Knows group (first ∷ next ∷ groups) = Knows group (next ∷ groups)
 
 -- a program that is read so far
-record IsReadSoFar (group : Option Bool) (program : Program) : Type 0 where
+record IsReadSoFar (group : LastGroup) (program : Program) : Type 0 where
   read : IsReadProgram program
   knows : Knows group program.groups
 
-knows-opened : (groups : List GroupDef) (group : GroupDef) → Knows (Some group.using_keys) (groups ++ group ∷ [])
+knows-opened : (groups : List GroupDef) (group : GroupDef) → Knows (last_group group.using_keys) (groups ++ group ∷ [])
 knows-opened [] group = refl
 knows-opened (first ∷ []) group = refl
 knows-opened (first ∷ next ∷ groups) group = knows-opened (next ∷ groups) group
 
-same-some : (a b : Bool) → Some a ≡ Some b → a ≡ b
-same-some a b e = cc
+same-group : (a b : Bool) → last_group a ≡ last_group b → a ≡ b
+same-group true true e = refl
+same-group true false e = cc
+same-group false true e = cc
+same-group false false e = refl
 
 -- what is known of the groups behind another is known of all
-knows-behind : (known : Option Bool) (group next : GroupDef) (groups : List GroupDef) (rule : RuleDef)
+knows-behind : (known : LastGroup) (group next : GroupDef) (groups : List GroupDef) (rule : RuleDef)
     → Knows known (with_rule (next ∷ groups) rule) → Knows known (group ∷ with_rule (next ∷ groups) rule)
 knows-behind known group next [] rule knows = knows
 knows-behind known group next (more ∷ groups) rule knows = knows
 
 -- a rule joins the last group, which uses keys as the rule wants it
-rule-joins : (using_keys : Bool) (groups : List GroupDef) (rule : RuleDef) → Knows (Some using_keys) groups → IsReadRule using_keys rule
-    → All IsReadGroup groups → All IsReadGroup (with_rule groups rule) × Knows (Some using_keys) (with_rule groups rule)
+rule-joins : (using_keys : Bool) (groups : List GroupDef) (rule : RuleDef) → Knows (last_group using_keys) groups → IsReadRule using_keys rule
+    → All IsReadGroup groups → All IsReadGroup (with_rule groups rule) × Knows (last_group using_keys) (with_rule groups rule)
 rule-joins using_keys [] rule knows read all = (all, knows)
 rule-joins using_keys (group ∷ []) rule knows read all =
     let here = All-head IsReadGroup group [] all in
-    let same = same-some using_keys group.using_keys knows in
+    let same = same-group using_keys group.using_keys knows in
     let joined : IsReadRule group.using_keys rule = subst (λ (keys : Bool). IsReadRule keys rule) same read in (
       All-cons IsReadGroup (record group { rules = group.rules ++ rule ∷ [] }) []
           (record { line = here.line; name = here.name; rules = All-push (IsReadRule group.using_keys) group.rules rule here.rules joined }) (All-nil IsReadGroup),
@@ -87,11 +92,11 @@ rule-joins using_keys (group ∷ []) rule knows read all =
 rule-joins using_keys (group ∷ next ∷ groups) rule knows read all =
     let rest = rule-joins using_keys (next ∷ groups) rule knows read (All-tail IsReadGroup group (next ∷ groups) all) in (
       All-cons IsReadGroup group (with_rule (next ∷ groups) rule) (All-head IsReadGroup group (next ∷ groups) all) rest.0,
-      knows-behind (Some using_keys) group next groups rule rest.1,
+      knows-behind (last_group using_keys) group next groups rule rest.1,
     )
 
 -- a program and one statement more
-one-more : (group : Option Bool) (program : Program) (stated : Statement) → IsReadSoFar group program → IsReadStatement group stated
+one-more : (group : LastGroup) (program : Program) (stated : Statement) → IsReadSoFar group program → IsReadStatement group stated
     → IsReadSoFar (group_after group stated) (with_statement program stated)
 one-more group program statement.Nothing far stated = far
 one-more group program (statement.Store store) far stated = record {
@@ -112,10 +117,10 @@ one-more group program (statement.Group opened) far (placed, named, none) = reco
   knows = knows-opened program.groups opened;
 }
 one-more group program (statement.Rule rule) far (using_keys, known, read) =
-    let joined = rule-joins using_keys program.groups rule (subst (λ (g : Option Bool). Knows g program.groups) known far.knows) read far.read.groups in
+    let joined = rule-joins using_keys program.groups rule (subst (λ (g : LastGroup). Knows g program.groups) known far.knows) read far.read.groups in
     record {
       read = record { stores = far.read.stores; begins = far.read.begins; groups = joined.0 };
-      knows = subst (λ (g : Option Bool). Knows g (with_rule program.groups rule)) (sym known) joined.1;
+      knows = subst (λ (g : LastGroup). Knows g (with_rule program.groups rule)) (sym known) joined.1;
     }
 
 -- what is read, if anything, is read
@@ -123,15 +128,15 @@ abbrev WholeRead : Result Program Refusal → Type 0
 WholeRead (Ok program) = IsReadProgram program
 WholeRead (Err found) = Unit {0}
 
-abbrev LineRead : Option Bool → Result Statement Refusal → Type 0
+abbrev LineRead : LastGroup → Result Statement Refusal → Type 0
 LineRead group (Ok stated) = IsReadStatement group stated
 LineRead group (Err found) = Unit {0}
 
-at_line-read : (group : Option Bool) (line : ℕ) (read : Result Statement Fault) → StatementRead group read → LineRead group (at_line line read)
+at_line-read : (group : LastGroup) (line : ℕ) (read : Result Statement Fault) → StatementRead group read → LineRead group (at_line line read)
 at_line-read group line (Ok stated) read = read
 at_line-read group line (Err found) read = tt
 
-lines-read : (source : List ℕ) (group : Option Bool) (program : Program) (lines : List Logical) → All HasLine lines → All (HasSoundTokens source) lines
+lines-read : (source : List ℕ) (group : LastGroup) (program : Program) (lines : List Logical) → All HasLine lines → All (HasSoundTokens source) lines
     → IsReadSoFar group program → WholeRead (read_lines source group program lines)
 lines-read source group program [] numbered sound far = far.read
 lines-read source group program (line ∷ lines) numbered sound far =
@@ -148,7 +153,7 @@ lines-read source group program (line ∷ lines) numbered sound far =
       | Err found ↦ λ stands. tt
     ]) (at_line-read group line.first_line (read_line group line.first_line tokens) here)
 
-nothing-read : IsReadSoFar None no_program
+nothing-read : IsReadSoFar Missing no_program
 nothing-read = record {
   read = record { stores = All-nil IsReadStore; begins = All-nil IsReadBegin; groups = All-nil IsReadGroup };
   knows = refl;
@@ -157,10 +162,10 @@ nothing-read = record {
 text-read : (source : List ℕ) → length source ≤ TEXT_BYTES → IsUtf8 source → WholeRead (read_text source)
 text-read source short utf8 =
     (elim (tokens_refusal source (logicals source)) as (λ (found : Option Refusal). tokens_refusal source (logicals source) ≡ found
-    → WholeRead (elim found [ Some first ↦ Err first | None ↦ read_lines source None no_program (logicals source) ])) [
+    → WholeRead (elim found [ Some first ↦ Err first | None ↦ read_lines source Missing no_program (logicals source) ])) [
       | Some first ↦ λ e. tt
       | None ↦ λ e.
-          lines-read source None no_program (logicals source) (lines-numbered source short)
+          lines-read source Missing no_program (logicals source) (lines-numbered source short)
           (lines-sound source (logicals source) (tokens_are_text source utf8) e) nothing-read
     ]) refl
 

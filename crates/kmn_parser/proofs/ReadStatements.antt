@@ -17,6 +17,8 @@ use Rattle.kmn_items.specs.declared.syntax.Slot.TheVariants as slot
 use Rattle.kmn_items.specs.declared.syntax.Where.{Where}
 use Rattle.kmn_items.specs.declared.syntax.Where.TheVariants as section
 use Rattle.kmn_parser.specs.declared.statement.Sign.TheVariants as sign
+use Rattle.kmn_parser.specs.declared.statement.LastGroup.{LastGroup}
+use Rattle.kmn_parser.specs.declared.statement.LastGroup.TheVariants.{Missing, UsingKeys, WithoutKeys}
 use Rattle.kmn_parser.specs.declared.statement.Statement.{Statement}
 use Rattle.kmn_parser.specs.declared.statement.Statement.TheVariants as statement
 use Rattle.kmn_base.specs.Answers.{and_then}
@@ -24,7 +26,8 @@ use Rattle.kmn_items.specs.TokenTexts.{LineToken, fault, text_at, begins_open, i
 use Rattle.kmn_items.specs.Words.{character_count, is_system_name, bare_name, is_name}
 use Rattle.kmn_items.specs.Slots.{unless, broken}
 use Rattle.kmn_items.specs.Item.{unseen, read_items, read_key}
-use Rattle.kmn_parser.specs.Line.{place_of, begins_word, is_none_left, checked, first_of, behind_close, system_stores, store_system, store_form, store_fault, store_def, read_store, begin_head, begin_fault, read_begin, group_head, group_fault, read_group, no_group, no_output, match_fault, read_match, begins_rule, rule_head, rule_key, rule_body, earliest, rule_at, read_rule, read_tokens, read_line}
+use Rattle.kmn_parser.specs.Line.{place_of, begins_word, is_none_left, checked, first_of, behind_close, system_stores, store_system, store_form, store_fault, store_def, read_store, begin_head, begin_fault, read_begin, group_head, group_fault, read_group, no_group, no_output, match_fault, read_match, begins_rule, uses_keys, rule_head, rule_key, rule_body, earliest, rule_at, read_rule, read_tokens, read_line}
+use Rattle.kmn_parser.specs.Source.{last_group}
 use Rattle.kmn_parser.specs.ProgramLaws.{IsName, IsReadItem, StandsAsKey, IsLine, IsReadStore, IsReadBegin, IsReadRule}
 use Rattle.kmn_parser.proofs.CleanTexts.{clean-characters, counted-characters}
 use Rattle.kmn_parser.proofs.SoundTokens.{either-none, IsSoundToken}
@@ -70,22 +73,22 @@ section-read : (place : Where) (items : List SrcItem) → All (IsReadIn place) i
 section-read place items read = All-weaker (IsReadIn place) IsReadItem (λ item in_place. in_place.itself) items read
 
 -- what is read of a line with a number, behind a group
-abbrev pub IsReadStatement : Option Bool → Statement → Type 0
+abbrev pub IsReadStatement : LastGroup → Statement → Type 0
 IsReadStatement group statement.Nothing = Unit {0}
 IsReadStatement group (statement.Store store) = IsReadStore store
 IsReadStatement group (statement.Begin start) = IsReadBegin start
 IsReadStatement group (statement.Group opened) = IsLine opened.line × IsName opened.name × (opened.rules ≡ [])
-IsReadStatement group (statement.Rule rule) = (using_keys : Bool) × (group ≡ Some using_keys) × IsReadRule using_keys rule
+IsReadStatement group (statement.Rule rule) = (using_keys : Bool) × (group ≡ last_group using_keys) × IsReadRule using_keys rule
 
-abbrev pub StatementRead : Option Bool → Result Statement Fault → Type 0
+abbrev pub StatementRead : LastGroup → Result Statement Fault → Type 0
 StatementRead group (Ok stated) = IsReadStatement group stated
 StatementRead group (Err found) = Unit {0}
 
-checked-read : (group : Option Bool) (found : Option Fault) (read : Result Statement Fault) → (found ≡ None → StatementRead group read) → StatementRead group (checked found read)
+checked-read : (group : LastGroup) (found : Option Fault) (read : Result Statement Fault) → (found ≡ None → StatementRead group read) → StatementRead group (checked found read)
 checked-read group None read whole = whole refl
 checked-read group (Some found) read whole = tt
 
-then-read : (group : Option Bool) (place : Where) (items : Result (List SrcItem) Fault) (next : List SrcItem → Result Statement Fault) → AllRead place items
+then-read : (group : LastGroup) (place : Where) (items : Result (List SrcItem) Fault) (next : List SrcItem → Result Statement Fault) → AllRead place items
     → ((xs : List SrcItem) → All IsReadItem xs → StatementRead group (next xs)) → StatementRead group (and_then items next)
 then-read group place (Ok items) next read more = more items (section-read place items read)
 then-read group place (Err found) next read more = tt
@@ -170,7 +173,7 @@ store-of-form line last tokens items placed sound whole read =
     (subst (λ (text : List ℕ). is_name (bare_name text) ≡ true) (text_at-drop 2 tokens) (form-store last 2 [] (drop 2 tokens) first.0))
     (known-then (is_none_left (drop 3 tokens)) (is_some (store_system name)) either (goes-on last 3 slot.Close (drop 3 tokens) second.1))
 
-store-line : (group : Option Bool) (line last : ℕ) (tokens : List LineToken) → IsLine line → All IsSoundToken tokens → StatementRead group (read_store line last tokens)
+store-line : (group : LastGroup) (line last : ℕ) (tokens : List LineToken) → IsLine line → All IsSoundToken tokens → StatementRead group (read_store line last tokens)
 unfolding read_store store_fault
 store-line group line last tokens placed sound =
     checked-read group (store_fault last tokens) _
@@ -179,7 +182,7 @@ store-line group line last tokens placed sound =
     (items-read section.Store unseen last 0 4 (drop 4 tokens) (All-drop IsSoundToken 4 tokens sound))
     (λ items read. store-of-form line last tokens items placed sound (first-none (unless (begins_open (drop 1 tokens)) code.S01) (store_form last tokens) whole).1 read))
 
-begin-line : (group : Option Bool) (line last : ℕ) (tokens : List LineToken) → IsLine line → All IsSoundToken tokens → StatementRead group (read_begin line last tokens)
+begin-line : (group : LastGroup) (line last : ℕ) (tokens : List LineToken) → IsLine line → All IsSoundToken tokens → StatementRead group (read_begin line last tokens)
 unfolding read_begin begin_fault
 begin-line group line last tokens placed sound =
     checked-read group (begin_fault last tokens) _
@@ -187,7 +190,7 @@ begin-line group line last tokens placed sound =
     let form = (first-none (begin_head (place_of sign.Arrow tokens) tokens) (broken last 5 (slot.Name ∷ slot.Close ∷ []) (drop 5 tokens)) whole).1 in
     record { line = placed; group = named-at last 5 5 (slot.Close ∷ []) tokens sound form })
 
-group-line : (group : Option Bool) (line last : ℕ) (tokens : List LineToken) → IsLine line → All IsSoundToken tokens → StatementRead group (read_group line last tokens)
+group-line : (group : LastGroup) (line last : ℕ) (tokens : List LineToken) → IsLine line → All IsSoundToken tokens → StatementRead group (read_group line last tokens)
 unfolding read_group group_fault
 group-line group line last tokens placed sound =
     checked-read group (group_fault last tokens) _
@@ -196,9 +199,10 @@ group-line group line last tokens placed sound =
     (placed, named-at last 2 2 (slot.Close ∷ []) tokens sound form, refl))
 
 -- a group that stands before a line
-some-group : (group : Option Bool) → no_group group ≡ None → (using_keys : Bool) × (group ≡ Some using_keys)
-some-group None e = cc
-some-group (Some using_keys) e = (using_keys, refl)
+some-group : (group : LastGroup) → no_group group ≡ None → group ≡ last_group (uses_keys group)
+some-group Missing e = cc
+some-group UsingKeys e = refl
+some-group WithoutKeys e = refl
 
 bare-rule : (using_keys : Bool) (line : ℕ) (kind : RuleKind) (output : List SrcItem) → IsLine line → kind ≢ Plain → All IsReadItem output
     → IsReadRule using_keys (record { line = line; kind = kind; context = []; key = None; output = output })
@@ -211,7 +215,7 @@ bare-rule using_keys line kind output placed other read = record {
   bare = λ e. (refl, refl);
 }
 
-match-line : (kind : RuleKind) (group : Option Bool) (line last : ℕ) (tokens : List LineToken) → kind ≢ Plain → IsLine line → All IsSoundToken tokens
+match-line : (kind : RuleKind) (group : LastGroup) (line last : ℕ) (tokens : List LineToken) → kind ≢ Plain → IsLine line → All IsSoundToken tokens
     → StatementRead group (read_match kind group line last tokens)
 unfolding read_match match_fault
 match-line kind group line last tokens other placed sound =
@@ -221,7 +225,7 @@ match-line kind group line last tokens other placed sound =
     let opened = some-group group (either-none (no_group group) (no_output (place_of sign.Arrow tokens) tokens) head).0 in
     then-read group section.Output (read_items section.Output unseen last 0 2 (drop 2 tokens)) _
     (items-read section.Output unseen last 0 2 (drop 2 tokens) (All-drop IsSoundToken 2 tokens sound))
-    (λ output read. (opened.0, opened.1, bare-rule opened.0 line kind output placed other read)))
+    (λ output read. (uses_keys group, opened, bare-rule (uses_keys group) line kind output placed other read)))
 
 -- the key of a rule, which stands there exactly behind a +, and only in a group with keys
 abbrev RuleKeyRead : Bool → Bool → Result (Option SrcItem) Fault → Type 0
@@ -265,15 +269,15 @@ body-of using_keys plus line (Ok context) (Ok key) (Ok output) c k o = record {
   keys = k.2;
 }
 
-body-read : (using_keys : Bool) (line last arrow plus : ℕ) (tokens : List LineToken) → All IsSoundToken tokens
-    → BodyRead using_keys (nat_lt plus arrow) line (rule_body (Some using_keys) line last arrow plus tokens)
+body-read : (group : LastGroup) (line last arrow plus : ℕ) (tokens : List LineToken) → All IsSoundToken tokens
+    → BodyRead (uses_keys group) (nat_lt plus arrow) line (rule_body group line last arrow plus tokens)
 unfolding rule_body rule_key
-body-read using_keys line last arrow plus tokens sound =
+body-read group line last arrow plus tokens sound =
     let key_tokens = drop (plus + 1) (take arrow tokens) in
     let read = one_key-read last (plus + 1) key_tokens (All-drop IsSoundToken (plus + 1) (take arrow tokens) (All-take IsSoundToken arrow tokens sound)) in
-    body-of using_keys (nat_lt plus arrow) line _ (rule_key (Some using_keys) last arrow plus tokens) _
+    body-of (uses_keys group) (nat_lt plus arrow) line _ (rule_key group last arrow plus tokens) _
     (items-read section.Context unseen last 0 0 (take plus tokens) (All-take IsSoundToken plus tokens sound))
-    (key-if using_keys (nat_lt plus arrow) (read_key last (plus + 1) key_tokens) (fault plus code.S07) read)
+    (key-if (uses_keys group) (nat_lt plus arrow) (read_key last (plus + 1) key_tokens) (fault plus code.S07) read)
     (items-read section.Output unseen last 0 (arrow + 1) (drop (arrow + 1) tokens) (All-drop IsSoundToken (arrow + 1) tokens sound))
 
 -- a key exactly where the group uses keys
@@ -292,38 +296,38 @@ rule-of using_keys plus line rule placed needed read = record {
   bare = λ other. absurd (other read.plain);
 }
 
-earliest-read : (using_keys plus : Bool) (line : ℕ) (head : Option Code) (body : Result RuleDef Fault) → IsLine line → (head ≡ None → (not using_keys || plus) ≡ true)
-    → BodyRead using_keys plus line body → StatementRead (Some using_keys) (earliest head body)
-earliest-read using_keys plus line None (Ok rule) placed needed read = (using_keys, refl, rule-of using_keys plus line rule placed (needed refl) read)
-earliest-read using_keys plus line None (Err found) placed needed read = tt
-earliest-read using_keys plus line (Some head) (Ok rule) placed needed read = tt
-earliest-read using_keys plus line (Some head) (Err found) placed needed read = tt
+-- where no code stands at the first token, a group stands before, and a rule of one that uses keys has a key
+abbrev IsReadHead : LastGroup → Bool → Type 0
+IsReadHead group plus = (group ≡ last_group (uses_keys group)) × ((not (uses_keys group) || plus) ≡ true)
 
-earliest-refused : (first : Option Code) (head : Code) (body : Result RuleDef Fault) → StatementRead None (earliest (or_else first (Some head)) body)
-earliest-refused None head (Ok rule) = tt
-earliest-refused None head (Err found) = tt
-earliest-refused (Some c) head (Ok rule) = tt
-earliest-refused (Some c) head (Err found) = tt
+earliest-read : (group : LastGroup) (plus : Bool) (line : ℕ) (head : Option Code) (body : Result RuleDef Fault) → IsLine line → (head ≡ None → IsReadHead group plus)
+    → BodyRead (uses_keys group) plus line body → StatementRead group (earliest head body)
+earliest-read group plus line None (Ok rule) placed opened read =
+    let both = opened refl in (uses_keys group, both.0, rule-of (uses_keys group) plus line rule placed both.1 read)
+earliest-read group plus line None (Err found) placed opened read = tt
+earliest-read group plus line (Some head) (Ok rule) placed opened read = tt
+earliest-read group plus line (Some head) (Err found) placed opened read = tt
 
-rule-line : (group : Option Bool) (line last arrow plus : ℕ) (tokens : List LineToken) → IsLine line → All IsSoundToken tokens
-    → StatementRead group (rule_at group line last arrow plus tokens)
+head-read : (group : LastGroup) (arrow plus : ℕ) (tokens : List LineToken) → rule_head group arrow plus tokens ≡ None → IsReadHead group (nat_lt plus arrow)
 unfolding rule_head
-rule-line None line last arrow plus tokens placed sound =
-    earliest-refused (unless (nat_lt arrow (length tokens) || begins_rule tokens) code.S01) code.S03 (rule_body None line last arrow plus tokens)
-rule-line (Some using_keys) line last arrow plus tokens placed sound =
-    earliest-read using_keys (nat_lt plus arrow) line (rule_head (Some using_keys) arrow plus tokens) (rule_body (Some using_keys) line last arrow plus tokens) placed
-    (λ whole.
-    let second = (either-none (unless (nat_lt arrow (length tokens) || begins_rule tokens) code.S01) _ whole).1 in
-    let third = (either-none (no_output arrow tokens) (unless (not using_keys || nat_lt plus arrow) code.S08) second).1 in
-    unless-none (not using_keys || nat_lt plus arrow) code.S08 third)
-    (body-read using_keys line last arrow plus tokens sound)
+head-read group arrow plus tokens whole =
+    let behind = (either-none (unless (nat_lt arrow (length tokens) || begins_rule tokens) code.S01) _ whole).1 in
+    let opened = either-none (no_group group) _ behind in
+    let keyed = (either-none (no_output arrow tokens) (unless (not (uses_keys group) || nat_lt plus arrow) code.S08) opened.1).1 in
+    (some-group group opened.0, unless-none (not (uses_keys group) || nat_lt plus arrow) code.S08 keyed)
 
-rule-read : (group : Option Bool) (line last : ℕ) (tokens : List LineToken) → IsLine line → All IsSoundToken tokens → StatementRead group (read_rule group line last tokens)
+rule-line : (group : LastGroup) (line last arrow plus : ℕ) (tokens : List LineToken) → IsLine line → All IsSoundToken tokens
+    → StatementRead group (rule_at group line last arrow plus tokens)
+rule-line group line last arrow plus tokens placed sound =
+    earliest-read group (nat_lt plus arrow) line (rule_head group arrow plus tokens) (rule_body group line last arrow plus tokens) placed
+    (head-read group arrow plus tokens) (body-read group line last arrow plus tokens sound)
+
+rule-read : (group : LastGroup) (line last : ℕ) (tokens : List LineToken) → IsLine line → All IsSoundToken tokens → StatementRead group (read_rule group line last tokens)
 unfolding read_rule
 rule-read group line last tokens placed sound =
     let arrow = place_of sign.Arrow tokens in rule-line group line last arrow (place_of sign.Plus (take arrow tokens)) tokens placed sound
 
-tokens-read : (group : Option Bool) (line last : ℕ) (tokens : List LineToken) → IsLine line → All IsSoundToken tokens → StatementRead group (read_tokens group line last tokens)
+tokens-read : (group : LastGroup) (line last : ℕ) (tokens : List LineToken) → IsLine line → All IsSoundToken tokens → StatementRead group (read_tokens group line last tokens)
 tokens-read group line last tokens placed sound =
     let P : Result Statement Fault → Type 0 = StatementRead group in
     cond_both (begins_word (codes "store") tokens) _ _ P (λ e. store-line group line last tokens placed sound)
@@ -334,6 +338,6 @@ tokens-read group line last tokens placed sound =
     (λ i. rule-read group line last tokens placed sound)))))
 
 -- the statement of a line
-pub line-read : (group : Option Bool) (line : ℕ) (tokens : List LineToken) → IsLine line → All IsSoundToken tokens → StatementRead group (read_line group line tokens)
+pub line-read : (group : LastGroup) (line : ℕ) (tokens : List LineToken) → IsLine line → All IsSoundToken tokens → StatementRead group (read_line group line tokens)
 line-read group line tokens placed sound =
     cond_both (is_none_left tokens) _ _ (StatementRead group) (λ e. tt) (λ e. tokens-read group line (length tokens - 1) tokens placed sound)

@@ -22,6 +22,8 @@ use Rattle.rule_model.specs.declared.program.GroupDef.{GroupDef}
 use Rattle.rule_model.specs.declared.program.Program.{Program}
 use Rattle.rule_model.specs.OwnLines.{have_own_lines}
 use Rattle.kmn_items.specs.declared.syntax.Fault.{Fault}
+use Rattle.kmn_parser.specs.declared.statement.LastGroup.{LastGroup}
+use Rattle.kmn_parser.specs.declared.statement.LastGroup.TheVariants.{Missing}
 use Rattle.kmn_parser.specs.declared.statement.Statement.{Statement}
 use Rattle.kmn_parser.specs.declared.statement.Statement.TheVariants as statement
 use Rattle.kmn_items.specs.TokenTexts.{with_texts}
@@ -351,7 +353,7 @@ abbrev pub IsOrdered : Result Program Refusal → Type 0
 IsOrdered (Ok program) = IsInOrder program
 IsOrdered (Err found) = Unit {0}
 
-pub lines-ordered : (source : List ℕ) (group : Option Bool) (low : ℕ) (program : Program) (lines : List Logical)
+pub lines-ordered : (source : List ℕ) (group : LastGroup) (low : ℕ) (program : Program) (lines : List Logical)
     → LinesFrom low lines → IsBefore low program → IsOrdered (read_lines source group program lines)
 lines-ordered source group low program [] from before = before.order
 lines-ordered source group low program (line ∷ lines) (here, rest) before =
@@ -367,9 +369,9 @@ lines-ordered source group low program (line ∷ lines) (here, rest) before =
 
 pub text-ordered : (source : List ℕ) → IsOrdered (read_text source)
 text-ordered source =
-    elim (tokens_refusal source (logicals source)) as (λ found. IsOrdered (elim found [ Some first ↦ Err first | None ↦ read_lines source None no_program (logicals source) ])) [
+    elim (tokens_refusal source (logicals source)) as (λ found. IsOrdered (elim found [ Some first ↦ Err first | None ↦ read_lines source Missing no_program (logicals source) ])) [
       | Some first ↦ tt
-      | None ↦ lines-ordered source None 1 no_program (logicals source) (logicals_from source) (nothing_before 1)
+      | None ↦ lines-ordered source Missing 1 no_program (logicals source) (logicals_from source) (nothing_before 1)
     ]
 
 pub parsed-ordered : (source : List ℕ) → IsOrdered (parsed source)

@@ -8,6 +8,7 @@ use Rattle.rule_model.specs.declared.program.RuleKind.TheVariants.{Plain, OnMatc
 use Rattle.kmn_items.specs.declared.syntax.Fault.{Fault}
 use Rattle.kmn_items.specs.declared.syntax.Where.TheVariants as section
 use Rattle.kmn_parser.specs.declared.statement.Sign.TheVariants as sign
+use Rattle.kmn_parser.specs.declared.statement.LastGroup.{LastGroup}
 use Rattle.kmn_parser.specs.declared.statement.Statement.{Statement}
 use Rattle.kmn_parser.specs.declared.statement.Statement.TheVariants as statement
 use Rattle.kmn_base.specs.Answers.{and_then}
@@ -70,7 +71,7 @@ group-at line last tokens = checked-at line (group_fault last tokens) (group_of 
 abbrev match_of : RuleKind → ℕ → List SrcItem → Result Statement Fault
 match_of kind line output = Ok (statement.Rule (record { line = line; kind = kind; context = []; key = None; output = output }))
 
-pub match-at : (kind : RuleKind) (group : Option Bool) (line last : ℕ) (tokens : List LineToken) → ReadsAt line (read_match kind group line last tokens)
+pub match-at : (kind : RuleKind) (group : LastGroup) (line last : ℕ) (tokens : List LineToken) → ReadsAt line (read_match kind group line last tokens)
 unfolding read_match
 match-at kind group line last tokens =
     let items = read_items section.Output unseen last 0 2 (drop 2 tokens) in
@@ -80,7 +81,7 @@ match-at kind group line last tokens =
 abbrev rule_of : ℕ → List SrcItem → Option SrcItem → List SrcItem → Result RuleDef Fault
 rule_of line context key output = Ok (record { line = line; kind = Plain; context = context; key = key; output = output })
 
-pub body-at : (group : Option Bool) (line last arrow plus : ℕ) (tokens : List LineToken) → RuleAt line (rule_body group line last arrow plus tokens)
+pub body-at : (group : LastGroup) (line last arrow plus : ℕ) (tokens : List LineToken) → RuleAt line (rule_body group line last arrow plus tokens)
 unfolding rule_body
 body-at group line last arrow plus tokens =
     let contexts = read_items section.Context unseen last 0 0 (take plus tokens) in
@@ -96,14 +97,14 @@ earliest-at line None (Err f) at = tt
 earliest-at line (Some head) (Ok rule) at = tt
 earliest-at line (Some head) (Err f) at = tt
 
-pub rule-at : (group : Option Bool) (line last : ℕ) (tokens : List LineToken) → ReadsAt line (read_rule group line last tokens)
+pub rule-at : (group : LastGroup) (line last : ℕ) (tokens : List LineToken) → ReadsAt line (read_rule group line last tokens)
 unfolding read_rule
 rule-at group line last tokens =
     let arrow = place_of sign.Arrow tokens in
     let plus = place_of sign.Plus (take arrow tokens) in
     earliest-at line (rule_head group arrow plus tokens) (rule_body group line last arrow plus tokens) (body-at group line last arrow plus tokens)
 
-pub tokens-at : (group : Option Bool) (line last : ℕ) (tokens : List LineToken) → ReadsAt line (read_tokens group line last tokens)
+pub tokens-at : (group : LastGroup) (line last : ℕ) (tokens : List LineToken) → ReadsAt line (read_tokens group line last tokens)
 tokens-at group line last tokens =
     let store = begins_word (codes "store") tokens in
     let begins = begins_word (codes "begin") tokens in
@@ -121,6 +122,6 @@ tokens-at group line last tokens =
     (if-at line matches (read_match OnMatch group line last tokens) nomatch (match-at OnMatch group line last tokens)
     (if-at line nomatches (read_match OnNoMatch group line last tokens) rule (match-at OnNoMatch group line last tokens) (rule-at group line last tokens)))))
 
-pub line-at : (group : Option Bool) (line : ℕ) (tokens : List LineToken) → ReadsAt line (read_line group line tokens)
+pub line-at : (group : LastGroup) (line : ℕ) (tokens : List LineToken) → ReadsAt line (read_line group line tokens)
 line-at group line tokens =
     if-at line (is_none_left tokens) (Ok statement.Nothing) (read_tokens group line (length tokens - 1) tokens) tt (tokens-at group line (length tokens - 1) tokens)

@@ -16,6 +16,8 @@ use Rattle.rule_model.specs.declared.program.RuleKind.TheVariants.{Plain, OnMatc
 use Rattle.kmn_items.specs.declared.syntax.Fault.{Fault}
 use Rattle.kmn_items.specs.declared.syntax.Slot.TheVariants as slot
 use Rattle.kmn_items.specs.declared.syntax.Where.TheVariants as section
+use Rattle.kmn_parser.specs.declared.statement.LastGroup.{LastGroup}
+use Rattle.kmn_parser.specs.declared.statement.LastGroup.TheVariants.{Missing, UsingKeys}
 use Rattle.kmn_parser.specs.declared.statement.Sign.{Sign}
 use Rattle.kmn_parser.specs.declared.statement.Sign.TheVariants as sign
 use Rattle.kmn_parser.specs.declared.statement.Statement.{Statement}
@@ -141,8 +143,9 @@ read_group line last tokens =
     (Ok (statement.Group (record { line = line; name = text_at 2 tokens; using_keys = is_using_keys (behind_close (drop 2 tokens)); rules = [] })))
 
 -- no group stands before
-abbrev pub no_group : Option Bool → Option Code
-no_group group = unless (is_some group) code.S03
+abbrev pub no_group : LastGroup → Option Code
+no_group Missing = Some code.S03
+no_group other = None
 
 -- two quotes with nothing between them, which stand for no item
 abbrev pub is_empty_quote : LineToken → Bool
@@ -157,12 +160,12 @@ abbrev pub no_output : ℕ → List LineToken → Option Code
 no_output arrow tokens = or_else (unless (nat_lt arrow (length tokens)) code.S04) (unless (has_items (drop (arrow + 1) tokens)) code.S06)
 
 -- match: the > stands right behind the word
-unfoldable pub match_fault : Option Bool → ℕ → List LineToken → Option Fault
+unfoldable pub match_fault : LastGroup → ℕ → List LineToken → Option Fault
 match_fault group arrow tokens =
     first_of (or_else (no_group group) (no_output arrow tokens)) (option_map (fault 1) (unless (arrow == 1) code.S05))
 
 -- match > output, nomatch > output
-unfoldable pub read_match : RuleKind → Option Bool → ℕ → ℕ → List LineToken → Result Statement Fault
+unfoldable pub read_match : RuleKind → LastGroup → ℕ → ℕ → List LineToken → Result Statement Fault
 read_match kind group line last tokens =
     checked (match_fault group (place_of sign.Arrow tokens) tokens)
     (and_then (read_items section.Output unseen last 0 2 (drop 2 tokens))
@@ -174,18 +177,20 @@ begins_rule [] = false
 begins_rule (token ∷ tokens) =
     is_quoted token.kind || is_number token.kind || is_sign sign.Plus token.kind || (is_word token.kind && is_item_word token.text)
 
-abbrev pub uses_keys : Option Bool → Bool
-uses_keys group = unwrap_or group false
+-- a group that uses keys stands before
+abbrev pub uses_keys : LastGroup → Bool
+uses_keys UsingKeys = true
+uses_keys other = false
 
 -- the codes of a rule that stand at its first token; the first > and the first + before it stand at these places
-unfoldable pub rule_head : Option Bool → ℕ → ℕ → List LineToken → Option Code
+unfoldable pub rule_head : LastGroup → ℕ → ℕ → List LineToken → Option Code
 rule_head group arrow plus tokens =
     or_else (unless (nat_lt arrow (length tokens) || begins_rule tokens) code.S01)
     (or_else (no_group group)
     (or_else (no_output arrow tokens) (unless (not (uses_keys group) || nat_lt plus arrow) code.S08)))
 
 -- the key, which stands between + and >, in a group with keys alone
-unfoldable pub rule_key : Option Bool → ℕ → ℕ → ℕ → List LineToken → Result (Option SrcItem) Fault
+unfoldable pub rule_key : LastGroup → ℕ → ℕ → ℕ → List LineToken → Result (Option SrcItem) Fault
 rule_key group last arrow plus tokens =
     if not (nat_lt plus arrow) then Ok None
     else (if uses_keys group
@@ -193,7 +198,7 @@ rule_key group last arrow plus tokens =
     else Err (fault plus code.S07))
 
 -- the items of a rule, section by section
-unfoldable pub rule_body : Option Bool → ℕ → ℕ → ℕ → ℕ → List LineToken → Result RuleDef Fault
+unfoldable pub rule_body : LastGroup → ℕ → ℕ → ℕ → ℕ → List LineToken → Result RuleDef Fault
 rule_body group line last arrow plus tokens =
     and_then (read_items section.Context unseen last 0 0 (take plus tokens)) (λ context.
     and_then (rule_key group last arrow plus tokens) (λ key.
@@ -231,18 +236,18 @@ earliest (Some head) (Ok rule) = Err (fault 0 head)
 earliest (Some head) (Err found) = Err (earlier head found)
 
 -- a rule with the first > at a place, and the first + before it at another, which is the first where there is none
-abbrev pub rule_at : Option Bool → ℕ → ℕ → ℕ → ℕ → List LineToken → Result Statement Fault
+abbrev pub rule_at : LastGroup → ℕ → ℕ → ℕ → ℕ → List LineToken → Result Statement Fault
 rule_at group line last arrow plus tokens =
     earliest (rule_head group arrow plus tokens) (rule_body group line last arrow plus tokens)
 
 -- context + key > output, or context > output in a group without keys
-unfoldable pub read_rule : Option Bool → ℕ → ℕ → List LineToken → Result Statement Fault
+unfoldable pub read_rule : LastGroup → ℕ → ℕ → List LineToken → Result Statement Fault
 read_rule group line last tokens =
     let arrow = place_of sign.Arrow tokens in
     rule_at group line last arrow (place_of sign.Plus (take arrow tokens)) tokens
 
 -- a line's tokens, of which there is one, by the first word
-abbrev pub read_tokens : Option Bool → ℕ → ℕ → List LineToken → Result Statement Fault
+abbrev pub read_tokens : LastGroup → ℕ → ℕ → List LineToken → Result Statement Fault
 read_tokens group line last tokens =
     if begins_word (codes "store") tokens then read_store line last tokens
     else (if begins_word (codes "begin") tokens then read_begin line last tokens
@@ -251,7 +256,7 @@ read_tokens group line last tokens =
     else (if begins_word (codes "nomatch") tokens then read_match OnNoMatch group line last tokens
     else read_rule group line last tokens))))
 
--- the statement of a line's tokens; None says that no group stands before, else it is known whether the group uses keys
-abbrev pub read_line : Option Bool → ℕ → List LineToken → Result Statement Fault
+-- the statement of a line's tokens, behind the last group before the line
+abbrev pub read_line : LastGroup → ℕ → List LineToken → Result Statement Fault
 read_line group line tokens =
     if is_none_left tokens then Ok statement.Nothing else read_tokens group line (length tokens - 1) tokens

@@ -1,5 +1,5 @@
 -- The program of a source, or its first refusal.
-use Rattle.std.specs.Prelude.{ℕ, nat_lt, Bool, not, if◌then◌else◌, List, [], ◌∷◌, ◌++◌, length, Option, None, Some, Result, Ok, Err}
+use Rattle.std.specs.Prelude.{ℕ, nat_lt, Bool, true, false, not, if◌then◌else◌, List, [], ◌∷◌, ◌++◌, length, None, Some, Result, Ok, Err}
 use Rattle.std.specs.Str.{is_utf8}
 use Rattle.kmn_base.specs.declared.codes.Code.TheVariants.{L01, L05}
 use Rattle.kmn_base.specs.declared.limits.TheConstants.{TEXT_BYTES}
@@ -11,6 +11,8 @@ use Rattle.rule_model.specs.declared.program.RuleDef.{RuleDef}
 use Rattle.rule_model.specs.declared.program.GroupDef.{GroupDef}
 use Rattle.rule_model.specs.declared.program.Program.{Program}
 use Rattle.kmn_items.specs.declared.syntax.Fault.{Fault}
+use Rattle.kmn_parser.specs.declared.statement.LastGroup.{LastGroup}
+use Rattle.kmn_parser.specs.declared.statement.LastGroup.TheVariants.{Missing, UsingKeys, WithoutKeys}
 use Rattle.kmn_parser.specs.declared.statement.Statement.{Statement}
 use Rattle.kmn_parser.specs.declared.statement.Statement.TheVariants as statement
 use Rattle.kmn_items.specs.TokenTexts.{with_texts}
@@ -22,13 +24,18 @@ at_line line (Ok read) = Ok read
 at_line line (Err found) = Err (refusal line found.code)
 
 -- the statement of a logical line, behind a group
-abbrev pub line_statement : List ℕ → Option Bool → Logical → Result Statement Refusal
+abbrev pub line_statement : List ℕ → LastGroup → Logical → Result Statement Refusal
 line_statement source group line =
     at_line line.first_line (read_line group line.first_line (with_texts source (line_tokens source line)))
 
--- what is known of the last group behind a statement
-abbrev pub group_after : Option Bool → Statement → Option Bool
-group_after group (statement.Group opened) = Some opened.using_keys
+-- a group that uses keys, or one that doesn't, as the last one
+abbrev pub last_group : Bool → LastGroup
+last_group true = UsingKeys
+last_group false = WithoutKeys
+
+-- the last group behind a statement
+abbrev pub group_after : LastGroup → Statement → LastGroup
+group_after group (statement.Group opened) = last_group opened.using_keys
 group_after group other = group
 
 -- the groups with a rule in the last of them
@@ -50,7 +57,7 @@ abbrev pub no_program : Program
 no_program = record { stores = []; begins = []; groups = [] }
 
 -- a program with the statements of lines, or the first refusal among them
-abbrev pub read_lines : List ℕ → Option Bool → Program → List Logical → Result Program Refusal
+abbrev pub read_lines : List ℕ → LastGroup → Program → List Logical → Result Program Refusal
 read_lines source group program [] = Ok program
 read_lines source group program (line ∷ lines) = elim (line_statement source group line) [
   | Ok read ↦ read_lines source (group_after group read) (with_statement program read) lines
@@ -61,7 +68,7 @@ read_lines source group program (line ∷ lines) = elim (line_statement source g
 abbrev pub read_text : List ℕ → Result Program Refusal
 read_text source = elim (tokens_refusal source (logicals source)) [
   | Some found ↦ Err found
-  | None ↦ read_lines source None no_program (logicals source)
+  | None ↦ read_lines source Missing no_program (logicals source)
 ]
 
 -- the program of a source, or its first refusal

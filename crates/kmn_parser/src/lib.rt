@@ -18,4 +18,4 @@ mod store_line;
 mod tests;
 
 pub use reading::parse;
-pub use statement::{Sign, Statement};
+pub use statement::{LastGroup, Sign, Statement};

@@ -7,7 +7,7 @@ ghost use Rattle.kmn_parser.specs.Line.{read_tokens, read_line};
 use crate::group_line::{read_begin, read_group};
 use crate::rule_line::{read_match, read_rule};
 use crate::signs::begins_word;
-use crate::statement::Statement;
+use crate::statement::{LastGroup, Statement};
 use crate::store_line::read_store;
 use kmn_items::{LineTokens, Trouble};
 use rule_model::RuleKind;
@@ -16,7 +16,7 @@ use std::alloc::Global;
 /// Reads the tokens of a line, of which there is one, by the first word.
 fn read_tokens(
     alloc: Global,
-    group: Option<bool>,
+    group: LastGroup,
     line: u32,
     last: usize,
     tokens: LineTokens<'_>,
@@ -39,11 +39,10 @@ fn read_tokens(
     }
 }
 
-/// Reads the tokens of a line with a number. `group` is None where no group stands before, and else tells whether the
-/// last one uses keys.
+/// Reads the tokens of a line with a number, behind the last group before it.
 pub(crate) fn read_line(
     alloc: Global,
-    group: Option<bool>,
+    group: LastGroup,
     line: u32,
     tokens: LineTokens<'_>,
 ) -> Result<Statement, Trouble>

@@ -1,11 +1,11 @@
 ghost use Rattle.std.specs.Prelude.{◌≡◌, ◌≤◌, ◌<◌, ◌^◌, length, OnOk};
 ghost use Rattle.kmn_base.specs.Answers.{Answers};
 ghost use Rattle.kmn_lines.specs.Tokens.{line_tokens};
-ghost use Rattle.kmn_parser.specs.Source.{parsed, read_text, group_after, with_rule, with_statement};
+ghost use Rattle.kmn_parser.specs.Source.{parsed, read_text, last_group, group_after, with_rule, with_statement};
 ghost use Rattle.kmn_parser.specs.Reading.{reading_after};
 
 use crate::line::read_line;
-use crate::statement::Statement;
+use crate::statement::{LastGroup, Statement};
 use kmn_base::limits::TEXT_BYTES;
 use kmn_base::{Code, CompileError, Memory, Refusal, Seq};
 use kmn_items::{LineTokens, Trouble};
@@ -39,12 +39,12 @@ fn refused(line: u32, code: Code) -> CompileError
     CompileError::Refused(Refusal { line, code })
 }
 
-/// What the lines of a source come to so far: the program of their statements with what is known of its last group, or
-/// the first refusal among these. A refused source is read on, since the tokens of all lines come before any statement.
+/// What the lines of a source come to so far: the program of their statements with its last group, or the first refusal
+/// among these. A refused source is read on, since the tokens of all lines come before any statement.
 #[derive(Drop)]
 struct Reading {
     program: Program,
-    group: Option<bool>,
+    group: LastGroup,
     refused: Option<Refusal>,
 }
 
@@ -60,7 +60,7 @@ fn read_text(alloc: Global, source: &str) -> Result<Program, CompileError>
             begins: Seq::new(alloc),
             groups: Seq::new(alloc),
         },
-        group: None,
+        group: LastGroup::Missing,
         refused: None,
     };
     for logical in lines(source) {
@@ -111,12 +111,23 @@ fn read_on(
     }
 }
 
-/// What is known of the last group behind a statement: whether it uses keys.
-fn group_after(group: Option<bool>, statement: &Statement) -> Option<bool>
+/// A group as the last one.
+fn last_group(using_keys: bool) -> LastGroup
+    ensures { result ≡ last_group using_keys }
+{
+    if using_keys {
+        LastGroup::UsingKeys
+    } else {
+        LastGroup::WithoutKeys
+    }
+}
+
+/// The last group behind a statement.
+fn group_after(group: LastGroup, statement: &Statement) -> LastGroup
     ensures { result ≡ group_after group statement.now }
 {
     match statement {
-        Statement::Group(opened) => Some(opened.using_keys),
+        Statement::Group(opened) => last_group(opened.using_keys),
         _ => group,
     }
 }

@@ -5,7 +5,7 @@ ghost use Rattle.kmn_items.specs.TokenTexts.{texts, with_text, Reads};
 ghost use Rattle.kmn_parser.specs.Line.{no_group, is_empty_quote, has_items, no_output, match_fault, read_match, begins_rule, uses_keys, rule_head, rule_key, rule_body, code_number, earlier, rule_at, read_rule};
 
 use crate::signs::place_of;
-use crate::statement::{Sign, Statement};
+use crate::statement::{LastGroup, Sign, Statement};
 use kmn_base::{Code, Seq};
 use kmn_items::{Fault, LineTokens, Trouble, Where, is_item_word, read_items, read_key, text_in};
 use kmn_lines::{Token, TokenKind};
@@ -20,12 +20,12 @@ struct Signs {
 }
 
 /// The code of a statement that wants a group before it.
-fn no_group(group: Option<bool>) -> Option<Code>
+fn no_group(group: LastGroup) -> Option<Code>
     ensures { result ≡ no_group group }
 {
     match group {
-        Some(_) => None,
-        None => Some(Code::S03),
+        LastGroup::Missing => Some(Code::S03),
+        LastGroup::UsingKeys | LastGroup::WithoutKeys => None,
     }
 }
 
@@ -67,7 +67,7 @@ fn no_output(arrow: usize, tokens: LineTokens<'_>) -> Option<Code>
 
 /// The first fault of a match or nomatch statement before its output.
 #[tactic(auto, unfolding(crate::specs::Line::match_fault))]
-fn match_fault(group: Option<bool>, arrow: usize, tokens: LineTokens<'_>) -> Option<Fault>
+fn match_fault(group: LastGroup, arrow: usize, tokens: LineTokens<'_>) -> Option<Fault>
     ensures { result ≡ match_fault group arrow (texts tokens.entry) }
 {
     if let Some(code) = no_group(group) {
@@ -91,7 +91,7 @@ fn match_fault(group: Option<bool>, arrow: usize, tokens: LineTokens<'_>) -> Opt
 pub(crate) fn read_match(
     alloc: Global,
     kind: RuleKind,
-    group: Option<bool>,
+    group: LastGroup,
     line: u32,
     last: usize,
     tokens: LineTokens<'_>,
@@ -130,15 +130,18 @@ fn begins_rule(tokens: LineTokens<'_>) -> bool
 }
 
 /// Whether the group before uses keys.
-fn uses_keys(group: Option<bool>) -> bool
+fn uses_keys(group: LastGroup) -> bool
     ensures { result ≡ uses_keys group }
 {
-    group.unwrap_or(false)
+    match group {
+        LastGroup::UsingKeys => true,
+        LastGroup::Missing | LastGroup::WithoutKeys => false,
+    }
 }
 
 /// The least code of a rule that stands at its first token.
 #[tactic(auto, unfolding(crate::specs::Line::rule_head))]
-fn rule_head(group: Option<bool>, signs: Signs, tokens: LineTokens<'_>) -> Option<Code>
+fn rule_head(group: LastGroup, signs: Signs, tokens: LineTokens<'_>) -> Option<Code>
     ensures { result ≡ rule_head group signs.arrow signs.plus (texts tokens.entry) }
 {
     if tokens.len() <= signs.arrow && !begins_rule(tokens) {
@@ -161,7 +164,7 @@ fn rule_head(group: Option<bool>, signs: Signs, tokens: LineTokens<'_>) -> Optio
 #[tactic(auto, unfolding(crate::specs::Line::rule_key))]
 fn rule_key(
     alloc: Global,
-    group: Option<bool>,
+    group: LastGroup,
     last: usize,
     signs: Signs,
     tokens: LineTokens<'_>,
@@ -190,7 +193,7 @@ fn rule_key(
 #[tactic(auto, unfolding(crate::specs::Line::rule_body))]
 fn rule_body(
     alloc: Global,
-    group: Option<bool>,
+    group: LastGroup,
     line: u32,
     last: usize,
     signs: Signs,
@@ -260,7 +263,7 @@ fn earlier(head: Code, found: Fault) -> Fault
 /// Reads a rule whose signs stand at their places.
 fn rule_at(
     alloc: Global,
-    group: Option<bool>,
+    group: LastGroup,
     line: u32,
     last: usize,
     signs: Signs,
@@ -288,7 +291,7 @@ fn rule_at(
 #[tactic(auto, unfolding(crate::specs::Line::read_rule))]
 pub(crate) fn read_rule(
     alloc: Global,
-    group: Option<bool>,
+    group: LastGroup,
     line: u32,
     last: usize,
     tokens: LineTokens<'_>,

@@ -13,6 +13,17 @@ pub enum Statement {
     Rule(RuleDef),
 }
 
+/// The last group before a line, in which a rule of the line stands.
+#[derive(Clone, Copy, Debug, PartialEq, Eq)]
+pub enum LastGroup {
+    /// No group stands before the line.
+    Missing,
+    /// The group uses keys.
+    UsingKeys,
+    /// The group uses no keys.
+    WithoutKeys,
+}
+
 /// A sign that parts a statement.
 #[derive(Clone, Copy, Debug, PartialEq, Eq)]
 pub enum Sign {
