@@ -1,8 +1,9 @@
 ghost use Rattle.std.specs.Prelude.{◌≡◌, ◌∷◌, [], IfOk};
 ghost use Rattle.kmx_format.specs.WorkedFiles.{plain_rule, main_tables, one_rule, two_keys};
+ghost use Rattle.kmx_format.specs.Writable.{IsWritable};
 
 use crate::write;
-use kmn_base::{Element, Memory, RuleKey, Seq, Text};
+use kmn_base::{Code, CompileError, Element, Memory, RuleKey, Seq, Text};
 use rule_model::{Group, Out, Rule, Store, Tables};
 use std::alloc::Global;
 use std::test::Fail;
@@ -114,6 +115,17 @@ fn two_keys(alloc: Global) -> Result<Tables, Memory>
     )
 }
 
+/// Why a file with a picture of so many bytes isn't written.
+fn fault(alloc: Global, tables: &Tables, size: usize) -> Result<Option<CompileError>, Memory>
+    requires { IsWritable tables.now }
+{
+    let picture = vec![in alloc; 0u8; size]?;
+    match write(alloc, tables, &picture) {
+        Ok(_) => Ok(None),
+        Err(error) => Ok(Some(error)),
+    }
+}
+
 #[test]
 fn worked_files(rt: HostRuntime) -> Result<(), Fail> {
     let first = one_rule(rt.alloc())?;
@@ -124,5 +136,15 @@ fn worked_files(rt: HostRuntime) -> Result<(), Fail> {
     assert_eq!(rt; file.as_slice(), TWO_KEYS.as_slice());
     let picture = write(rt.alloc(), &first, &[0, 1, 2, 3])?;
     assert_eq!(rt; picture.len(), 126);
+    let large = fault(rt.alloc(), &first, 1_048_577)?;
+    assert!(rt;
+        matches!(
+            large,
+            Some(CompileError::TooLarge {
+                code: Code::C24,
+                size: 1_048_577
+            })
+        )
+    );
     Ok(())
 }

@@ -11,3 +11,6 @@ write-requires-2 g c = subst IsWritable (sym c.in_ok-second.ensures) two_keys_is
 
 pub write-requires-3 : goal.write-requires-3
 write-requires-3 g c = subst IsWritable (sym c.in_ok-first.ensures) one_rule_is_writable
+
+pub fault-requires : goal.fault-requires
+fault-requires g c = subst IsWritable (sym c.in_ok-first.ensures) one_rule_is_writable
