@@ -23,6 +23,7 @@ use Rattle.keyman_tool.specs.declared.preparing.Stop.{Stop}
 use Rattle.keyman_tool.specs.declared.preparing.Stop.TheVariants as stop
 use Rattle.keyman_tool.specs.declared.reason.Reason.{Reason}
 use Rattle.keyman_tool.specs.declared.reason.Reason.TheVariants as reason
+use Rattle.keyman_tool.specs.declared.script_lines.TheConstants.{INPUT_BYTES}
 use Rattle.keyman_tool.specs.declared.status.Status.{Status}
 use Rattle.keyman_tool.specs.declared.status.Status.TheVariants as status
 use Rattle.keyman_tool.specs.Asked.{Ask}
@@ -87,7 +88,7 @@ is_press (Expect line text) = false
 -- a script that only presses keys, and not too often to be counted
 pub record IsPressing (entries : List Entry) : Type 0 where
   pub presses : list_all is_press entries ≡ true
-  pub few : length entries ≤ 65_536
+  pub few : length entries ≤ INPUT_BYTES
 
 -- what is prepared, as a job
 abbrev pub prepared_job : Prepared → Job

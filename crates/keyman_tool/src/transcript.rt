@@ -1,8 +1,7 @@
 ghost use Rattle.std.specs.Prelude.{◌≡◌, ◌<◌, ◌^◌, ◌++◌, ◌∷◌, [], map, length, codes, IfOk, if◌then◌else◌};
 ghost use Rattle.std.specs.String.{string_bytes};
 ghost use Rattle.kmn_base.specs.Lists.{characters};
-ghost use Rattle.kmx_format.specs.File.{file_of, all_rules, rules_of};
-ghost use Rattle.std.specs.List.{flat_map};
+ghost use Rattle.kmx_format.specs.File.{file_of, all_rules};
 ghost use Rattle.rule_model.specs.Transcript.{refused_event_line};
 ghost use Rattle.keyman_tool.specs.Reasons.{reason_line, size_line};
 ghost use Rattle.keyman_tool.specs.Endings.{compiled_line};
@@ -10,7 +9,8 @@ ghost use Rattle.rule_model.specs.Lines.{event_line, counts_text, text_line, end
 
 use crate::reason::Reason;
 use kmn_base::{Code, Item, Memory, Outcome, Refusal, Seq, Text};
-use rule_model::{Group, Tables};
+use kmx_format::rule_count;
+use rule_model::Tables;
 use std::alloc::{AllocError, Global};
 
 /// The line of an event: its number, what it did, what it inserted and the context after it.
@@ -119,18 +119,6 @@ pub fn refused_event_line(alloc: Global, number: u32, code: Code) -> Result<Text
     Ok(line)
 }
 
-/// How many key records groups have.
-fn count_rules(groups: &[Group]) -> usize
-    requires { length (flat_map rules_of groups.now) < 2 ^ 64 }
-    ensures { result ≡ length (flat_map rules_of groups.now) }
-{
-    let mut count = 0;
-    for group in groups {
-        count += group.rules.len();
-    }
-    count
-}
-
 /// The line of a file that was compiled from tables and has so many bytes.
 #[tactic(auto, unfolding(crate::specs::Endings::compiled_line))]
 pub fn compiled_line(alloc: Global, tables: &Tables, bytes: usize) -> Result<Text, Memory>
@@ -140,7 +128,7 @@ pub fn compiled_line(alloc: Global, tables: &Tables, bytes: usize) -> Result<Tex
 {
     let stores = tables.stores.len();
     let groups = tables.groups.len();
-    let rules = count_rules(tables.groups.as_slice());
+    let rules = rule_count(tables.groups.as_slice());
     Ok(text_of(format!(in alloc;
         "compiled stores={stores} groups={groups} rules={rules} bytes={bytes}\n"
     )?))
