@@ -1,0 +1,4 @@
+pub mod Firsts
+pub mod Naming
+pub mod PlaceLemmas
+pub mod ByAppearance

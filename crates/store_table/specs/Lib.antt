@@ -1,0 +1,4 @@
+pub mod First
+pub mod Names
+pub mod Places
+pub mod Numbering

@@ -1,0 +1,18 @@
+//! The names of a program: what of them is refused, and which numbers they get in the file.
+//!
+//! It stands on `kmn_base`, `virtual_keys`, `rule_model` and `indexmap`. `specs/Names` says which refusal for names is
+//! the first (`names_refusal`), by the words of `specs/First`, and `specs/Numbering` which numbers names get. The layer
+//! above calls `number`, which answers `numbered` of a program, and looks names up in the `Names` that it gives.
+#![tactic(auto)]
+
+mod appearing;
+mod first;
+mod name_table;
+mod names;
+mod refusing;
+mod stating;
+#[cfg(test)]
+mod tests;
+
+pub use name_table::NameTable;
+pub use names::{Names, number};
