@@ -1,4 +1,4 @@
-ghost use Rattle.std.specs.Prelude.{◌≡◌, ◌++◌, ◌+◌, ◌≤◌, ◌↔◌, true, false, IfOk, string_bytes};
+ghost use Rattle.std.specs.Prelude.{◌≡◌, ◌++◌, ◌+◌, ◌≤◌, ◌↔◌, false, IfOk, string_bytes};
 ghost use Rattle.load_maker.specs.Loads.{is_in_range, hexadecimal, rule_line, load_source, load_script};
 
 use kmn_base::{Memory, Seq, Text};
