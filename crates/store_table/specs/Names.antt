@@ -1,5 +1,5 @@
 -- What of a program's names is refused: what is stated twice, and what is named and not stated.
-use Rattle.std.specs.Prelude.{ℕ, Bool, true, false, not, ◌&&◌, nat_eq, if◌then◌else◌, List, [], ◌∷◌, map, flat_map, is_some, Option}
+use Rattle.std.specs.Prelude.{ℕ, Bool, false, not, ◌&&◌, nat_eq, if◌then◌else◌, List, [], ◌∷◌, map, flat_map, is_some, Option}
 use Rattle.std.specs.List.{list_any}
 use Rattle.kmn_base.specs.declared.codes.Code.{Code}
 use Rattle.kmn_base.specs.declared.codes.Code.TheVariants.{C02, C03, C04, C05, C06, C07, C15}

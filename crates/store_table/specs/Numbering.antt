@@ -1,5 +1,5 @@
 -- The numbers that a program's names get in its file, as far as there are numbers.
-use Rattle.std.specs.Prelude.{ℕ, ◌+◌, ◌^◌, nat_eq, nat_lt, nat_le, if◌then◌else◌, List, [], ◌∷◌, length, map, take, Option, None, Some, option_map, Result, Ok, Err}
+use Rattle.std.specs.Prelude.{ℕ, ◌+◌, ◌^◌, nat_lt, nat_le, if◌then◌else◌, List, [], ◌∷◌, length, map, take, Option, None, Some, option_map, Result, Ok, Err}
 use Rattle.kmn_base.specs.declared.refusals.Refusal.{Refusal}
 use Rattle.virtual_keys.specs.Dictionary.{place_in, with_name}
 use Rattle.rule_model.specs.declared.program.SrcItem.{SrcItem}
