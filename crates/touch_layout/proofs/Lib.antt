@@ -1,0 +1,3 @@
+mod Members
+mod Sentinels
+mod Values

@@ -1,0 +1,17 @@
+-- A text that doesn't begin with the sentinel has it where what stands behind its first byte has it.
+use Rattle.std.proofs.Common.{◌≡◌, ℕ, ◌+◌, ◌<◌, Bool, true, false, ◌||◌, List, [], ◌∷◌, length, drop, get_or, refl, sym, subst, arith}
+use Rattle.std.proofs.lemmas.List.{drop_more}
+use Rattle.touch_layout.specs.Ids.{begins_with_sentinel, has_sentinel}
+
+is_false : (x y : Bool) → x ≡ false → (x || y) ≡ y
+is_false x y differs = subst (λ z. (z || y) ≡ y) (sym differs) refl
+
+behind_first : (b : ℕ) (bytes : List ℕ) → begins_with_sentinel (b ∷ bytes) ≡ false → has_sentinel (b ∷ bytes) ≡ has_sentinel bytes
+behind_first b bytes differs = is_false (begins_with_sentinel (b ∷ bytes)) (has_sentinel bytes) differs
+
+pub sentinel_behind : (text : List ℕ) (at : ℕ) → at < length text → begins_with_sentinel (drop at text) ≡ false
+    → has_sentinel (drop (at + 1) text) ≡ has_sentinel (drop at text)
+sentinel_behind text at inside differs =
+    let cut = drop_more text at 0 inside in
+    let rest = behind_first (get_or text at 0) (drop (at + 1) text) (subst (λ all. begins_with_sentinel all ≡ false) cut differs) in
+    sym (subst (λ all. has_sentinel all ≡ has_sentinel (drop (at + 1) text)) (sym cut) rest)

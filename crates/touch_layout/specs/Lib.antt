@@ -1,0 +1,5 @@
+pub mod Faults
+pub mod Ids
+pub mod Keys
+pub mod Layers
+pub mod Layout

@@ -1,0 +1,136 @@
+//! Which ids a key of a layout can have.
+
+ghost use Rattle.std.specs.Prelude.{◌≡◌, map};
+ghost use Rattle.std.specs.List.{list_any, list_all};
+ghost use Rattle.kmn_base.specs.Names.{same_name};
+ghost use Rattle.touch_layout.specs.Ids.{layout_names, is_word_byte, has_sentinel, character_count, is_touch_name, is_key_id};
+
+use kmn_base::limits::SOURCE_NAME_CHARS;
+use kmn_base::names::same_name;
+use kmn_base::slices::{before, behind};
+use virtual_keys::{key_named, named_chars};
+
+/// The names of keys that a layout can have and a source can't. The list is our own choice.
+static LAYOUT_NAMES: [&str; 26] = [
+    "K_SHIFT",
+    "K_CONTROL",
+    "K_ALT",
+    "K_CAPS",
+    "K_NUMLOCK",
+    "K_SCROLL",
+    "K_LOPT",
+    "K_ROPT",
+    "K_NUMERALS",
+    "K_SYMBOLS",
+    "K_CURRENCIES",
+    "K_UPPER",
+    "K_LOWER",
+    "K_ALPHA",
+    "K_SHIFTED",
+    "K_ALTGR",
+    "K_TABBACK",
+    "K_TABFWD",
+    "K_LSHIFT",
+    "K_RSHIFT",
+    "K_LCONTROL",
+    "K_RCONTROL",
+    "K_LCTRL",
+    "K_RCTRL",
+    "K_LALT",
+    "K_RALT",
+];
+
+/// Whether an id is one of some names.
+fn is_among(names: &[&str], id: &[u8]) -> bool
+    ensures { result ≡ list_any (λ name. same_name name id.now) (map (λ name. name.now) names.now) }
+{
+    for name in names {
+        if same_name(name.as_bytes(), id) {
+            return true;
+        }
+    }
+    false
+}
+
+/// Whether an id is a name that only layouts have.
+#[tactic(auto, unfolding(crate::specs::Ids::layout_names))]
+fn is_layout_name(id: &[u8]) -> bool
+    ensures { result ≡ list_any (λ name. same_name name id.now) layout_names }
+{
+    is_among(&LAYOUT_NAMES, id)
+}
+
+/// Whether a byte can be one of a word.
+fn is_word_byte(byte: u8) -> bool
+    ensures { result ≡ is_word_byte byte }
+{
+    !matches!(
+        byte,
+        0 | b'\t'
+            | b'\n'
+            | b'\r'
+            | b' '
+            | b'"'
+            | b'\''
+            | b'('
+            | b')'
+            | b'['
+            | b']'
+            | b'>'
+            | b'+'
+            | b'='
+            | b','
+    )
+}
+
+/// Whether each byte can be one of a word.
+fn is_word(id: &[u8]) -> bool
+    ensures { result ≡ list_all is_word_byte id.now }
+{
+    for byte in id {
+        if !is_word_byte(*byte) {
+            return false;
+        }
+    }
+    true
+}
+
+/// Whether a text has U+FFFF, the sentinel of compiled strings.
+#[tactic(auto, using(crate::proofs::Sentinels::sentinel_behind))]
+fn has_sentinel(text: &[u8]) -> bool
+    ensures { result ≡ has_sentinel text.now }
+{
+    for at in 0..text.len() {
+        if behind(text, at).starts_with(b"\xEF\xBF\xBF") {
+            return true;
+        }
+    }
+    false
+}
+
+/// How many characters a text has.
+fn character_count(text: &[u8]) -> usize
+    ensures { result ≡ character_count text.now }
+{
+    text.iter()
+        .filter(|byte| **byte < 128 || 192 <= **byte)
+        .count()
+}
+
+/// Whether an id is a T_ name.
+pub(crate) fn is_touch_name(id: &[u8]) -> bool
+    ensures { result ≡ is_touch_name id.now }
+{
+    same_name(before(id, 2), b"T_")
+        && 2 < id.len()
+        && character_count(id) <= SOURCE_NAME_CHARS
+        && is_word(id)
+        && !has_sentinel(id)
+}
+
+/// Whether a key can have an id.
+pub(crate) fn is_key_id(id: &[u8]) -> bool
+    ensures { result ≡ is_key_id id.now }
+{
+    key_named(id).is_some() || is_touch_name(id) || named_chars(id).is_some() || is_layout_name(id)
+}

@@ -1,0 +1,160 @@
+use crate::{LayoutError, LayoutFault, check_layout};
+use kmn_base::{Code, Element, Memory, RuleKey, Seq};
+use rule_model::{Group, Rule, Store, Tables};
+use std::alloc::Global;
+use std::test::Fail;
+
+/// Layouts, and the count of their keys or the rule that they break, with platform, layer, row and key.
+const LAYOUTS: [(&str, Result<u32, (Code, u32, u32, u32, u32)>); 6] = [
+    ("", Err((Code::T1, 0, 0, 0, 0))),
+    ("\u{FEFF}{}", Ok(0)),
+    ("[]", Err((Code::T2, 0, 0, 0, 0))),
+    (r#"{"desktop":{}}"#, Err((Code::T2, 3, 0, 0, 0))),
+    (
+        r#"{"tablet":{"layer":[{"id":"a","row":[{}]}]}}"#,
+        Err((Code::T2, 2, 1, 1, 0)),
+    ),
+    (
+        r#"{"phone":{"layer":[{"id":"a","row":[]},{"id":"A","row":[]}]}}"#,
+        Err((Code::T6, 1, 2, 0, 0)),
+    ),
+];
+
+/// The keys of the one row of a tablet's layer `a`, and their count or the rule that is broken, with the key.
+const ROWS: [(&str, Result<u32, (Code, u32)>); 7] = [
+    (r#"{},{"id":1}"#, Err((Code::T2, 2))),
+    (r#"{"flick":{"nw":{"id":"K_ZZ"}}}"#, Err((Code::T3, 1))),
+    (r#"{"id":"T_a b"}"#, Err((Code::T3, 1))),
+    (r#"{"nextlayer":"a"},{"nextlayer":"A"}"#, Err((Code::T4, 2))),
+    (r#"{"id":"T_x","sp":9.0}"#, Err((Code::T5, 1))),
+    (
+        r#"{"flick":{"n":{"id":"T_x"},"e":{"id":"x"}}}"#,
+        Err((Code::T5, 1)),
+    ),
+    (
+        r#"{"id":"t_FLIP","sk":[{"id":"T_x","sp":"9"}],"multitap":[{"id":"T_x","nextlayer":"a"}]}"#,
+        Ok(3),
+    ),
+];
+
+/// The key, the layer that shift leads to and the second layer's id of a layout, and the count of its keys or the rule
+/// that it breaks, with layer, row and key.
+const SAMPLES: [(&str, &str, &str, Result<u32, (Code, u32, u32, u32)>); 4] = [
+    ("T_flip", "shift", "shift", Ok(7)),
+    ("T_flop", "shift", "shift", Err((Code::T5, 1, 1, 2))),
+    ("T_flip", "numeric", "shift", Err((Code::T4, 1, 1, 3))),
+    ("T_flip", "shift", "default", Err((Code::T6, 2, 0, 0))),
+];
+
+fn sample(alloc: Global, key: &str, next: &str, second: &str) -> Result<String, Memory> {
+    let mut text = String::new(alloc);
+    text.push_str(r#"{"phone":{"font":"Sans","layer":[{"id":"default","row":[{"id":"1","key":["#)?;
+    text.push_str(r#"{"id":"K_A","text":"a","sk":[{"id":"U_00E1","text":"x"}]},{"id":""#)?;
+    text.push_str(key)?;
+    text.push_str(r#""},{"id":"K_SHIFT","sp":"1","nextlayer":""#)?;
+    text.push_str(next)?;
+    text.push_str(r#""}]}]},{"id":""#)?;
+    text.push_str(second)?;
+    text.push_str(r#"","row":[{"id":"1","key":[{"id":"K_A","text":"A"},"#)?;
+    text.push_str(
+        r#"{"id":"K_SHIFT","sp":"2","nextlayer":"default"},{"id":"T_pad","sp":"10","width":"50"}]}]}]}}"#,
+    )?;
+    Ok(text)
+}
+
+fn row(alloc: Global, keys: &str) -> Result<String, Memory> {
+    let mut text = String::new(alloc);
+    text.push_str(r#"{"tablet":{"layer":[{"id":"a","row":[{"key":["#)?;
+    text.push_str(keys)?;
+    text.push_str("]}]}]}}")?;
+    Ok(text)
+}
+
+/// The dictionary T_flip, and a group with a record for that key.
+fn tables(alloc: Global) -> Result<Tables, Memory> {
+    let mut elements = Seq::new(alloc);
+    for c in "T_flip".chars() {
+        elements.add(Element::Char(c))?;
+    }
+    let store = Store {
+        system: 34,
+        name: Seq::new(alloc),
+        elements,
+    };
+    let rule = Rule {
+        line: 0,
+        place: 0,
+        key: RuleKey::Virtual {
+            flags: 0x4000,
+            code: 256,
+        },
+        context: Seq::new(alloc),
+        output: Seq::new(alloc),
+    };
+    let group = Group {
+        name: Seq::new(alloc),
+        using_keys: true,
+        rules: Seq::from_vec(vec![in alloc; rule]?),
+        on_match: Seq::new(alloc),
+        on_nomatch: Seq::new(alloc),
+    };
+    Ok(Tables {
+        version: 0x0A00,
+        start_ansi: 0xFFFF_FFFF,
+        start_unicode: 0,
+        stores: Seq::from_vec(vec![in alloc; store]?),
+        groups: Seq::from_vec(vec![in alloc; group]?),
+    })
+}
+
+/// The answer of the check as the tables above write it; None is want of memory.
+fn checked(alloc: Global, text: &str, tables: &Tables) -> Option<Result<u32, LayoutFault>> {
+    match check_layout(alloc, text.as_bytes(), tables) {
+        Ok(count) => Some(Ok(count)),
+        Err(LayoutError::Refused(fault)) => Some(Err(fault)),
+        Err(LayoutError::Memory) => None,
+    }
+}
+
+fn fault(code: Code, platform: u32, layer: u32, row: u32, key: u32) -> LayoutFault {
+    LayoutFault {
+        code,
+        platform,
+        layer,
+        row,
+        key,
+    }
+}
+
+#[test]
+fn layouts(rt: HostRuntime) -> Result<(), Fail> {
+    let alloc = rt.alloc();
+    let tables = tables(alloc)?;
+    for (text, wanted) in LAYOUTS {
+        let wanted = wanted.map_err(|place| fault(place.0, place.1, place.2, place.3, place.4));
+        assert_eq!(rt; checked(alloc, text, &tables), Some(wanted), "{text}");
+    }
+    for (keys, wanted) in ROWS {
+        let wanted = wanted.map_err(|place| fault(place.0, 2, 1, 1, place.1));
+        let text = row(alloc, keys)?;
+        assert_eq!(rt;
+            checked(alloc, text.as_str(), &tables),
+            Some(wanted),
+            "{keys}"
+        );
+    }
+    for (key, next, second, wanted) in SAMPLES {
+        let wanted = wanted.map_err(|place| fault(place.0, 1, place.1, place.2, place.3));
+        let text = sample(alloc, key, next, second)?;
+        assert_eq!(rt;
+            checked(alloc, text.as_str(), &tables),
+            Some(wanted),
+            "{key} {next} {second}"
+        );
+    }
+    let long = vec![in alloc; b' '; 4_194_305]?;
+    assert!(rt;
+        matches!(check_layout(alloc, long.as_slice(), &tables), Err(LayoutError::Refused(fault)) if fault.code == Code::T7)
+    );
+    Ok(())
+}
