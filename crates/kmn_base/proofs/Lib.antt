@@ -6,4 +6,5 @@ pub mod Spelling
 pub mod Faults
 pub mod StandingItems
 pub mod FirstFaults
+pub mod DecodedTexts
 pub mod WorkedRows

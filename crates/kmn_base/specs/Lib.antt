@@ -2,8 +2,10 @@ pub mod Answers
 pub mod Bytes
 pub mod Lending
 pub mod CodeTexts
+pub mod Digits
 pub mod Lists
 pub mod Names
 pub mod Rising
 pub mod Spelling
+pub mod Texts
 pub mod Laws

@@ -1,3 +1,7 @@
+/// The shift flags that a compiled key may have: control and alt of either side, shift, caps lock, no caps lock, and
+/// that it is a virtual key.
+pub const SHIFT_FLAGS: u16 = 0x437F;
+
 /// The key of a compiled rule.
 #[derive(Clone, Copy, Debug, PartialEq, Eq)]
 pub enum RuleKey {

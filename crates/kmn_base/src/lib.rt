@@ -2,13 +2,15 @@
 //!
 //! It stands on std and `thiserror` alone. `specs/Lists` has the words for the text before the caret (characters,
 //! window, soundness, put, take, reading again), `specs/Spelling` the one spelling of each item of a compiled string;
-//! `laws` says what holds of both. `specs/Names`, `specs/Bytes` and `specs/Rising` have the words for names, bytes and
-//! rising lists, and `specs/Answers` says what code answers that may refuse or want for memory. The layer above uses
-//! `Seq`, which contracts see as its list, `slices`, `names`, `bytes`, and plain data.
+//! `laws` says what holds of both. `specs/Names`, `specs/Bytes`, `specs/Digits`, `specs/Texts` and `specs/Rising` have
+//! the words for names, bytes, numbers in words, texts and rising lists, and `specs/Answers` says what code answers that
+//! may refuse or want for memory. The layer above uses `Seq`, which contracts see as its list, `slices`, `names`,
+//! `bytes`, `digits`, `texts`, and plain data.
 #![tactic(auto)]
 
 pub mod bytes;
 mod codes;
+pub mod digits;
 mod events;
 mod items;
 mod keys;
@@ -21,12 +23,13 @@ mod sequence;
 pub mod slices;
 #[cfg(test)]
 mod tests;
+pub mod texts;
 mod units;
 
 pub use codes::Code;
 pub use events::{Event, Outcome};
 pub use items::{Element, Item};
-pub use keys::{KeyPress, RuleKey};
+pub use keys::{KeyPress, RuleKey, SHIFT_FLAGS};
 pub use memory::Memory;
 pub use refusals::{CompileError, Refusal};
 pub use sequence::{Seq, Text};

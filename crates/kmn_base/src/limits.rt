@@ -20,6 +20,8 @@ pub const STORES: usize = 20_000;
 pub const GROUPS: usize = 1_000;
 /// Key records of a file.
 pub const RECORDS: usize = 100_000;
+/// Names of a keyboard's own keys: codes from 256 to 65,535.
+pub const KEY_NAMES: usize = 65_280;
 /// Deadkeys of a source.
 pub const DEADKEYS: usize = 5_000;
 /// Characters of a name in a source.

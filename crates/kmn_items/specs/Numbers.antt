@@ -1,9 +1,9 @@
 -- The numbers in words: characters in three bases, and offsets.
-use Rattle.std.specs.Prelude.{ℕ, ◌+◌, ◌*◌, min, Bool, false, ◌&&◌, ◌||◌, nat_eq, nat_le, if◌then◌else◌, List, [], ◌∷◌, length, drop, fold, Option, Some, None, is_some}
-use Rattle.std.specs.List.{list_all}
-use Rattle.std.specs.Char.{digit_value, is_digit}
+use Rattle.std.specs.Prelude.{ℕ, Bool, false, ◌&&◌, ◌||◌, nat_eq, nat_le, if◌then◌else◌, List, [], ◌∷◌, length, drop, Option, Some, None, is_some}
+use Rattle.std.specs.Char.{is_digit}
 use Rattle.std.specs.Str.{byte}
 use lib.Utf8.{scalar}
+use Rattle.kmn_base.specs.Digits.{are_digits, bounded_value}
 use Rattle.kmn_base.specs.declared.codes.Code.TheVariants.{L02, L04}
 use Rattle.kmn_items.specs.declared.syntax.Lead.{Lead}
 use Rattle.kmn_items.specs.declared.syntax.Lead.TheVariants as lead
@@ -34,14 +34,6 @@ is_number_word text = is_some (number_base text)
 abbrev pub number_digits : List ℕ → List ℕ
 number_digits text = if begins_digit 10 text then text else drop 1 text
 
--- a number with one more digit, or a bound where it is larger
-abbrev pub with_digit : ℕ → ℕ → ℕ → ℕ → ℕ
-with_digit bound base value digit = min (base * value + digit_value digit) bound
-
--- the number that digits write, or a bound where it is larger
-abbrev pub bounded_value : ℕ → ℕ → List ℕ → ℕ
-bounded_value bound base digits = fold (with_digit bound base) 0 digits
-
 -- what a code point is as an item: U+0000 and U+FFFF are no characters of a keyboard
 abbrev pub character_lead : ℕ → Lead
 character_lead c =
@@ -51,12 +43,12 @@ character_lead c =
 -- what digits of a base are as an item
 abbrev pub digits_lead : ℕ → List ℕ → Lead
 digits_lead base digits =
-    if list_all (λ b. is_digit b base) digits then character_lead (bounded_value 0x110000 base digits)
+    if are_digits base digits then character_lead (bounded_value 0x110000 base digits)
     else lead.Wrong L04
 
 -- whether a text is an offset: 1 to 9 decimal digits
 abbrev pub is_offset : List ℕ → Bool
-is_offset text = nat_le 1 (length text) && nat_le (length text) 9 && list_all (λ b. is_digit b 10) text
+is_offset text = nat_le 1 (length text) && nat_le (length text) 9 && are_digits 10 text
 
 -- the number of an offset, which has at most 9 digits
 abbrev pub offset_value : List ℕ → ℕ

@@ -1,8 +1,8 @@
 -- The tokens of a line with their texts, and what it means that code reads them.
-use Rattle.std.specs.Prelude.{ℕ, ◌-◌, Bool, true, false, ◌||◌, if◌then◌else◌, List, [], ◌∷◌, map, length, take, drop, chars, slice_get, unwrap_or, Option, Some, None, option_map, Result}
-use Rattle.std.specs.Str.{is_utf8}
+use Rattle.std.specs.Prelude.{ℕ, ◌-◌, Bool, true, false, ◌||◌, List, [], ◌∷◌, map, length, take, drop, slice_get, unwrap_or, Option, Some, None, option_map, Result}
 use Rattle.kmn_base.specs.declared.codes.Code.{Code}
 use Rattle.kmn_base.specs.Answers.{AnswersBy}
+use Rattle.kmn_base.specs.Texts.{decoded}
 use Rattle.kmn_lines.specs.declared.token.Token.{Token}
 use Rattle.kmn_lines.specs.declared.token.TokenKind.{TokenKind}
 use Rattle.kmn_lines.specs.declared.token.TokenKind.TheVariants as kind
@@ -84,10 +84,6 @@ begins_open (token ∷ tokens) = is_open token.kind
 -- the text between the quotes of a quoted token
 abbrev pub inside : List ℕ → List ℕ
 inside text = take (length text - 2) (drop 1 text)
-
--- the characters of a text in UTF-8
-abbrev pub decoded : List ℕ → List ℕ
-decoded bytes = if is_utf8 bytes then chars bytes else []
 
 -- the characters of a quoted token
 abbrev pub quoted : List ℕ → List ℕ

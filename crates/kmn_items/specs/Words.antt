@@ -1,7 +1,8 @@
 -- The words of the language: those that begin an item, names, and the words in a virtual key.
-use Rattle.std.specs.Prelude.{ℕ, Bool, false, ◌&&◌, ◌||◌, nat_le, nat_lt, nat_eq, if◌then◌else◌, List, [], ◌∷◌, length, take, drop, codes, count_by, Option, Some, is_some}
+use Rattle.std.specs.Prelude.{ℕ, Bool, false, ◌&&◌, ◌||◌, nat_le, nat_lt, nat_eq, if◌then◌else◌, List, [], ◌∷◌, length, take, drop, codes, Option, Some, is_some}
 use Rattle.std.specs.Str.{byte}
 use Rattle.kmn_base.specs.Names.{same_name, named_in}
+use Rattle.kmn_base.specs.Texts.{character_count}
 use Rattle.virtual_keys.specs.Dictionary.{name_chars}
 use Rattle.virtual_keys.specs.Keys.{key_code, shift_flag}
 use Rattle.kmn_items.specs.declared.syntax.ItemWord.{ItemWord}
@@ -27,10 +28,6 @@ abbrev pub item_word : List ℕ → Option ItemWord
 item_word text =
     if begins_with (byte "$") text then Some word.Dollar
     else named_in item_words text
-
--- how many characters a text has: the bytes that begin one
-abbrev pub character_count : List ℕ → ℕ
-character_count text = count_by (λ b. nat_lt b 128 || nat_le 192 b) text
 
 -- whether a name is that of a system store
 abbrev pub is_system_name : List ℕ → Bool

@@ -1,10 +1,9 @@
-ghost use Rattle.std.specs.Prelude.{◌≡◌, ◌≤◌, IfSome, ◌<◌, ◌^◌, length};
-ghost use Rattle.std.specs.List.{list_all};
-ghost use Rattle.std.specs.Char.{digit_value, is_digit};
-ghost use Rattle.kmn_items.specs.Numbers.{begins_digit, is_prefixed, number_base, is_number_word, number_digits, with_digit, bounded_value, character_lead, digits_lead, is_offset, offset_value};
+ghost use Rattle.std.specs.Prelude.{◌≡◌, ◌≤◌, IfSome};
+ghost use Rattle.kmn_items.specs.Numbers.{begins_digit, is_prefixed, number_base, is_number_word, number_digits, character_lead, digits_lead, is_offset, offset_value};
 
 use crate::syntax::Lead;
 use kmn_base::Code;
+use kmn_base::digits::{are_digits, bounded_value, is_digit};
 use kmn_base::slices::behind;
 
 /// More than any character's code.
@@ -12,15 +11,6 @@ const NO_CHARACTER: u32 = 0x11_0000;
 
 /// The largest number of nine digits.
 const LARGEST_OFFSET: u32 = 999_999_999;
-
-/// Whether a byte is a digit of a base.
-fn is_digit(byte: u8, base: u32) -> bool
-    requires least { 2 ≤ base }
-    requires most { base ≤ 16 }
-    ensures { result ≡ is_digit byte base }
-{
-    char::from(byte).is_digit(base)
-}
 
 /// Whether a text begins with a digit of a base.
 fn begins_digit(base: u32, text: &[u8]) -> bool
@@ -81,40 +71,6 @@ pub(crate) fn number_digits(text: &[u8]) -> &[u8]
     }
 }
 
-/// The value of a digit or a letter, 36 for any other byte.
-fn digit_value(byte: u8) -> u32
-    ensures value { result ≡ digit_value byte }
-    ensures most { result ≤ 36 }
-{
-    match byte {
-        b'0'..=b'9' => u32::from(byte) - 48,
-        b'A'..=b'Z' => u32::from(byte) - 55,
-        b'a'..=b'z' => u32::from(byte) - 87,
-        _ => 36,
-    }
-}
-
-/// The number with one more digit, or a bound where it is larger.
-fn with_digit(bound: u32, base: u32, value: u32, byte: u8) -> u32
-    requires { base ≤ 16 }
-    ensures value { result ≡ with_digit bound base value byte }
-{
-    let larger = u64::from(base) * u64::from(value) + u64::from(digit_value(byte));
-    larger.min(u64::from(bound)) as u32
-}
-
-/// The number that digits write, or a bound where it is larger.
-fn bounded_value(bound: u32, base: u32, digits: &[u8]) -> u32
-    requires { base ≤ 16 }
-    ensures { result ≡ bounded_value bound base digits.now }
-{
-    let mut value = 0;
-    for digit in digits {
-        value = with_digit(bound, base, value, *digit);
-    }
-    value
-}
-
 /// What a code point is as an item.
 fn character_lead(code: u32) -> Lead
     ensures { result ≡ character_lead code }
@@ -126,15 +82,6 @@ fn character_lead(code: u32) -> Lead
         Some(c) => Lead::One(c),
         None => Lead::Wrong(Code::L04),
     }
-}
-
-/// Whether all bytes are digits of a base.
-fn are_digits(base: u32, digits: &[u8]) -> bool
-    requires least { 2 ≤ base }
-    requires most { base ≤ 16 }
-    ensures { result ≡ list_all (λ b. is_digit b base) digits.now }
-{
-    digits.iter().all(|byte| is_digit(*byte, base))
 }
 
 /// What digits of a base are as an item.

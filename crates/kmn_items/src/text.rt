@@ -1,7 +1,8 @@
-ghost use Rattle.std.specs.Prelude.{◌≡◌, IfOk, chars};
+ghost use Rattle.std.specs.Prelude.{◌≡◌, IfOk};
 ghost use Rattle.kmn_items.specs.TokenTexts.{text_of, text_at, texts, is_wordy, begins_open, inside, quoted};
 
 use kmn_base::slices::{before, behind};
+use kmn_base::texts::decoded;
 use kmn_base::{Memory, Seq, Text};
 use kmn_lines::{Token, TokenKind};
 use std::alloc::Global;
@@ -106,20 +107,9 @@ fn inside(text: &[u8]) -> &[u8]
     before(behind(text, 1), text.len() - 2)
 }
 
-/// The characters of a text.
-fn characters(alloc: Global, text: &str) -> Result<Seq<char>, Memory>
-    ensures { IfOk result (λ characters. characters ≡ chars text.now) }
-{
-    Ok(Seq::from_vec(text.chars().collect(alloc)?))
-}
-
 /// The characters of a quoted token.
-#[tactic(auto, using(crate::proofs::TextLemmas::decoded_text, crate::proofs::TextLemmas::decoded_other))]
 pub(crate) fn quoted(alloc: Global, text: &[u8]) -> Result<Seq<char>, Memory>
     ensures { IfOk result (λ characters. characters ≡ quoted text.now) }
 {
-    match str::from_utf8(inside(text)) {
-        Ok(text) => characters(alloc, text),
-        Err(_) => Ok(Seq::new(alloc)),
-    }
+    decoded(alloc, inside(text))
 }

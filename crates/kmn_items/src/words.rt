@@ -1,11 +1,12 @@
 ghost use Rattle.std.specs.Prelude.{◌≡◌};
 ghost use Rattle.kmn_base.specs.Names.{named_in};
-ghost use Rattle.kmn_items.specs.Words.{item_words, item_word, begins_with, character_count, is_system_name, bare_name, is_name, is_touch_name, is_own_key, is_key_name, is_modifier};
+ghost use Rattle.kmn_items.specs.Words.{item_words, item_word, begins_with, is_system_name, bare_name, is_name, is_touch_name, is_own_key, is_key_name, is_modifier};
 
 use crate::syntax::ItemWord;
 use kmn_base::limits::SOURCE_NAME_CHARS;
 use kmn_base::names::{named_in, same_name};
 use kmn_base::slices::{before, behind};
+use kmn_base::texts::character_count;
 use virtual_keys::{key_named, modifier_named, named_chars};
 
 static ITEM_WORDS: [(&str, ItemWord); 22] = [
@@ -59,15 +60,6 @@ pub fn item_word(text: &[u8]) -> Option<ItemWord>
         return Some(ItemWord::Dollar);
     }
     listed_word(text)
-}
-
-/// How many characters a text has.
-fn character_count(text: &[u8]) -> usize
-    ensures { result ≡ character_count text.now }
-{
-    text.iter()
-        .filter(|byte| **byte < 128 || 192 <= **byte)
-        .count()
 }
 
 /// Whether a name is that of a system store.

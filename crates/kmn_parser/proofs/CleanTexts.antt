@@ -9,7 +9,7 @@ use Rattle.std.proofs.lemmas.List.Sums.{sum_by-append}
 use Rattle.std.proofs.lemmas.Str.{encodes-chars, scalars-chars}
 use lib.Utf8.{scalar, scalars, encode, encodes}
 use Rattle.kmn_lines.specs.Tokens.{begins_forbidden, has_forbidden}
-use Rattle.kmn_items.specs.Words.{character_count}
+use Rattle.kmn_base.specs.Texts.{character_count}
 use Rattle.kmn_parser.specs.ProgramLaws.{IsCharacter}
 
 -- the bytes of U+FFFF

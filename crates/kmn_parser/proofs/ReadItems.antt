@@ -29,7 +29,8 @@ use Rattle.kmn_items.specs.declared.syntax.Taken.{Taken}
 use Rattle.kmn_base.specs.Answers.{and_then}
 use Rattle.kmn_items.specs.TokenTexts.{LineToken, fault, text_at, inside, quoted, begins_open, is_word}
 use Rattle.kmn_items.specs.Words.{is_system_name, item_word, is_key_name}
-use Rattle.kmn_items.specs.Numbers.{character_lead, digits_lead, number_base, number_digits, bounded_value}
+use Rattle.kmn_items.specs.Numbers.{character_lead, digits_lead, number_base, number_digits}
+use Rattle.kmn_base.specs.Digits.{bounded_value}
 use Rattle.kmn_items.specs.Slots.{unless, or_fault, broken}
 use Rattle.kmn_items.specs.Leads.{named_lead, word_lead, token_lead, lead_of}
 use Rattle.kmn_items.specs.Standing.{standing_code, is_crowded}

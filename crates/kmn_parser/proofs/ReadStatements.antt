@@ -23,7 +23,8 @@ use Rattle.kmn_parser.specs.declared.statement.Statement.{Statement}
 use Rattle.kmn_parser.specs.declared.statement.Statement.TheVariants as statement
 use Rattle.kmn_base.specs.Answers.{and_then}
 use Rattle.kmn_items.specs.TokenTexts.{LineToken, fault, text_at, begins_open, is_wordy}
-use Rattle.kmn_items.specs.Words.{character_count, is_system_name, bare_name, is_name}
+use Rattle.kmn_items.specs.Words.{is_system_name, bare_name, is_name}
+use Rattle.kmn_base.specs.Texts.{character_count}
 use Rattle.kmn_items.specs.Slots.{unless, broken}
 use Rattle.kmn_items.specs.Item.{unseen, read_items, read_key}
 use Rattle.kmn_parser.specs.Line.{place_of, begins_word, is_none_left, checked, first_of, behind_close, system_stores, store_system, store_form, store_fault, store_def, read_store, begin_head, begin_fault, read_begin, group_head, group_fault, read_group, no_group, no_output, match_fault, read_match, begins_rule, uses_keys, rule_head, rule_key, rule_body, earliest, rule_at, read_rule, read_tokens, read_line}

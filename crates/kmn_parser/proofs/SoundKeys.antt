@@ -13,7 +13,8 @@ use Rattle.virtual_keys.specs.Keys.{key_codes, shift_flags, key_code, shift_flag
 use Rattle.kmn_lines.specs.declared.token.TokenKind.{TokenKind}
 use Rattle.kmn_lines.specs.declared.token.TokenKind.TheVariants as kind
 use Rattle.kmn_items.specs.TokenTexts.{LineToken, is_word}
-use Rattle.kmn_items.specs.Words.{character_count, is_touch_name, is_own_key, is_key_name}
+use Rattle.kmn_items.specs.Words.{is_touch_name, is_own_key, is_key_name}
+use Rattle.kmn_base.specs.Texts.{character_count}
 use Rattle.kmn_items.specs.Brackets.{flag_of, with_flag, flags_of, named_key}
 use Rattle.kmn_parser.specs.ProgramLaws.{IsOwnKey, IsReadKey}
 use Rattle.kmn_parser.proofs.CleanTexts.{clean-characters, counted-characters}

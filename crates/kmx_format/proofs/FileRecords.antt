@@ -10,7 +10,8 @@ use Rattle.rule_model.specs.declared.tables.Store.{Store}
 use Rattle.kmx_format.specs.FileUnits.{element_units, pattern_units, output_units, name_units}
 use Rattle.kmx_format.specs.File.{half, words, string, offset_of, store_strings, rule_strings, store_record, store_records, key_code, key_flags, rule_record, rule_records}
 use Rattle.kmx_format.specs.TablesOf.{half_at, word_at, name_at, elements_at, patterns_at, outputs_at, store_at, stores_from, key_of, rule_at, rules_from, rule_without_place}
-use Rattle.kmx_format.specs.Writable.{IsWritableStore, IsWritableKey, IsWritableRule, all_shift_flags}
+use Rattle.kmx_format.specs.Writable.{IsWritableStore, IsWritableKey, IsWritableRule}
+use Rattle.kmn_base.specs.declared.keys.TheConstants.{SHIFT_FLAGS}
 use Rattle.kmx_format.proofs.FileStands.{StandsAt, front, back, same_place, length-half, length-words, half_at-stands, first_word_at, nth_word_at}
 use Rattle.kmx_format.proofs.FileContents.{elements_at-stands, patterns_at-stands, outputs_at-stands, name_at-stands}
 
@@ -81,7 +82,7 @@ key_flags-small false (Char unit) h = absurd h
 key_flags-small false (Virtual flags code) h = absurd h
 key_flags-small true Any h = absurd h
 key_flags-small true (Char unit) h = lit< tt
-key_flags-small true (Virtual flags code) h = omega (arith, and_le_r flags all_shift_flags, h.1)
+key_flags-small true (Virtual flags code) h = omega (arith, and_le_r flags SHIFT_FLAGS, h.1)
 
 pub length-rule_record : (place : ℕ) (rule : Rule) → length (rule_record place rule) ≡ 20
 length-rule_record place rule =

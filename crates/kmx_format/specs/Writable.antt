@@ -2,6 +2,7 @@
 use Rattle.std.specs.Prelude.{◌≡◌, ◌≢◌, ℕ, zero, suc, ◌^◌, ◌<◌, ◌≤◌, ◌⊎◌, Bool, true, false, nat_eq, bit_and, List, [], ◌∷◌, length, take, slice_get, slice_index_or, IsSomeAnd}
 use Rattle.std.specs.List.{All, flat_map, list_any}
 use Rattle.std.specs.Str.{IsUtf8, chars}
+use Rattle.kmn_base.specs.declared.keys.TheConstants.{SHIFT_FLAGS}
 use Rattle.kmn_base.specs.declared.limits.TheConstants.{FILE_NAME_UNITS, STORE_ELEMENTS, CONTEXT_ITEMS, OUTPUT_ITEMS, STORES, GROUPS, RECORDS, ALL_ELEMENTS, PICTURE_BYTES, FILE_BYTES}
 use Rattle.kmn_base.specs.declared.items.Element.{Element}
 use Rattle.kmn_base.specs.declared.keys.RuleKey.{RuleKey}
@@ -107,10 +108,6 @@ pub record IsWritableOutput (store_count group_count : ℕ) (output : List Out) 
   pub groups : All (λ group. group < group_count) (flat_map groups_of_output output)
   pub item_count : length output ≤ OUTPUT_ITEMS
 
--- the shift flags that a virtual key may have: control, alt, shift, caps lock, and that it is a virtual key
-abbrev pub all_shift_flags : ℕ
-all_shift_flags = 0x437F
-
 -- a key is `Any` exactly in a group without keys, and a virtual key has known flags
 abbrev pub IsWritableKey : Bool → RuleKey → Type 0
 IsWritableKey false key.Any = Unit {0}
@@ -118,7 +115,7 @@ IsWritableKey false (key.Char unit) = ⊥
 IsWritableKey false (key.Virtual flags code) = ⊥
 IsWritableKey true key.Any = ⊥
 IsWritableKey true (key.Char unit) = unit < 2 ^ 16
-IsWritableKey true (key.Virtual flags code) = (flags ≢ 0) × (bit_and flags all_shift_flags ≡ flags) × (code < 2 ^ 16)
+IsWritableKey true (key.Virtual flags code) = (flags ≢ 0) × (bit_and flags SHIFT_FLAGS ≡ flags) × (code < 2 ^ 16)
 
 -- a key record of a group that uses keys or doesn't
 pub record IsWritableRule (store_count group_count : ℕ) (using_keys : Bool) (rule : Rule) : Type 0 where

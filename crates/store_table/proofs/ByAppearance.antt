@@ -16,7 +16,8 @@ use Rattle.rule_model.specs.Naming.{names_of, stores_of, source_items, items_fro
 use Rattle.store_table.specs.declared.appearing.Appeared.{Appeared}
 use Rattle.store_table.specs.declared.stating.Stated.{Stated}
 use Rattle.store_table.specs.Names.{group_names, names_refusal, stated}
-use Rattle.store_table.specs.Numbering.{KEY_NAMES, lists_of, or_refusal, numbered, none_appeared, with_marks, with_key, with_keys, with_item, with_items}
+use Rattle.kmn_base.specs.declared.limits.TheConstants.{KEY_NAMES}
+use Rattle.store_table.specs.Numbering.{lists_of, or_refusal, numbered, none_appeared, with_marks, with_key, with_keys, with_item, with_items}
 use Rattle.store_table.proofs.Naming.{names_of_stores, with_name_new}
 
 pub items_append : (appeared : Appeared) (xs ys : List SrcItem) → with_items appeared (xs ++ ys) ≡ with_items (with_items appeared xs) ys

@@ -1,5 +1,6 @@
 -- The numbers that a program's names get in its file, as far as there are numbers.
 use Rattle.std.specs.Prelude.{ℕ, ◌+◌, ◌^◌, nat_lt, nat_le, if◌then◌else◌, List, [], ◌∷◌, length, map, take, Option, None, Some, option_map, Result, Ok, Err}
+use Rattle.kmn_base.specs.declared.limits.TheConstants.{KEY_NAMES}
 use Rattle.kmn_base.specs.declared.refusals.Refusal.{Refusal}
 use Rattle.virtual_keys.specs.Dictionary.{place_in, with_name}
 use Rattle.rule_model.specs.declared.program.SrcItem.{SrcItem}
@@ -15,10 +16,6 @@ pub record NameLists : Type 0 where
   pub groups : List (List ℕ)
   pub marks : List (List ℕ)
   pub keys : List (List ℕ)
-
--- how many names of keys have a code
-abbrev pub KEY_NAMES : ℕ
-KEY_NAMES = 65280
 
 -- stores and groups in the order of the file, marks and key names by first appearance; of key names as many as have a
 -- code

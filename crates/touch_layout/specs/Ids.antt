@@ -1,5 +1,5 @@
 -- Which ids a key of a layout can have, and which of them a keyboard has a record for.
-use Rattle.std.specs.Prelude.{ℕ, Bool, true, false, ◌&&◌, ◌||◌, not, nat_eq, nat_lt, nat_le, List, [], ◌∷◌, length, take, codes, count_by, is_some, ◌==◌}
+use Rattle.std.specs.Prelude.{ℕ, Bool, true, false, ◌&&◌, ◌||◌, not, nat_eq, nat_lt, nat_le, List, [], ◌∷◌, length, take, codes, is_some, ◌==◌}
 use Rattle.std.specs.Option.{option_map_or}
 use Rattle.std.specs.List.{list_any, list_all, starts_with}
 use Rattle.std.specs.Str.{byte}
@@ -7,6 +7,7 @@ use Rattle.kmn_base.specs.declared.keys.RuleKey.{RuleKey}
 use Rattle.kmn_base.specs.declared.keys.RuleKey.TheVariants.{Any, Char, Virtual}
 use Rattle.kmn_base.specs.declared.limits.TheConstants.{SOURCE_NAME_CHARS}
 use Rattle.kmn_base.specs.Names.{same_name}
+use Rattle.kmn_base.specs.Texts.{character_count}
 use Rattle.virtual_keys.specs.Dictionary.{name_chars, name_in}
 use Rattle.virtual_keys.specs.Keys.{key_code}
 use Rattle.rule_model.specs.declared.tables.Rule.{Rule}
@@ -37,10 +38,6 @@ begins_with_sentinel text = starts_with (λ a b. a == b) text (0xEF ∷ 0xBF ∷
 abbrev pub has_sentinel : List ℕ → Bool
 has_sentinel [] = false
 has_sentinel (b ∷ bytes) = begins_with_sentinel (b ∷ bytes) || has_sentinel bytes
-
--- how many characters a text has: the bytes that begin one
-abbrev pub character_count : List ℕ → ℕ
-character_count text = count_by (λ b. nat_lt b 128 || nat_le 192 b) text
 
 -- whether an id is T_ and at least one more character, of at most 80, each of which a word can have
 abbrev pub is_touch_name : List ℕ → Bool

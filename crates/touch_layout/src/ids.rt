@@ -3,11 +3,12 @@
 ghost use Rattle.std.specs.Prelude.{◌≡◌, map};
 ghost use Rattle.std.specs.List.{list_any, list_all};
 ghost use Rattle.kmn_base.specs.Names.{same_name};
-ghost use Rattle.touch_layout.specs.Ids.{layout_names, is_word_byte, has_sentinel, character_count, is_touch_name, is_key_id};
+ghost use Rattle.touch_layout.specs.Ids.{layout_names, is_word_byte, has_sentinel, is_touch_name, is_key_id};
 
 use kmn_base::limits::SOURCE_NAME_CHARS;
 use kmn_base::names::same_name;
 use kmn_base::slices::{before, behind};
+use kmn_base::texts::character_count;
 use virtual_keys::{key_named, named_chars};
 
 /// The names of keys that a layout can have and a source can't. The list is our own choice.
@@ -106,15 +107,6 @@ fn has_sentinel(text: &[u8]) -> bool
         }
     }
     false
-}
-
-/// How many characters a text has.
-fn character_count(text: &[u8]) -> usize
-    ensures { result ≡ character_count text.now }
-{
-    text.iter()
-        .filter(|byte| **byte < 128 || 192 <= **byte)
-        .count()
 }
 
 /// Whether an id is a T_ name.

@@ -5,15 +5,13 @@ ghost use Rattle.virtual_keys.specs.Entries.{written, AreEntries};
 
 use indexmap::IndexMap;
 use kmn_base::Memory;
+use kmn_base::limits::KEY_NAMES;
 use kmn_base::names::same_name;
 use std::alloc::Global;
 use std::marker::Model;
 
 /// The code of a dictionary's first name. Codes below are those of the keys that every keyboard has.
 const FIRST_CODE: u16 = 256;
-
-/// How many names a dictionary can have.
-const NAMES: usize = 65_280;
 
 /// Names of at most so many bytes, as all of 80 characters are, are looked up by hash. A longer one, which only files
 /// have, is compared with each, since a look-up takes no memory and so folds a name in a buffer.
@@ -51,15 +49,15 @@ impl KeyDictionary {
 
     /// Whether no further name can be added: each code has 16 bits.
     pub fn is_full(&self) -> bool
-        ensures { result ≡ nat_le NAMES (length self.now) }
+        ensures { result ≡ nat_le KEY_NAMES (length self.now) }
     {
-        self.names.len() >= NAMES
+        self.names.len() >= KEY_NAMES
     }
 
     /// Adds a name where no name is the same, and answers the code of the name.
     #[tactic(auto, unfolding(crate::specs::Dictionary::code_in))]
     pub fn add(&mut self, name: &[u8]) -> Result<u16, Memory>
-        requires { length self.old < NAMES }
+        requires { length self.old < KEY_NAMES }
         ensures names { MatchResult result (λ code. (self.new ≡ with_name self.old name.now) × (code_in self.new name.now ≡ Some code)) (λ _. self.new ≡ self.old) }
         ensures distinct { AreDistinct self.new }
         ensures grows { length self.new ≤ length self.old + 1 }
@@ -92,11 +90,11 @@ impl KeyDictionary {
 
     /// Appends a new name, and answers its place.
     fn append(&mut self, name: &[u8]) -> Result<usize, Memory>
-        requires room { length self.old < NAMES }
+        requires room { length self.old < KEY_NAMES }
         requires new { place_in self.old name.now ≡ None }
         ensures names { MatchResult result (λ place. self.new ≡ self.old ++ name.now ∷ []) (λ _. self.new ≡ self.old) }
         ensures place { IfOk result (λ place. place_in self.new name.now ≡ Some place) }
-        ensures few { IfOk result (λ place. place < NAMES) }
+        ensures few { IfOk result (λ place. place < KEY_NAMES) }
         ensures distinct { AreDistinct self.new }
     {
         let written = Vec::from_slice(self.alloc, name)?;
@@ -109,7 +107,7 @@ impl KeyDictionary {
     /// The place of a name.
     fn place_of(&self, name: &[u8]) -> Option<usize>
         ensures place { result ≡ place_in self.now name.now }
-        ensures few { IfSome result (λ place. place < NAMES) }
+        ensures few { IfSome result (λ place. place < KEY_NAMES) }
         ensures distinct { AreDistinct self.now }
     {
         if name.len() > HASHED_BYTES {

@@ -1,0 +1,35 @@
+//! Texts in UTF-8 and their characters.
+
+ghost use Rattle.std.specs.Prelude.{◌≡◌, IfOk, chars};
+ghost use Rattle.kmn_base.specs.Texts.{character_count, decoded};
+
+use crate::memory::Memory;
+use crate::sequence::Seq;
+use std::alloc::Global;
+
+/// How many characters a text has.
+pub fn character_count(text: &[u8]) -> usize
+    ensures { result ≡ character_count text.now }
+{
+    text.iter()
+        .filter(|byte| **byte < 128 || 192 <= **byte)
+        .count()
+}
+
+/// The characters of a text.
+fn characters(alloc: Global, text: &str) -> Result<Seq<char>, Memory>
+    ensures { IfOk result (λ characters. characters ≡ chars text.now) }
+{
+    Ok(Seq::from_vec(text.chars().collect(alloc)?))
+}
+
+/// The characters of a text in UTF-8; none where it isn't UTF-8.
+#[tactic(auto, using(crate::proofs::DecodedTexts::decoded_text, crate::proofs::DecodedTexts::decoded_other))]
+pub fn decoded(alloc: Global, text: &[u8]) -> Result<Seq<char>, Memory>
+    ensures { IfOk result (λ characters. characters ≡ decoded text.now) }
+{
+    match str::from_utf8(text) {
+        Ok(text) => characters(alloc, text),
+        Err(_) => Ok(Seq::new(alloc)),
+    }
+}
