@@ -1,0 +1,11 @@
+//! The records of compiled tables in order.
+//!
+//! It stands on `kmn_base`, `rule_model` and, for the order, on `compile_laws`. `specs/Order` says what tables in order
+//! are. The layer above calls `order`, which takes no memory and refuses nothing.
+#![tactic(auto)]
+
+mod ordering;
+#[cfg(test)]
+mod tests;
+
+pub use ordering::order;
