@@ -1,1 +1,2 @@
 mod Moves
+pub mod Places

@@ -1,5 +1,5 @@
 -- What contracts see of an editor, and what a passed key makes of its text.
-use Rattle.std.specs.Prelude.{ℕ, List, if◌then◌else◌}
+use Rattle.std.specs.Prelude.{◌≡◌, ℕ, List, ◌++◌, take, drop, if◌then◌else◌}
 use Rattle.kmn_base.specs.declared.keys.KeyPress.{KeyPress}
 use Rattle.virtual_keys.specs.Fits.{is_plain}
 use Rattle.rule_model.specs.Event.{editor_left, editor_right}
@@ -9,6 +9,20 @@ pub record EditorText : Type 0 where
   pub left : List ℕ
   pub right : List ℕ
   pub spare : ℕ
+
+-- the whole text
+abbrev pub whole : EditorText → List ℕ
+whole editor = editor.left ++ editor.right
+
+-- a text with the caret at a place of it
+pub record IsAt (text : List ℕ) (caret : ℕ) (editor : EditorText) : Type 0 where
+  pub left : editor.left ≡ take caret text
+  pub right : editor.right ≡ drop caret text
+
+-- an editor has another one's text, with its caret; the spare room isn't meant
+pub record HasTextOf (other editor : EditorText) : Type 0 where
+  pub left : editor.left ≡ other.left
+  pub right : editor.right ≡ other.right
 
 -- the text before the caret after a passed key, which does something only without control and alt
 abbrev pub left_after : KeyPress → List ℕ → List ℕ → List ℕ

@@ -1,7 +1,11 @@
-ghost use Rattle.std.specs.Prelude.{◌≡◌, ◌+◌, ◌-◌, ◌≤◌, ◌<◌, [], ◌∷◌, ◌++◌, length, take, drop, OnOk, IfOk};
+ghost use Rattle.std.specs.Prelude.{◌≡◌, ◌≢◌, ◌+◌, ◌-◌, ◌^◌, ◌≤◌, ◌<◌, [], ◌∷◌, ◌++◌, length, take, drop, Err, OnOk, IfOk};
 ghost use Rattle.kmn_base.specs.Lists.{without_last};
-ghost use Rattle.editor_model.specs.Text.{left_after, right_after};
+ghost use Rattle.rule_model.specs.Event.{edit_refusal, edited_text, moved_caret};
+ghost use Rattle.editor_model.specs.Text.{whole, IsAt, left_after, right_after};
+ghost use Rattle.editor_model.specs.Answers.{caret_refusal, IsAnswerTo, Becomes};
 
+use crate::error::EditError;
+use kmn_base::limits::TEXT_CHARS;
 use kmn_base::{KeyPress, Memory};
 use std::alloc::Global;
 use std::marker::Model;
@@ -119,6 +123,91 @@ impl Editor {
         }
     }
 
+    /// Moves the caret to a place of the text, which it takes no memory for. `Place` comes exactly where the place is past
+    /// the text.
+    pub fn caret(&mut self, n: u32) -> Result<(), EditError>
+        ensures answer { IsAnswerTo (caret_refusal n (length (whole self.old))) result }
+        ensures no_memory { result ≢ Err EditError.Memory }
+        ensures becomes { Becomes (whole self.old) n self.old self.new result }
+    {
+        if n as usize > self.len() {
+            return Err(EditError::Place);
+        }
+        self.go(n as usize);
+        Ok(())
+    }
+
+    /// Whether an edit of the places `from` to `to`, which puts so many characters there, is refused.
+    pub fn try_edit(&self, from: u32, to: u32, count: usize) -> Result<(), EditError>
+        ensures answer { IsAnswerTo (edit_refusal from to count (length (whole self.now))) result }
+        ensures no_memory { result ≢ Err EditError.Memory }
+    {
+        if to < from || to as usize > self.len() {
+            return Err(EditError::Place);
+        }
+        let kept = self.len() - (to - from) as usize;
+        if kept > TEXT_CHARS || count > TEXT_CHARS - kept {
+            return Err(EditError::Length);
+        }
+        Ok(())
+    }
+
+    /// Replaces the characters from the place `from` to the place `to`. A caret up to `from` stays, one behind `to` keeps
+    /// its characters, and one between them goes behind the new ones. `Place` comes exactly where `to` is before `from` or
+    /// past the text, else `Length` where the text would have more than 1,000,000 characters.
+    pub fn edit(
+        &mut self,
+        alloc: Global,
+        from: u32,
+        to: u32,
+        text: &[char],
+    ) -> Result<(), EditError>
+        ensures answer { IsAnswerTo (edit_refusal from to (length text.now) (length (whole self.old))) result }
+        ensures becomes { Becomes (edited_text from to text.now (whole self.old))
+            (moved_caret from to (length text.now) (length self.old.left)) self.old self.new result }
+    {
+        self.try_edit(from, to, text.len())?;
+        self.reserve(alloc, text.len())?;
+        let caret = moved_caret(from as usize, to as usize, text.len(), self.left().len());
+        self.replace(from, to, text);
+        self.go(caret);
+        Ok(())
+    }
+
+    /// Replaces the characters from one place to another, and leaves the caret behind the new ones.
+    #[tactic(auto, using(crate::proofs::Places::replaced))]
+    fn replace(&mut self, from: u32, to: u32, text: &[char])
+        requires ordered { from ≤ to }
+        requires within { to ≤ length (whole self.old) }
+        requires room { length text.now ≤ self.old.spare }
+        ensures { IsAt (edited_text from to text.now (whole self.old)) (from + length text.now) self.new }
+    {
+        self.go(to as usize);
+        self.apply(to - from, text);
+    }
+
+    /// How many characters the whole text has.
+    fn len(&self) -> usize
+        ensures { result ≡ length (whole self.now) }
+    {
+        self.start + (self.cells.len() - self.end)
+    }
+
+    /// Moves the caret to a place of the text.
+    #[tactic(auto, using(crate::proofs::Places::place_steps))]
+    fn go(&mut self, place: usize)
+        requires { place ≤ length (whole self.old) }
+        ensures at { IsAt (whole self.old) place self.new }
+        ensures room { self.new.spare ≡ self.old.spare }
+    {
+        let caret = self.left().len();
+        if place <= caret {
+            self.back(caret - place);
+        } else {
+            self.forth(place - caret);
+        }
+    }
+
     /// Moves the caret towards the start of the text.
     #[tactic(auto, using(crate::proofs::Moves::left_after_back, crate::proofs::Moves::right_after_back))]
     fn back(&mut self, n: usize)
@@ -158,6 +247,22 @@ impl Editor {
         if self.end < self.cells.len() {
             self.end += 1;
         }
+    }
+}
+
+/// Where a caret is after the characters from one place to another were replaced by so many.
+fn moved_caret(from: usize, to: usize, count: usize, caret: usize) -> usize
+    requires ordered { from ≤ to }
+    requires count { from + count < 2 ^ 62 }
+    requires caret { caret < 2 ^ 62 }
+    ensures { result ≡ moved_caret from to count caret }
+{
+    if caret <= from {
+        caret
+    } else if caret < to {
+        from + count
+    } else {
+        caret - to + from + count
     }
 }
 
