@@ -1,5 +1,5 @@
 -- Which refusal of statements is the first: by line, then by reading order in the line, then by code.
-use Rattle.std.specs.Prelude.{ℕ, nat_lt, Bool, if◌then◌else◌, List, [], ◌∷◌, ◌++◌, Option, None, Some}
+use Rattle.std.specs.Prelude.{ℕ, nat_lt, Bool, if◌then◌else◌, List, [], ◌∷◌, ◌++◌, Option, None, Some, Result, Ok, Err}
 use Rattle.kmn_base.specs.declared.codes.Code.{Code}
 use Rattle.kmn_base.specs.declared.refusals.Refusal.{Refusal}
 
@@ -34,3 +34,8 @@ abbrev pub first_of : {X : Type 0} → (List X → X → Option Refusal) → Lis
 first_of refusal before [] = None
 first_of refusal before (statement ∷ statements) =
     earlier (refusal before statement) (first_of refusal (before ++ statement ∷ []) statements)
+
+-- what is answered for a value that may be refused
+abbrev pub or_refusal : {A : Type 0} → A → Option Refusal → Result A Refusal
+or_refusal value None = Ok value
+or_refusal value (Some refusal) = Err refusal

@@ -1,5 +1,5 @@
 -- The numbers that a program's names get in its file, as far as there are numbers.
-use Rattle.std.specs.Prelude.{ℕ, ◌+◌, ◌^◌, nat_lt, nat_le, if◌then◌else◌, List, [], ◌∷◌, length, map, take, Option, None, Some, option_map, Result, Ok, Err}
+use Rattle.std.specs.Prelude.{ℕ, ◌+◌, ◌^◌, nat_lt, nat_le, if◌then◌else◌, List, [], ◌∷◌, length, map, take, Option, None, Some, option_map, Result}
 use Rattle.kmn_base.specs.declared.limits.TheConstants.{KEY_NAMES}
 use Rattle.kmn_base.specs.declared.refusals.Refusal.{Refusal}
 use Rattle.virtual_keys.specs.Dictionary.{place_in, with_name}
@@ -8,6 +8,7 @@ use Rattle.rule_model.specs.declared.program.Program.{Program}
 use Rattle.rule_model.specs.declared.tables.Store.{Store}
 use Rattle.rule_model.specs.Naming.{names_of, stores_of, mark_names, key_names}
 use Rattle.store_table.specs.declared.appearing.Appeared.{Appeared}
+use Rattle.store_table.specs.First.{or_refusal}
 use Rattle.store_table.specs.Names.{group_names, names_refusal}
 
 -- the names of a program, each list in the order of its numbers
@@ -29,10 +30,6 @@ lists_of program =
     }
 
 -- the names of a program, or its first refusal for names
-abbrev pub or_refusal : NameLists → Option Refusal → Result NameLists Refusal
-or_refusal lists None = Ok lists
-or_refusal lists (Some refusal) = Err refusal
-
 abbrev pub numbered : Program → Result NameLists Refusal
 numbered program = or_refusal (lists_of program) (names_refusal program)
 

@@ -2,7 +2,8 @@
 //!
 //! It stands on `kmn_base`, `virtual_keys`, `rule_model` and `indexmap`. `specs/Names` says which refusal for names is
 //! the first (`names_refusal`), by the words of `specs/First`, and `specs/Numbering` which numbers names get. The layer
-//! above calls `number`, which answers `numbered` of a program, and looks names up in the `Names` that it gives.
+//! above calls `number`, which answers `numbered` of a program, and looks names up in the `Names` that it gives. The
+//! checker above says its own refusals by the words of `specs/First` too, and takes `earlier` and `at_line` for them.
 #![tactic(auto)]
 
 mod appearing;
@@ -14,5 +15,7 @@ mod stating;
 #[cfg(test)]
 mod tests;
 
+pub use first::{at_line, earlier};
 pub use name_table::NameTable;
 pub use names::{Names, number};
+pub use stating::DROPPED;

@@ -9,7 +9,7 @@ use rule_model::{GroupDef, Program, StoreDef};
 use std::alloc::Global;
 
 /// The system id of a store statement that is read and dropped.
-const DROPPED: u32 = 0xFFFF;
+pub const DROPPED: u32 = 0xFFFF;
 
 /// The names of all stores and groups that a program states, in their order.
 #[derive(Drop)]
