@@ -1,0 +1,150 @@
+-- The entries of a script, or its first refusal.
+use Rattle.std.specs.Prelude.{ℕ, ◌+◌, not, nat_eq, nat_lt, if◌then◌else◌, List, [], ◌∷◌, ◌++◌, length, codes, Option, Some, None, Result, Ok, Err}
+use Rattle.std.specs.List.{slice_split}
+use Rattle.std.specs.Str.{byte, bytes_eq, is_utf8}
+use Rattle.kmn_base.specs.declared.codes.Code.{Code}
+use Rattle.kmn_base.specs.declared.codes.Code.TheVariants.{P01, P02, P03, P04, P05, P06, P07, P08}
+use Rattle.kmn_base.specs.declared.refusals.Refusal.{Refusal}
+use Rattle.kmn_base.specs.declared.events.Event.TheVariants as event
+use Rattle.kmn_base.specs.declared.limits.TheConstants.{TEXT_BYTES, SCRIPT_EVENTS}
+use Rattle.rule_model.specs.declared.script.Entry.{Entry}
+use Rattle.rule_model.specs.declared.script.Entry.TheVariants.{Act, Expect}
+use Rattle.play_script.specs.declared.lines.Kind.{Kind}
+use Rattle.play_script.specs.declared.lines.Kind.TheVariants as kind
+use Rattle.play_script.specs.Found.{Found, Reads, Breaks}
+use Rattle.play_script.specs.Lines.{text_lines, without_mark}
+use Rattle.play_script.specs.Presses.{press_with}
+use Rattle.play_script.specs.Strings.{string}
+use Rattle.play_script.specs.Words.{is_closing, without_blanks, first_word, behind_word, words, number, name}
+
+-- a rule that a line breaks
+abbrev pub breaks : ℕ → Code → List Found
+breaks line code = Breaks (record { line = line; code = code }) ∷ []
+
+-- what a word or text is, or the rule that its place breaks
+abbrev pub unless_broken : {A : Type 0} → ℕ → Code → (A → List Found) → Option A → List Found
+unless_broken line code next None = breaks line code
+unless_broken line code next (Some x) = next x
+
+-- a number stands first, then what the rest has
+abbrev pub with_number : ℕ → (ℕ → List ℕ → List Found) → List ℕ → List Found
+with_number line next text = unless_broken line P05 (λ n. next n (behind_word text)) (number (first_word text))
+
+-- the rest is a string
+abbrev pub with_string : ℕ → (List ℕ → Entry) → List ℕ → List Found
+with_string line entry text = unless_broken line P04 (λ value. Reads (entry value) ∷ []) (string text)
+
+-- nothing stands behind a line that is complete
+abbrev pub nothing_more : ℕ → List ℕ → List Found
+nothing_more line [] = []
+nothing_more line (c ∷ text) = breaks line P08
+
+-- behind `caret`: a number
+abbrev pub caret_found : ℕ → List ℕ → List Found
+caret_found line = with_number line (λ place rest. Reads (Act line (event.Caret place)) ∷ nothing_more line rest)
+
+-- behind `edit`: two numbers and a string
+abbrev pub edit_found : ℕ → List ℕ → List Found
+edit_found line =
+    with_number line (λ from. with_number line (λ to. with_string line (λ text. Act line (event.Edit from to text))))
+
+-- behind `option`: a name and a string
+abbrev pub option_found : ℕ → List ℕ → List Found
+option_found line text =
+    unless_broken line P04 (λ option. with_string line (λ value. Act line (event.Setting option value)) (behind_word text)) (name (first_word text))
+
+-- behind `expect`: a string
+abbrev pub expect_found : ℕ → List ℕ → List Found
+expect_found line = with_string line (λ text. Expect line text)
+
+-- behind the last bracket: nothing, a bracket that isn't closed, or more
+abbrev pub last_found : ℕ → List ℕ → List Found
+last_found line [] = []
+last_found line (c ∷ text) = breaks line (if nat_eq c (byte "[") then P03 else P08)
+
+-- a bracket without its ], before what more have
+abbrev pub bracket_found : List (List ℕ) → ℕ → List Found → List ℕ → List Found
+bracket_found dictionary line more [] = breaks line P08
+bracket_found dictionary line more (c ∷ inside) =
+    if nat_eq c (byte "[") then unless_broken line P03 (λ press. Reads (Act line (event.Key press)) ∷ more) (press_with dictionary 0 (words inside))
+    else breaks line P08
+
+-- the pieces into which its ] part a line of brackets; blanks may stand before each
+abbrev pub brackets_found : List (List ℕ) → ℕ → List (List ℕ) → List Found
+brackets_found dictionary line [] = []
+brackets_found dictionary line (rest ∷ []) = last_found line (without_blanks rest)
+brackets_found dictionary line (piece ∷ next ∷ more) =
+    bracket_found dictionary line (brackets_found dictionary line (next ∷ more)) (without_blanks piece)
+
+-- what a line is by its first word
+abbrev pub kind_of : List ℕ → Option Kind
+kind_of word =
+    if bytes_eq word (codes "caret") then Some kind.Caret
+    else if bytes_eq word (codes "edit") then Some kind.Edit
+    else if bytes_eq word (codes "option") then Some kind.Setting
+    else if bytes_eq word (codes "expect") then Some kind.Expect
+    else None
+
+-- what is found behind that word
+abbrev pub kind_found : ℕ → Option Kind → List ℕ → List Found
+kind_found line None rest = breaks line P02
+kind_found line (Some kind.Caret) rest = caret_found line rest
+kind_found line (Some kind.Edit) rest = edit_found line rest
+kind_found line (Some kind.Setting) rest = option_found line rest
+kind_found line (Some kind.Expect) rest = expect_found line rest
+
+-- what is found in a line that begins with a byte, which is no blank: nothing behind #
+abbrev pub begun_found : List (List ℕ) → ℕ → ℕ → List ℕ → List Found
+begun_found dictionary line first text =
+    if nat_eq first (byte "#") then []
+    else if nat_eq first (byte "[") then brackets_found dictionary line (slice_split is_closing text)
+    else kind_found line (kind_of (first_word text)) (behind_word text)
+
+-- the same without the blanks before it: nothing in one that is blank
+abbrev pub text_found : List (List ℕ) → ℕ → List ℕ → List Found
+text_found dictionary line [] = []
+text_found dictionary line (c ∷ text) = begun_found dictionary line c (c ∷ text)
+
+-- what is found in a line
+abbrev pub line_found : List (List ℕ) → ℕ → List ℕ → List Found
+line_found dictionary line text = text_found dictionary line (without_blanks text)
+
+-- what is found in the lines from a number on
+abbrev pub lines_found : List (List ℕ) → ℕ → List (List ℕ) → List Found
+lines_found dictionary line [] = []
+lines_found dictionary line (text ∷ lines) = line_found dictionary line text ++ lines_found dictionary (line + 1) lines
+
+-- the entries of a script that were read so far, and how many events are among them
+pub record Script : Type 0 where
+  pub entries : List Entry
+  pub events : ℕ
+
+-- before the first line
+abbrev pub first_script : Script
+first_script = record { entries = []; events = 0 }
+
+-- one more entry is read; an event past the limit is refused
+abbrev pub with_entry : Script → Entry → Result Script Refusal
+with_entry s (Act line event) =
+    if nat_lt s.events SCRIPT_EVENTS then Ok (record { entries = s.entries ++ Act line event ∷ []; events = s.events + 1 })
+    else Err (record { line = line; code = P07 })
+with_entry s (Expect line text) = Ok (record s { entries = s.entries ++ Expect line text ∷ [] })
+
+-- what is found is read in order, up to the first refusal
+abbrev pub with_found : Result Script Refusal → List Found → Result Script Refusal
+with_found s [] = s
+with_found (Err refusal) (found ∷ more) = Err refusal
+with_found (Ok s) (Reads entry ∷ more) = with_found (with_entry s entry) more
+with_found (Ok s) (Breaks refusal ∷ more) = Err refusal
+
+-- the entries that were read, or the refusal
+abbrev pub entries_of : Result Script Refusal → Result (List Entry) Refusal
+entries_of (Ok s) = Ok s.entries
+entries_of (Err refusal) = Err refusal
+
+-- the entries of a script for a keyboard with this dictionary of keys, or its first refusal
+unfoldable pub entries : List (List ℕ) → List ℕ → Result (List Entry) Refusal
+entries dictionary bytes =
+    if nat_lt TEXT_BYTES (length bytes) then Err (record { line = 1; code = P06 })
+    else if not (is_utf8 bytes) then Err (record { line = 1; code = P01 })
+    else entries_of (with_found (Ok first_script) (lines_found dictionary 1 (text_lines (without_mark bytes))))

@@ -1,0 +1,8 @@
+-- What is found in a script, in reading order.
+use Rattle.kmn_base.specs.declared.refusals.Refusal.{Refusal}
+use Rattle.rule_model.specs.declared.script.Entry.{Entry}
+
+-- an entry, or a rule that is broken there
+pub data Found : Type 0 where
+  Reads : Entry → Found
+  Breaks : Refusal → Found

@@ -1,0 +1,30 @@
+-- How a script is cut into lines.
+use Rattle.std.specs.Prelude.{ℕ, ◌==◌, Bool, not, ◌&&◌, ◌||◌, if◌then◌else◌, List, [], ◌∷◌, drop}
+use Rattle.std.specs.List.{onto_first, starts_with}
+
+-- a byte with which a line end begins: LF or CR
+abbrev pub is_end : ℕ → Bool
+is_end b = (b == 10) || (b == 13)
+
+-- a byte ends a line, with the bytes behind it: LF, and a CR that no LF follows
+abbrev pub ends_line : ℕ → List ℕ → Bool
+ends_line b [] = is_end b
+ends_line b (next ∷ bytes) = (b == 10) || ((b == 13) && not (next == 10))
+
+-- the lines of a text: LF, CR LF and a lone CR end one, and bytes behind the last end are one more
+abbrev pub text_lines : List ℕ → List (List ℕ)
+text_lines [] = []
+text_lines (b ∷ bytes) =
+    if ends_line b bytes then [] ∷ text_lines bytes
+    else if b == 13 then text_lines bytes
+    else onto_first b (text_lines bytes)
+
+-- how many bytes the line end has with which a text begins
+abbrev pub end_size : List ℕ → ℕ
+end_size [] = 0
+end_size (b ∷ []) = 1
+end_size (b ∷ next ∷ bytes) = if (b == 13) && (next == 10) then 2 else 1
+
+-- a text without a first U+FEFF
+abbrev pub without_mark : List ℕ → List ℕ
+without_mark bytes = if starts_with (λ a b. a == b) bytes (0xEF ∷ 0xBB ∷ 0xBF ∷ []) then drop 3 bytes else bytes

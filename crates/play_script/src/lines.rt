@@ -1,0 +1,215 @@
+//! The lines of a script one by one.
+
+ghost use Rattle.std.specs.Prelude.{◌≡◌, ◌<◌, ◌≤◌, ◌∷◌, length, position, Ok};
+ghost use Rattle.std.specs.List.{position_or_len};
+ghost use Rattle.play_script.specs.Lines.{text_lines, is_end, end_size, without_mark};
+ghost use Rattle.play_script.specs.Entries.{kind_of, kind_found, begun_found, text_found, line_found, lines_found, entries_of, first_script, entries, with_found};
+ghost use Rattle.play_script.specs.Answers.{Answers, Leaves};
+
+use crate::errors::ScriptError;
+use crate::presses::read_brackets;
+use crate::reader::{Reader, read_caret, read_edit, read_expect, read_option, refused};
+use crate::words::{behind_word, first_word, without_blanks};
+use kmn_base::limits::TEXT_BYTES;
+use kmn_base::slices::behind;
+use kmn_base::{Code, Seq};
+use rule_model::Entry;
+use std::alloc::Global;
+use virtual_keys::KeyDictionary;
+
+/// What a line is that begins with a word.
+#[derive(Clone, Copy, Debug, PartialEq, Eq)]
+pub enum Kind {
+    Caret,
+    Edit,
+    Setting,
+    Expect,
+}
+
+/// What a line is by its first word.
+fn kind_of(word: &[u8]) -> Option<Kind>
+    ensures { result ≡ kind_of word.now }
+{
+    if word == b"caret".as_slice() {
+        Some(Kind::Caret)
+    } else if word == b"edit".as_slice() {
+        Some(Kind::Edit)
+    } else if word == b"option".as_slice() {
+        Some(Kind::Setting)
+    } else if word == b"expect".as_slice() {
+        Some(Kind::Expect)
+    } else {
+        None
+    }
+}
+
+/// Reads a line by its kind.
+fn read_kind(
+    alloc: Global,
+    line: u32,
+    kind: Option<Kind>,
+    rest: &[u8],
+    reader: &mut Reader,
+) -> Result<(), ScriptError>
+    ensures { Leaves (with_found (Ok reader.old) (kind_found line kind rest.now)) reader.new result }
+{
+    match kind {
+        Some(Kind::Caret) => read_caret(line, rest, reader),
+        Some(Kind::Edit) => read_edit(alloc, line, rest, reader),
+        Some(Kind::Setting) => read_option(alloc, line, rest, reader),
+        Some(Kind::Expect) => read_expect(alloc, line, rest, reader),
+        None => Err(refused(line, Code::P02)),
+    }
+}
+
+/// Reads a line that begins with a byte, which is no blank.
+fn read_begun(
+    alloc: Global,
+    dictionary: &KeyDictionary,
+    line: u32,
+    first: u8,
+    text: &[u8],
+    reader: &mut Reader,
+) -> Result<(), ScriptError>
+    ensures { Leaves (with_found (Ok reader.old) (begun_found dictionary.now line first text.now)) reader.new result }
+{
+    if first == b'#' {
+        Ok(())
+    } else if first == b'[' {
+        read_brackets(dictionary, line, text, reader)
+    } else {
+        read_kind(
+            alloc,
+            line,
+            kind_of(first_word(text)),
+            behind_word(text),
+            reader,
+        )
+    }
+}
+
+/// Reads a line that begins with no blank.
+fn read_text(
+    alloc: Global,
+    dictionary: &KeyDictionary,
+    line: u32,
+    text: &[u8],
+    reader: &mut Reader,
+) -> Result<(), ScriptError>
+    ensures { Leaves (with_found (Ok reader.old) (text_found dictionary.now line text.now)) reader.new result }
+{
+    match text {
+        [] => Ok(()),
+        [first, ..] => read_begun(alloc, dictionary, line, *first, text, reader),
+    }
+}
+
+/// Reads a line.
+fn read_line(
+    alloc: Global,
+    dictionary: &KeyDictionary,
+    line: u32,
+    text: &[u8],
+    reader: &mut Reader,
+) -> Result<(), ScriptError>
+    ensures { Leaves (with_found (Ok reader.old) (line_found dictionary.now line text.now)) reader.new result }
+{
+    read_text(alloc, dictionary, line, without_blanks(text), reader)
+}
+
+/// The place of the first line end.
+fn first_end(text: &[u8]) -> Option<usize>
+    ensures { result ≡ position is_end text.now }
+{
+    text.iter()
+        .position(|byte| *byte == b'\n' || *byte == b'\r')
+}
+
+/// How many bytes the first line has.
+#[tactic(auto, using(crate::proofs::TextLaws::place_of_end))]
+fn line_length(text: &[u8]) -> usize
+    ensures within { result ≤ length text.now }
+    ensures is { result ≡ position_or_len is_end text.now }
+{
+    first_end(text).unwrap_or(text.len())
+}
+
+/// How many bytes the line end has with which a text begins.
+fn end_size(text: &[u8]) -> usize
+    ensures is { result ≡ end_size text.now }
+    ensures few { result ≤ 2 }
+{
+    match text {
+        [] => 0,
+        [b'\r', b'\n', ..] => 2,
+        _ => 1,
+    }
+}
+
+/// The first line of a text that isn't empty, and what stands behind its line end.
+#[tactic(auto, using(crate::proofs::TextLaws::first_steps))]
+fn first_line(text: &[u8]) -> (&[u8], &[u8])
+    requires { 0 < length text.now }
+    ensures parts { text_lines text.now ≡ result.0.now ∷ text_lines result.1.now }
+    ensures nearer { length result.1.now < length text.now }
+{
+    let end = line_length(text);
+    let size = end_size(behind(text, end));
+    (&text[..end], behind(text, end + size))
+}
+
+/// Reads the lines of a text.
+#[tactic(auto, using(crate::proofs::LineLaws::next_line))]
+fn read_lines(
+    alloc: Global,
+    dictionary: &KeyDictionary,
+    text: &[u8],
+) -> Result<Seq<Entry>, ScriptError>
+    requires { length text.now ≤ 4_194_304 }
+    ensures { Answers (entries_of (with_found (Ok first_script) (lines_found dictionary.now 1 (text_lines text.now)))) result }
+{
+    let mut reader = Reader::new(alloc);
+    let mut rest = text;
+    let mut line = 1;
+    while !rest.is_empty() {
+        let (first, behind) = first_line(rest);
+        match read_line(alloc, dictionary, line, first, &mut reader) {
+            Ok(()) => {}
+            Err(error) => return Err(error),
+        }
+        rest = behind;
+        line += 1;
+    }
+    Ok(reader.into_entries())
+}
+
+/// The text without a first U+FEFF.
+fn without_mark(bytes: &[u8]) -> &[u8]
+    ensures is { result.now ≡ without_mark bytes.now }
+    ensures within { length result.now ≤ length bytes.now }
+{
+    if bytes.starts_with(b"\xEF\xBB\xBF") {
+        behind(bytes, 3)
+    } else {
+        bytes
+    }
+}
+
+/// The entries of a script for a keyboard with these names of keys, or the first of P01 to P08 that it breaks: P06 and P01
+/// of the whole script, with line 1, then the others by line and in reading order.
+#[tactic(auto, unfolding(crate::specs::Entries::entries))]
+pub fn read_script(
+    alloc: Global,
+    bytes: &[u8],
+    names: &KeyDictionary,
+) -> Result<Seq<Entry>, ScriptError>
+    ensures { Answers (entries names.now bytes.now) result }
+{
+    if bytes.len() > TEXT_BYTES {
+        return Err(refused(1, Code::P06));
+    }
+    match str::from_utf8(bytes) {
+        Ok(_) => read_lines(alloc, names, without_mark(bytes)),
+        Err(_) => Err(refused(1, Code::P01)),
+    }
+}

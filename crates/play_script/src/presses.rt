@@ -1,0 +1,151 @@
+//! The key presses of a line.
+
+ghost use Rattle.std.specs.Prelude.{◌≡◌, ◌<◌, ◌∷◌, [], false, length, Ok, MatchOption, MatchResult};
+ghost use Rattle.std.specs.List.{slice_split, position};
+ghost use Rattle.kmn_base.specs.declared.codes.Code.TheVariants.{P03, P08};
+ghost use Rattle.play_script.specs.Words.{without_blanks, words as all_words, is_closing, begins_bracket};
+ghost use Rattle.play_script.specs.WordsLeft.{words_left};
+ghost use Rattle.play_script.specs.Presses.{held_bit, modifier_bit, key_of, press_with};
+ghost use Rattle.play_script.specs.Entries.{last_found, bracket_found, brackets_found, with_found};
+ghost use Rattle.play_script.specs.Answers.{Leaves, Passes, Needs};
+
+use crate::errors::ScriptError;
+use crate::reader::{Reader, refused};
+use crate::text_words::{TextWords, words};
+use crate::words::without_blanks;
+use kmn_base::{Code, Event, KeyPress};
+use virtual_keys::{KeyDictionary, key_named, modifier_named};
+
+/// The bit that a shift flag has in a press.
+fn held_bit(flag: u16) -> Option<u16>
+    ensures { result ≡ held_bit flag }
+{
+    match flag {
+        0x0020 => Some(0x0001),
+        0x0040 => Some(0x0004),
+        0x0200 => None,
+        _ => Some(flag),
+    }
+}
+
+/// The bit of a modifier word.
+fn modifier_bit(word: &[u8]) -> Option<u16>
+    ensures { result ≡ modifier_bit word.now }
+{
+    held_bit(modifier_named(word)?)
+}
+
+/// The code of a key.
+fn key_of(dictionary: &KeyDictionary, word: &[u8]) -> Option<u16>
+    ensures { result ≡ key_of dictionary.now word.now }
+{
+    match key_named(word) {
+        Some(code) => Some(code),
+        None => dictionary.code_of(word),
+    }
+}
+
+/// The press of some words: modifiers, and last the key.
+fn press_of(dictionary: &KeyDictionary, words: TextWords<'_>) -> Option<KeyPress>
+    ensures { result ≡ press_with dictionary.now 0 (words_left words.entry) }
+{
+    let mut words = words;
+    let mut mods = 0;
+    let mut last = words.next()?;
+    for word in words {
+        mods |= modifier_bit(last)?;
+        last = word;
+    }
+    let code = key_of(dictionary, last)?;
+    Some(KeyPress { code, mods })
+}
+
+/// What stands inside the bracket that a text begins with; P08 where none begins.
+fn opened(line: u32, text: &[u8]) -> Result<&[u8], ScriptError>
+    ensures { MatchResult result (λ inside. text.now ≡ 91 ∷ inside.now) (λ error. (begins_bracket text.now ≡ false) × (error ≡ ScriptError.Refused (record { line = line; code = P08 }))) }
+{
+    match text {
+        [b'[', inside @ ..] => Ok(inside),
+        _ => Err(refused(line, Code::P08)),
+    }
+}
+
+/// The press of a bracket; P03 where its words are none.
+fn needed_press(
+    dictionary: &KeyDictionary,
+    line: u32,
+    inside: &[u8],
+) -> Result<KeyPress, ScriptError>
+    ensures { Needs line P03 (press_with dictionary.now 0 (all_words inside.now)) result }
+{
+    match press_of(dictionary, words(inside)) {
+        Some(press) => Ok(press),
+        None => Err(refused(line, Code::P03)),
+    }
+}
+
+/// Reads a bracket without its `]`.
+#[tactic(auto, using(crate::proofs::LineLaws::bracket_steps))]
+fn read_bracket(
+    dictionary: &KeyDictionary,
+    line: u32,
+    piece: &[u8],
+    reader: &mut Reader,
+) -> Result<(), ScriptError>
+    ensures { Leaves (with_found (Ok reader.old) (bracket_found dictionary.now line [] (without_blanks piece.now))) reader.new result }
+{
+    let inside = opened(line, without_blanks(piece))?;
+    let press = needed_press(dictionary, line, inside)?;
+    reader.act(line, Event::Key(press))
+}
+
+/// The place of the first `]`.
+fn first_closing(text: &[u8]) -> Option<usize>
+    ensures { result ≡ position is_closing text.now }
+{
+    text.iter().position(|byte| *byte == b']')
+}
+
+/// What stands before the first `]` of a text, and what stands behind it.
+#[tactic(auto, using(crate::proofs::LineLaws::piece_steps))]
+fn first_piece(text: &[u8]) -> Option<(&[u8], &[u8])>
+    ensures parts { MatchOption result (slice_split is_closing text.now ≡ text.now ∷ []) (λ parts. slice_split is_closing text.now ≡ parts.0.now ∷ slice_split is_closing parts.1.now) }
+    ensures nearer { MatchOption result (Unit {0}) (λ parts. length parts.1.now < length text.now) }
+{
+    match first_closing(text) {
+        Some(at) => Some((&text[..at], &text[at + 1..])),
+        None => None,
+    }
+}
+
+/// What stands behind the last bracket.
+fn read_last(line: u32, text: &[u8]) -> Result<(), ScriptError>
+    ensures { Passes (last_found line text.now) result }
+{
+    match text {
+        [] => Ok(()),
+        [b'[', ..] => Err(refused(line, Code::P03)),
+        _ => Err(refused(line, Code::P08)),
+    }
+}
+
+/// Reads the brackets of a line.
+#[tactic(auto, using(crate::proofs::LineLaws::line_steps))]
+pub(crate) fn read_brackets(
+    dictionary: &KeyDictionary,
+    line: u32,
+    text: &[u8],
+    reader: &mut Reader,
+) -> Result<(), ScriptError>
+    ensures { Leaves (with_found (Ok reader.old) (brackets_found dictionary.now line (slice_split is_closing text.now))) reader.new result }
+{
+    let mut rest = text;
+    while let Some((piece, behind)) = first_piece(rest) {
+        match read_bracket(dictionary, line, piece, reader) {
+            Ok(()) => {}
+            Err(error) => return Err(error),
+        }
+        rest = behind;
+    }
+    read_last(line, without_blanks(rest))
+}

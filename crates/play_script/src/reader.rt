@@ -1,0 +1,180 @@
+//! What was read of a script, and the readers of lines that begin with a word.
+
+ghost use Rattle.std.specs.Prelude.{◌≡◌, ◌∷◌, [], Ok, Some, None, MatchResult};
+ghost use Rattle.kmn_base.specs.declared.codes.Code.{Code};
+ghost use Rattle.kmn_base.specs.declared.codes.Code.TheVariants.{P04, P05, P08};
+ghost use Rattle.rule_model.specs.declared.script.Entry.TheVariants as entry;
+ghost use Rattle.play_script.specs.Words.{first_word, behind_word, number, name as some_name};
+ghost use Rattle.play_script.specs.Strings.{string};
+ghost use Rattle.play_script.specs.Entries.{first_script, with_entry, with_found, nothing_more, caret_found, edit_found, option_found, expect_found};
+ghost use Rattle.play_script.specs.Answers.{Leaves, Passes, Needs};
+
+use crate::errors::ScriptError;
+use crate::strings::string;
+use crate::words::{behind_word, first_word, name, number};
+use kmn_base::limits::SCRIPT_EVENTS;
+use kmn_base::{Code, Event, Refusal, Seq};
+use rule_model::Entry;
+use std::alloc::Global;
+use std::marker::Model;
+
+/// The entries that were read so far, and how many events are among them.
+#[derive(Drop)]
+pub(crate) struct Reader {
+    entries: Seq<Entry>,
+    events: usize,
+}
+
+impl Model for Reader {
+    ghost use Rattle.play_script.specs.Entries.{Script};
+
+    ghost Value = { Script };
+
+    ghost view = { λ reader. record { entries = reader.entries; events = reader.events } };
+}
+
+impl Reader {
+    /// Before the first line.
+    pub(crate) fn new(alloc: Global) -> Reader
+        ensures { result ≡ first_script }
+    {
+        Reader {
+            entries: Seq::new(alloc),
+            events: 0,
+        }
+    }
+
+    /// The entries.
+    pub(crate) fn into_entries(self) -> Seq<Entry>
+        ensures { result ≡ self.entries }
+    {
+        self.entries
+    }
+
+    /// One more entry that has an event.
+    pub(crate) fn act(&mut self, line: u32, event: Event) -> Result<(), ScriptError>
+        ensures { Leaves (with_entry self.old (entry.Act line event)) self.new result }
+    {
+        if self.events >= SCRIPT_EVENTS {
+            return Err(refused(line, Code::P07));
+        }
+        match self.entries.push(Entry::Act { line, event }) {
+            Ok(()) => {
+                self.events += 1;
+                Ok(())
+            }
+            Err(_entry) => Err(ScriptError::Memory),
+        }
+    }
+
+    /// One more entry that expects a text.
+    pub(crate) fn expect(&mut self, line: u32, text: Seq<char>) -> Result<(), ScriptError>
+        ensures { Leaves (with_entry self.old (entry.Expect line text)) self.new result }
+    {
+        match self.entries.push(Entry::Expect { line, text }) {
+            Ok(()) => Ok(()),
+            Err(_entry) => Err(ScriptError::Memory),
+        }
+    }
+}
+
+/// A rule that a line breaks.
+pub(crate) fn refused(line: u32, code: Code) -> ScriptError
+    ensures { result ≡ ScriptError.Refused (record { line = line; code = code }) }
+{
+    ScriptError::Refused(Refusal { line, code })
+}
+
+/// The number that stands first.
+fn needed_number(line: u32, text: &[u8]) -> Result<u32, ScriptError>
+    ensures { Needs line P05 (number (first_word text.now)) result }
+{
+    match number(first_word(text)) {
+        Some(number) => Ok(number),
+        None => Err(refused(line, Code::P05)),
+    }
+}
+
+/// The string that the rest of a line is.
+fn needed_string(alloc: Global, line: u32, text: &[u8]) -> Result<Seq<char>, ScriptError>
+    ensures { Needs line P04 (string text.now) result }
+{
+    match string(alloc, text) {
+        Ok(Some(value)) => Ok(value),
+        Ok(None) => Err(refused(line, Code::P04)),
+        Err(_memory) => Err(ScriptError::Memory),
+    }
+}
+
+/// The name that stands first.
+fn needed_name<'a>(line: u32, text: &'a [u8]) -> Result<&'a [u8], ScriptError>
+    ensures { MatchResult result (λ name. some_name (first_word text.now) ≡ Some name.now) (λ error. (some_name (first_word text.now) ≡ None) × (error ≡ ScriptError.Refused (record { line = line; code = P04 }))) }
+{
+    match name(first_word(text)) {
+        Some(name) => Ok(name),
+        None => Err(refused(line, Code::P04)),
+    }
+}
+
+/// Nothing stands behind a line that is complete.
+fn nothing_more(line: u32, rest: &[u8]) -> Result<(), ScriptError>
+    ensures { Passes (nothing_more line rest.now) result }
+{
+    match rest {
+        [] => Ok(()),
+        _ => Err(refused(line, Code::P08)),
+    }
+}
+
+/// Reads what stands behind `caret`.
+pub(crate) fn read_caret(line: u32, text: &[u8], reader: &mut Reader) -> Result<(), ScriptError>
+    ensures { Leaves (with_found (Ok reader.old) (caret_found line text.now)) reader.new result }
+{
+    let place = needed_number(line, text)?;
+    reader.act(line, Event::Caret(place))?;
+    nothing_more(line, behind_word(text))
+}
+
+/// Reads what stands behind `edit`.
+pub(crate) fn read_edit(
+    alloc: Global,
+    line: u32,
+    text: &[u8],
+    reader: &mut Reader,
+) -> Result<(), ScriptError>
+    ensures { Leaves (with_found (Ok reader.old) (edit_found line text.now)) reader.new result }
+{
+    let from = needed_number(line, text)?;
+    let rest = behind_word(text);
+    let to = needed_number(line, rest)?;
+    let text = needed_string(alloc, line, behind_word(rest))?;
+    reader.act(line, Event::Edit { from, to, text })
+}
+
+/// Reads what stands behind `option`.
+pub(crate) fn read_option(
+    alloc: Global,
+    line: u32,
+    text: &[u8],
+    reader: &mut Reader,
+) -> Result<(), ScriptError>
+    ensures { Leaves (with_found (Ok reader.old) (option_found line text.now)) reader.new result }
+{
+    let name = needed_name(line, text)?;
+    let value = needed_string(alloc, line, behind_word(text))?;
+    let name = Seq::from_slice(alloc, name)?;
+    reader.act(line, Event::Setting { name, value })
+}
+
+/// Reads what stands behind `expect`.
+pub(crate) fn read_expect(
+    alloc: Global,
+    line: u32,
+    text: &[u8],
+    reader: &mut Reader,
+) -> Result<(), ScriptError>
+    ensures { Leaves (with_found (Ok reader.old) (expect_found line text.now)) reader.new result }
+{
+    let text = needed_string(alloc, line, text)?;
+    reader.expect(line, text)
+}

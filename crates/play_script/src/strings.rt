@@ -1,0 +1,126 @@
+//! The strings of a script.
+
+ghost use Rattle.std.specs.Prelude.{◌≡◌, nat_eq, ◌<◌, ◌∷◌, length, IfOk, IfSome};
+ghost use Rattle.std.specs.List.{position};
+ghost use Rattle.play_script.specs.Strings.{code_point, quoted_token, written_token, string_token, tokens_chars, short, string};
+
+use crate::words::{first_word, has_digits, without_blanks};
+use kmn_base::bytes::is_quote;
+use kmn_base::digits::bounded_value;
+use kmn_base::limits::SCRIPT_STRING_CHARS;
+use kmn_base::slices::behind;
+use kmn_base::texts::decoded;
+use kmn_base::{Memory, Seq};
+use std::alloc::Global;
+
+/// The character that a word is.
+fn code_point(word: &[u8]) -> Option<char>
+    ensures { result ≡ code_point word.now }
+{
+    let [u, plus, digits @ ..] = word else {
+        return None;
+    };
+    if *u == b'U' && *plus == b'+' && has_digits(16, 4, 6, digits) {
+        char::from_u32(bounded_value(0x11_0000, 16, digits))
+    } else {
+        None
+    }
+}
+
+/// The place of the first quote of a kind.
+fn first_quote(quote: u8, text: &[u8]) -> Option<usize>
+    ensures place { result ≡ position (λ b. nat_eq b quote) text.now }
+    ensures within { IfSome result (λ place. place < length text.now) }
+{
+    text.iter().position(|byte| *byte == quote)
+}
+
+/// The token of a string between two quotes, of which the first stands before the text.
+fn quoted_token(alloc: Global, quote: u8, text: &[u8]) -> Result<Option<(Seq<char>, usize)>, Memory>
+    ensures { IfOk result (λ token. token ≡ quoted_token text.now (position (λ b. nat_eq b quote) text.now)) }
+{
+    match first_quote(quote, text) {
+        Some(end) => Ok(Some((decoded(alloc, &text[..end])?, end + 2))),
+        None => Ok(None),
+    }
+}
+
+/// The token of a string that is a word.
+fn written_token(alloc: Global, word: &[u8]) -> Result<Option<(Seq<char>, usize)>, Memory>
+    ensures { IfOk result (λ token. token ≡ written_token word.now) }
+{
+    match code_point(word) {
+        Some(c) => Ok(Some((Seq::from_slice(alloc, &[c])?, word.len()))),
+        None => Ok(None),
+    }
+}
+
+/// The token with which a text begins that has a byte.
+fn begun_token(
+    alloc: Global,
+    first: u8,
+    inside: &[u8],
+    text: &[u8],
+) -> Result<Option<(Seq<char>, usize)>, Memory>
+    requires { text.now ≡ first ∷ inside.now }
+    ensures { IfOk result (λ token. token ≡ string_token (first ∷ inside.now)) }
+{
+    if is_quote(first) {
+        quoted_token(alloc, first, inside)
+    } else {
+        written_token(alloc, first_word(text))
+    }
+}
+
+/// The token of a string with which a text begins.
+fn string_token(alloc: Global, text: &[u8]) -> Result<Option<(Seq<char>, usize)>, Memory>
+    ensures { IfOk result (λ token. token ≡ string_token text.now) }
+{
+    match text {
+        [first, inside @ ..] => begun_token(alloc, *first, inside, text),
+        [] => Ok(None),
+    }
+}
+
+/// The characters of the tokens of a text up to its end.
+#[tactic(auto, using(crate::proofs::StringLaws::token_steps))]
+fn tokens_chars(alloc: Global, text: &[u8]) -> Result<Option<Seq<char>>, Memory>
+    ensures { IfOk result (λ read. read ≡ tokens_chars 0 text.now) }
+{
+    let mut all = Seq::new(alloc);
+    let mut rest = without_blanks(text);
+    while !rest.is_empty() {
+        match string_token(alloc, rest)? {
+            Some((characters, size)) => {
+                all.append(characters)?;
+                rest = without_blanks(behind(rest, size));
+            }
+            None => return Ok(None),
+        }
+    }
+    Ok(Some(all))
+}
+
+/// Characters that aren't too many for a string.
+fn short(characters: Seq<char>) -> Option<Seq<char>>
+    ensures { result ≡ short characters }
+{
+    if characters.len() <= SCRIPT_STRING_CHARS {
+        Some(characters)
+    } else {
+        None
+    }
+}
+
+/// The string that a text is.
+pub(crate) fn string(alloc: Global, text: &[u8]) -> Result<Option<Seq<char>>, Memory>
+    ensures { IfOk result (λ read. read ≡ string text.now) }
+{
+    if text.is_empty() {
+        return Ok(None);
+    }
+    match tokens_chars(alloc, text)? {
+        Some(characters) => Ok(short(characters)),
+        None => Ok(None),
+    }
+}
