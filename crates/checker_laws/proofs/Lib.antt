@@ -1,0 +1,10 @@
+pub mod Unrefused
+pub mod Lists
+pub mod Accepted
+pub mod Stated
+pub mod Reading
+pub mod Options
+pub mod Named
+pub mod Sizes
+pub mod Within
+pub mod Numbers

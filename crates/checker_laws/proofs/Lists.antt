@@ -1,0 +1,60 @@
+-- What holds of each item of lists that are gathered, and of tests of lists.
+use Rattle.std.proofs.Common.{◌≡◌, Bool, true, false, not, List, [], ◌∷◌, ◌++◌, refl, if◌then◌else◌}
+use Rattle.std.specs.Prelude.{flat_map, filter, All, ◌||◌}
+use Rattle.std.specs.List.{list_all, list_any, AllByRecursion}
+use Rattle.std.proofs.lemmas.List.Elements.{All-nil, All-cons, All-head, All-tail, All-append}
+use Rattle.rule_model.specs.Tab.{distinct_onto}
+
+pub not_false : (b : Bool) → not b ≡ false → b ≡ true
+not_false true h = refl
+not_false false h = absurd (cc)
+
+pub none_or : (a b : Bool) → (a || b) ≡ false → (a ≡ false) × (b ≡ false)
+none_or true b h = absurd (cc)
+none_or false b h = (refl, h)
+
+-- a fact of each item gives a test of all
+pub all_pass : {X : Type 0} (P : X → Type 0) (test : X → Bool) → ((x : X) → P x → test x ≡ true) → (xs : List X) → All P xs → list_all test xs ≡ true
+all_pass P test f [] h = refl
+all_pass P test f (x ∷ xs) h = rw (f x (All-head P x xs h)) (all_pass P test f xs (All-tail P x xs h))
+
+pub none_passes : {X : Type 0} (P : X → Type 0) (test : X → Bool) → ((x : X) → P x → test x ≡ false) → (xs : List X) → All P xs → list_any test xs ≡ false
+none_passes P test f [] h = refl
+none_passes P test f (x ∷ xs) h = rw (f x (All-head P x xs h)) (none_passes P test f xs (All-tail P x xs h))
+
+-- what holds of all that each item gives
+pub All-flat_map : {X Y : Type 0} (P : X → Type 0) (Q : Y → Type 0) (f : X → List Y) → ((x : X) → P x → All Q (f x)) → (xs : List X) → All P xs → All Q (flat_map f xs)
+All-flat_map P Q f each [] h = All-nil Q
+All-flat_map P Q f each (x ∷ xs) h = All-append Q (f x) (flat_map f xs) (each x (All-head P x xs h)) (All-flat_map P Q f each xs (All-tail P x xs h))
+
+pub All-filter : {X : Type 0} (P : X → Type 0) (test : X → Bool) (xs : List X) → All P xs → All P (filter test xs)
+All-filter P test [] h = All-nil P
+All-filter P test (x ∷ xs) h = by (test x) (All-filter P test xs (All-tail P x xs h))
+  where
+    by : (b : Bool) → All P (filter test xs) → All P (if b then x ∷ filter test xs else filter test xs)
+    by true rest = All-cons P x (filter test xs) (All-head P x xs h) rest
+    by false rest = rest
+
+-- what isn't the same as something before is one of the list
+pub All-distinct : {X : Type 0} (P : X → Type 0) (same : X → X → Bool) (seen xs : List X) → All P seen → All P xs → All P (distinct_onto same seen xs)
+All-distinct P same seen [] before h = before
+All-distinct P same seen (x ∷ xs) before h = All-distinct P same _ xs (by (list_any (λ y. same y x) seen)) (All-tail P x xs h)
+  where
+    by : (b : Bool) → All P (if b then seen else seen ++ x ∷ [])
+    by true = before
+    by false = All-append P seen (x ∷ []) before (All-cons P x [] (All-head P x xs h) (All-nil P))
+
+-- what holds of all of two lists holds of each
+pub All-append_parts : {X : Type 0} (P : X → Type 0) (xs ys : List X) → All P (xs ++ ys) → All P xs × All P ys
+All-append_parts P [] ys h = (All-nil P, h)
+All-append_parts P (x ∷ xs) ys h =
+    let rest = All-append_parts P xs ys (All-tail P x (xs ++ ys) h) in
+    (All-cons P x xs (All-head P x (xs ++ ys) h) rest.0, rest.1)
+
+pub all_behind : {X : Type 0} (P : X → Type 0) (xs ys : List X) → AllByRecursion P (xs ++ ys) → AllByRecursion P ys
+all_behind P [] ys h = h
+all_behind P (x ∷ xs) ys h = all_behind P xs ys h.1
+
+pub all_of : {X : Type 0} (P : X → Type 0) (xs : List X) → AllByRecursion P xs → All P xs
+all_of P [] h = All-nil P
+all_of P (x ∷ xs) h = All-cons P x xs h.0 (all_of P xs h.1)

@@ -1,0 +1,244 @@
+-- The numbers that the names of an accepted program have in its file, and that looking them up finds them.
+use Rattle.std.proofs.Common.{◌≡◌, ℕ, suc, ◌+◌, ◌^◌, ◌<◌, ◌≤◌, Bool, true, false, List, [], ◌∷◌, ◌++◌, length, map, cond, Option, Some, None, is_some, unwrap_or, option_map, refl, sym, ap, ◌∙◌, arith, if◌then◌else◌, length-append, take_all}
+use Rattle.std.specs.Prelude.{nat_eq, flat_map, position, ◌||◌}
+use Rattle.std.specs.List.{list_all, list_any}
+use Rattle.std.specs.Str.{bytes_eq, str_to_ascii_lowercase}
+use Rattle.std.specs.Cmp.Lexicographic.{bytes_decides}
+use Rattle.std.proofs.lemmas.Bool.{and_parts, and_from, or_left, or_right}
+use Rattle.std.proofs.lemmas.Bool.Decides.{nat_tests}
+use Rattle.std.proofs.lemmas.List.{length-map}
+use Rattle.std.proofs.lemmas.List.Concat.{flat_map-append}
+use Rattle.std.proofs.lemmas.List.Folds.{list_all-append, list_any-append}
+use Rattle.std.proofs.lemmas.List.Quantifiers.{position-Some}
+use Rattle.kmn_base.specs.declared.limits.TheConstants.{DEADKEYS, KEY_NAMES}
+use Rattle.kmn_base.specs.Names.{same_name}
+use Rattle.virtual_keys.specs.Dictionary.{place_in, code_in}
+use Rattle.rule_model.specs.declared.program.SrcItem.{SrcItem}
+use Rattle.rule_model.specs.declared.program.StoreDef.{StoreDef}
+use Rattle.rule_model.specs.declared.program.KeyName.{KeyName}
+use Rattle.rule_model.specs.declared.program.RuleDef.{RuleDef}
+use Rattle.rule_model.specs.declared.program.GroupDef.{GroupDef}
+use Rattle.rule_model.specs.declared.program.Program.{Program}
+use Rattle.rule_model.specs.declared.tables.Store.{Store}
+use Rattle.rule_model.specs.Tab.{distinct_onto}
+use Rattle.rule_model.specs.Naming.{names_of, stores_of, rule_items, all_rules, store_items, items_from, source_items, stores_before, stores_after, mark_names, key_names, mark_number, key_number}
+use Rattle.compile_laws.specs.Numbers.{numbers_of, number_of_store, number_of_group, number_of_value, compiled_stores, dictionary_stores, value_store, values_of}
+use Rattle.compile_laws.specs.WellNamed.{is_store, is_group}
+use Rattle.compile_laws.proofs.Linked.{is_value}
+use Rattle.compile_laws.proofs.Places.{position-map}
+use Rattle.compile_laws.proofs.Values.{list_all-flat_map}
+use Rattle.store_table.specs.Names.{group_names}
+use Rattle.store_table.specs.Numbering.{lists_of, below, number_in, mark_in}
+use Rattle.store_table.proofs.Naming.{position_cons, some_place, same_either_way}
+use Rattle.rule_checker.specs.Refused.{IsRead}
+use Rattle.checker_laws.proofs.Accepted.{IsUnrefused}
+use Rattle.checker_laws.proofs.Sizes.{parted}
+use Rattle.checker_laws.proofs.Within.{few_stores, few_groups, few_marks, few_keys}
+
+-- the place of what is found is below the length
+pub place_below : {X : Type 0} (p : X → Bool) (xs : List X) → is_some (position p xs) ≡ true → unwrap_or (position p xs) 0 < length xs
+place_below p [] h = absurd (cc)
+place_below p (x ∷ xs) h = by (position p (x ∷ xs)) refl h
+  where
+    by : (o : Option ℕ) → position p (x ∷ xs) ≡ o → is_some o ≡ true → unwrap_or o 0 < length (x ∷ xs)
+    by None is g = absurd (cc)
+    by (Some n) is g = (position-Some p (x ∷ xs) n x is).0
+
+-- without one the place is taken as 0
+pub place_at_most : {X : Type 0} (p : X → Bool) (xs : List X) → unwrap_or (position p xs) 0 ≤ length xs
+place_at_most p xs = by (is_some (position p xs)) refl
+  where
+    none : (o : Option ℕ) → is_some o ≡ false → unwrap_or o 0 ≡ 0
+    none None h = refl
+    none (Some n) h = absurd (cc)
+
+    by : (b : Bool) → is_some (position p xs) ≡ b → unwrap_or (position p xs) 0 ≤ length xs
+    by true is = let lower = place_below p xs is in omega arith
+    by false is = let zero_place = none (position p xs) is in omega arith
+
+pub place_either_way : (name : List ℕ) (names : List (List ℕ)) → position (same_name name) names ≡ position (λ known. same_name known name) names
+place_either_way name [] = refl
+place_either_way name (known ∷ names) =
+    position_cons (same_name name) known names
+    ∙ (λ j. cond (same_either_way name known j) (Some 0) (option_map suc (place_either_way name names j)))
+    ∙ sym (position_cons (λ k. same_name k name) known names)
+
+small_below : (limit n : ℕ) → n < limit → below limit (Some n) ≡ Some n
+small_below limit n h = grind (arith, nat_tests)
+
+-- a number that there is and that has room is found
+found_below : (limit : ℕ) (o : Option ℕ) → is_some o ≡ true → unwrap_or o 0 < limit → below limit o ≡ Some (unwrap_or o 0)
+found_below limit None h small = absurd (cc)
+found_below limit (Some n) h small = small_below limit n small
+
+-- the items of a program's stores and rules are those of its statements in the order of their lines
+module _ (test : SrcItem → Bool) where
+  of_statements : (stores : List StoreDef) (rules : List RuleDef) → list_all test (items_from stores rules) ≡ true
+      → (list_all test (store_items stores) ≡ true) × (list_all test (flat_map rule_items rules) ≡ true)
+  of_statements stores [] h = (h, refl)
+  of_statements stores (rule ∷ rules) h =
+      let before = stores_before rule.line stores in
+      let after = stores_after rule.line stores in
+      let one = and_parts (list_all test (store_items before)) (list_all test (rule_items rule ++ items_from after rules))
+      (sym (list_all-append test (store_items before) (rule_items rule ++ items_from after rules)) ∙ h) in
+      let two = and_parts (list_all test (rule_items rule)) (list_all test (items_from after rules)) (sym (list_all-append test (rule_items rule) (items_from after rules)) ∙ one.1) in
+      let rest = of_statements after rules two.1 in
+      let whole : store_items before ++ store_items after ≡ store_items stores =
+      sym (flat_map-append (λ (store : StoreDef). store.items) before after) ∙ ap store_items (parted rule.line stores) in (
+        ap (list_all test) (sym whole) ∙ (list_all-append test (store_items before) (store_items after) ∙ and_from (list_all test (store_items before)) (list_all test (store_items after)) one.0 rest.0),
+        list_all-append test (rule_items rule) (flat_map rule_items rules) ∙ and_from (list_all test (rule_items rule)) (list_all test (flat_map rule_items rules)) two.0 rest.1,
+      )
+
+  pub store_items_pass : (program : Program) → list_all test (source_items program) ≡ true → list_all (λ (store : StoreDef). list_all test store.items) program.stores ≡ true
+  store_items_pass program h = sym (list_all-flat_map test (λ (store : StoreDef). store.items) program.stores) ∙ (of_statements program.stores (all_rules program) h).0
+
+  pub rule_items_pass : (program : Program) → list_all test (source_items program) ≡ true → list_all (λ (rule : RuleDef). list_all test (rule_items rule)) (all_rules program) ≡ true
+  rule_items_pass program h = sym (list_all-flat_map test rule_items (all_rules program)) ∙ (of_statements program.stores (all_rules program) h).1
+
+-- what is gathered once each is there for each
+seen_stays : (seen xs : List (List ℕ)) (name : List ℕ) → list_any (λ known. same_name known name) seen ≡ true → list_any (λ known. same_name known name) (distinct_onto same_name seen xs) ≡ true
+seen_stays seen [] name h = h
+seen_stays seen (x ∷ xs) name h = seen_stays (if list_any (λ known. same_name known x) seen then seen else seen ++ x ∷ []) xs name (by (list_any (λ known. same_name known x) seen))
+  where
+    by : (b : Bool) → list_any (λ known. same_name known name) (if b then seen else seen ++ x ∷ []) ≡ true
+    by true = h
+    by false = list_any-append (λ known. same_name known name) seen (x ∷ []) ∙ or_left (list_any (λ known. same_name known name) seen) (list_any (λ known. same_name known name) (x ∷ [])) h
+
+itself : (name : List ℕ) → same_name name name ≡ true
+unfolding same_name
+itself name = (bytes_decides (str_to_ascii_lowercase name) (str_to_ascii_lowercase name)).1 refl
+
+all_seen : (seen xs : List (List ℕ)) → list_all (λ name. list_any (λ known. same_name known name) (distinct_onto same_name seen xs)) xs ≡ true
+all_seen seen [] = refl
+all_seen seen (x ∷ xs) =
+    let next = if list_any (λ known. same_name known x) seen then seen else seen ++ x ∷ [] in
+    and_from _ _ (seen_stays next xs x (by (list_any (λ known. same_name known x) seen) refl)) (all_seen next xs)
+  where
+    by : (b : Bool) → list_any (λ known. same_name known x) seen ≡ b → list_any (λ known. same_name known x) (if b then seen else seen ++ x ∷ []) ≡ true
+    by true e = e
+    by false e = list_any-append (λ known. same_name known x) seen (x ∷ [])
+        ∙ or_right (list_any (λ known. same_name known x) seen) (same_name x x || false) (or_left (same_name x x) false (itself x))
+
+-- the names of an item are among those of the program
+abbrev pub are_among : List (List ℕ) → List (List ℕ) → Bool
+are_among known names = list_all (λ name. list_any (λ k. same_name k name) known) names
+
+abbrev pub has_keys : Program → SrcItem → Bool
+has_keys program item = are_among (names_of program).keys (key_names item)
+
+abbrev pub has_marks : Program → SrcItem → Bool
+has_marks program item = are_among (names_of program).marks (mark_names item)
+
+pub keys_appear : (program : Program) → list_all (has_keys program) (source_items program) ≡ true
+unfolding names_of
+keys_appear program =
+    sym (list_all-flat_map (λ name. list_any (λ k. same_name k name) (names_of program).keys) key_names (source_items program))
+    ∙ all_seen [] (flat_map key_names (source_items program))
+
+pub marks_appear : (program : Program) → list_all (has_marks program) (source_items program) ≡ true
+unfolding names_of
+marks_appear program =
+    sym (list_all-flat_map (λ name. list_any (λ k. same_name k name) (names_of program).marks) mark_names (source_items program))
+    ∙ all_seen [] (flat_map mark_names (source_items program))
+
+module _ (program : Program) where
+  -- the numbers of what is stated are below the counts
+  pub store_number : (name : List ℕ) → is_store program name ≡ true → number_of_store (numbers_of program) name < length (stores_of program)
+  store_number name h = place_below (λ (store : Store). same_name store.name name) (stores_of program) h
+
+  pub group_is_place : (name : List ℕ) → number_of_group (numbers_of program) name ≡ unwrap_or (position (λ (group : GroupDef). same_name group.name name) program.groups) 0
+  group_is_place name = ap (λ (o : Option ℕ). unwrap_or o 0) (position-map (λ known. same_name known name) (λ (group : GroupDef). group.name) program.groups)
+
+  pub group_number : (name : List ℕ) → is_group program name ≡ true → number_of_group (numbers_of program) name < length program.groups
+  group_number name h =
+      let lower = place_below (λ (group : GroupDef). same_name group.name name) program.groups h in
+      omega (arith, lower, group_is_place name)
+
+  pub stores_end : length (stores_of program) ≤ length (compiled_stores program)
+  stores_end = omega (arith, length-append (stores_of program) (dictionary_stores (names_of program).keys ++ map value_store (values_of program)))
+
+  pub value_number : (value : List ℕ) → is_value program value ≡ true → number_of_value (numbers_of program) value < length (compiled_stores program)
+  value_number value h =
+      let lower = place_below (λ known. bytes_eq known value) (values_of program) h in
+      omega (
+        arith,
+        lower,
+        length-append (stores_of program) (dictionary_stores (names_of program).keys ++ map value_store (values_of program)),
+        length-append (dictionary_stores (names_of program).keys) (map value_store (values_of program)),
+        length-map (values_of program) value_store,
+      )
+
+  module _ (read : IsRead program) (whole : IsUnrefused program) where
+    -- a mark has a number from 1 to the greatest count of deadkeys
+    pub mark_small : (name : List ℕ) → mark_number (names_of program) name ≤ 1 + DEADKEYS
+    mark_small name =
+        let few = few_marks program whole in
+        let place = place_at_most (λ known. same_name known name) (names_of program).marks in
+        omega arith
+
+    -- looking a name up finds its number
+    pub store_found : (name : List ℕ) → is_store program name ≡ true → number_in (lists_of program).stores name ≡ Some (number_of_store (numbers_of program) name)
+    unfolding lists_of
+    store_found name h =
+        let place : place_in (map (λ (store : Store). store.name) (stores_of program)) name ≡ position (λ (store : Store). same_name store.name name) (stores_of program) =
+        place_either_way name (map (λ (store : Store). store.name) (stores_of program)) ∙ position-map (λ known. same_name known name) (λ (store : Store). store.name) (stores_of program) in
+        let few = few_stores program read whole in
+        let ends = stores_end in
+        let lower = store_number name h in
+        ap (below (2 ^ 32)) place ∙ found_below (2 ^ 32) (position (λ (store : Store). same_name store.name name) (stores_of program)) h (omega arith)
+
+    pub group_found : (name : List ℕ) → is_group program name ≡ true → number_in (lists_of program).groups name ≡ Some (number_of_group (numbers_of program) name)
+    unfolding lists_of
+    group_found name h =
+        let place : place_in (group_names program.groups) name ≡ position (λ (group : GroupDef). same_name group.name name) program.groups =
+        place_either_way name (group_names program.groups) ∙ position-map (λ known. same_name known name) (λ (group : GroupDef). group.name) program.groups in
+        let few = few_groups program whole in
+        let lower = place_below (λ (group : GroupDef). same_name group.name name) program.groups h in
+        ap (below (2 ^ 32)) place ∙ found_below (2 ^ 32) (position (λ (group : GroupDef). same_name group.name name) program.groups) h (omega arith)
+        ∙ ap (λ (n : ℕ). Some n) (sym (group_is_place name))
+
+    one_more_found : (o : Option ℕ) → is_some o ≡ true → 1 + unwrap_or o 0 < 2 ^ 16 → below (2 ^ 16) (option_map (λ place. 1 + place) o) ≡ Some (1 + unwrap_or o 0)
+    one_more_found None h small = absurd (cc)
+    one_more_found (Some n) h small = small_below (2 ^ 16) (1 + n) small
+
+    pub mark_found : (name : List ℕ) → list_any (λ known. same_name known name) (names_of program).marks ≡ true
+        → mark_in (lists_of program).marks name ≡ Some (mark_number (names_of program) name)
+    unfolding lists_of
+    mark_found name h =
+        let some = some_place (λ known. same_name known name) (names_of program).marks ∙ h in
+        let small = mark_small name in
+        ap (λ (o : Option ℕ). below (2 ^ 16) (option_map (λ place. 1 + place) o)) (place_either_way name (names_of program).marks)
+        ∙ one_more_found (position (λ known. same_name known name) (names_of program).marks) some (omega arith)
+
+    -- the keyboard's own keys all have codes
+    pub all_keys : (lists_of program).keys ≡ (names_of program).keys
+    unfolding lists_of
+    all_keys = take_all KEY_NAMES (names_of program).keys (few_keys program read whole)
+
+    code_found : (o : Option ℕ) → is_some o ≡ true → option_map (λ place. 256 + place) o ≡ Some (unwrap_or (option_map (λ place. 256 + place) o) 0)
+    code_found None h = absurd (cc)
+    code_found (Some n) h = refl
+
+    key_place : (name : List ℕ) → list_any (λ known. same_name known name) (names_of program).keys ≡ true → is_some (place_in (names_of program).keys name) ≡ true
+    key_place name h = ap is_some (place_either_way name (names_of program).keys) ∙ some_place (λ known. same_name known name) (names_of program).keys ∙ h
+
+    pub key_found : (key : KeyName) → nat_eq key.code 0 ≡ true → list_any (λ known. same_name known key.name) (names_of program).keys ≡ true
+        → code_in (lists_of program).keys key.name ≡ Some (key_number (names_of program) key)
+    unfolding code_in
+    key_found key own h =
+        ap (λ (keys : List (List ℕ)). option_map (λ place. 256 + place) (place_in keys key.name)) all_keys
+        ∙ code_found (place_in (names_of program).keys key.name) (key_place key.name h)
+        ∙ ap (λ (b : Bool). Some (if b then unwrap_or (option_map (λ place. 256 + place) (place_in (names_of program).keys key.name)) 0 else key.code)) (sym own)
+
+    code_below : (o : Option ℕ) (count : ℕ) → is_some o ≡ true → unwrap_or o 0 < count → count ≤ KEY_NAMES
+        → (0 < unwrap_or (option_map (λ place. 256 + place) o) 0) × (unwrap_or (option_map (λ place. 256 + place) o) 0 < 2 ^ 16)
+    code_below None count h small few = absurd (cc)
+    code_below (Some n) count h small few = (omega arith, omega arith)
+
+    -- the code of a key of its own
+    pub own_code : (name : List ℕ) → list_any (λ known. same_name known name) (names_of program).keys ≡ true
+        → (0 < unwrap_or (code_in (names_of program).keys name) 0) × (unwrap_or (code_in (names_of program).keys name) 0 < 2 ^ 16)
+    unfolding code_in
+    own_code name h =
+        code_below (place_in (names_of program).keys name) (length (names_of program).keys) (key_place name h)
+        (place_below (same_name name) (names_of program).keys (key_place name h)) (few_keys program read whole)
