@@ -1,14 +1,22 @@
-ghost use Rattle.std.specs.Prelude.{◌≡◌, None};
+ghost use Rattle.std.specs.Prelude.{◌≡◌, None, IfOk};
+ghost use Rattle.std.specs.List.{list_any};
 ghost use Rattle.kmn_base.specs.Answers.{Answers};
-ghost use Rattle.store_table.specs.First.{or_refusal};
+ghost use Rattle.rule_model.specs.Src.{is_unicode};
+ghost use Rattle.store_table.specs.First.{or_else, or_refusal};
 ghost use Rattle.store_table.specs.Numbering.{lists_of};
-ghost use Rattle.rule_checker.specs.Refused.{IsRead, refused};
+ghost use Rattle.rule_checker.specs.Items.{items_refusal};
+ghost use Rattle.rule_checker.specs.Limits.{limits_refusal};
+ghost use Rattle.rule_checker.specs.Refused.{IsRead, refused, start_refusal};
 
-use kmn_base::CompileError;
-use rule_model::Program;
+use crate::facts::Facts;
+use crate::limits::limits_refusal;
+use crate::rules::groups_refusal;
+use crate::stores::stores_refusal;
+use kmn_base::{Code, CompileError, Memory, Refusal};
+use rule_model::{BeginDef, Program};
 use std::alloc::Global;
 use std::marker::Model;
-use store_table::Names;
+use store_table::{Names, earlier, number};
 
 /// A program that was read and isn't refused, with its names. Contracts see it as the program.
 #[derive(Drop)]
@@ -46,11 +54,74 @@ impl Checked {
     }
 }
 
+/// Whether there is a `begin Unicode`.
+fn is_started(begins: &[BeginDef]) -> bool
+    ensures { result ≡ list_any is_unicode begins.now }
+{
+    for start in begins {
+        if start.unicode {
+            return true;
+        }
+    }
+    false
+}
+
+/// The refusal of a program without a start.
+fn start_refusal(program: &Program) -> Option<Refusal>
+    ensures { result ≡ start_refusal program.now }
+{
+    if is_started(program.begins.as_slice()) {
+        None
+    } else {
+        Some(Refusal {
+            line: 1,
+            code: Code::C01,
+        })
+    }
+}
+
+/// The first refusal for items.
+#[tactic(auto, unfolding(crate::specs::Items::items_refusal))]
+fn items_refusal(alloc: Global, program: &Program) -> Result<Option<Refusal>, Memory>
+    ensures { IfOk result (λ refusal. refusal ≡ items_refusal program.now) }
+{
+    let facts = Facts::of(alloc, program)?;
+    let stores = stores_refusal(alloc, &facts, program.stores.as_slice())?;
+    let rules = groups_refusal(&facts, program.groups.as_slice());
+    Ok(earlier(stores, rules))
+}
+
+/// The first refusal for items, then for limits.
+fn later_refusal(alloc: Global, program: &Program) -> Result<Option<Refusal>, Memory>
+    ensures { IfOk result (λ refusal. refusal ≡ or_else (items_refusal program.now) (limits_refusal program.now)) }
+{
+    match items_refusal(alloc, program)? {
+        Some(refusal) => Ok(Some(refusal)),
+        None => limits_refusal(alloc, program),
+    }
+}
+
+/// The names of a program, or its first refusal.
+#[tactic(auto, unfolding(crate::specs::Refused::refused))]
+fn checked_names(alloc: Global, program: &Program) -> Result<Names, CompileError>
+    ensures { Answers (or_refusal (lists_of program.now) (refused program.now)) result }
+{
+    match start_refusal(program) {
+        Some(refusal) => return Err(CompileError::Refused(refusal)),
+        None => {}
+    }
+    let names = number(alloc, program)?;
+    match later_refusal(alloc, program)? {
+        Some(refusal) => Err(CompileError::Refused(refusal)),
+        None => Ok(names),
+    }
+}
+
 /// The program where nothing of it is refused, or its first refusal: C01 to C22.
-pub fn check(_alloc: Global, program: Program) -> Result<Checked, CompileError>
+pub fn check(alloc: Global, program: Program) -> Result<Checked, CompileError>
     requires { IsRead program }
     ensures { Answers (or_refusal program (refused program)) result }
 {
-    let _program = program;
-    Err(CompileError::Memory)
+    let names = checked_names(alloc, &program)?;
+    Ok(Checked { program, names })
 }

@@ -8,6 +8,11 @@
 #![tactic(auto)]
 
 mod checking;
+mod facts;
 mod limits;
+mod offsets;
+mod rules;
+mod stores;
+mod summaries;
 
 pub use checking::{Checked, check};

@@ -1,0 +1,23 @@
+-- The first refusal over the passes.
+use Rattle.std.proofs.Common.{◌≡◌, Option, None, Some, Ok, refl, ◌∙◌, arith}
+use Rattle.kmn_base.specs.declared.refusals.Refusal.{Refusal}
+use Rattle.rule_model.specs.declared.program.Program.{Program}
+use Rattle.store_table.specs.First.{or_else, or_refusal}
+use Rattle.store_table.specs.Names.{names_refusal}
+use Rattle.store_table.specs.Numbering.{NameLists, lists_of, numbered}
+use Rattle.rule_checker.specs.Items.{items_refusal}
+use Rattle.rule_checker.specs.Limits.{limits_refusal}
+use Rattle.rule_checker.specs.Refused.{refused, start_refusal}
+
+-- what is answered as a value isn't refused
+not_refused : {A : Type 0} (value answer : A) (refusal : Option Refusal) → or_refusal value refusal ≡ Ok answer → refusal ≡ None
+not_refused value answer None is = refl
+not_refused value answer (Some refusal) is = grind (arith, is)
+
+-- a program with a start and with names is refused for its items or its limits
+pub refused_later : (program : Program) (names : NameLists) (found : Option Refusal) → start_refusal program ≡ None → numbered program ≡ Ok names
+    → or_else (items_refusal program) (limits_refusal program) ≡ found → refused program ≡ found
+unfolding refused
+refused_later program names found started named later =
+    (λ j. or_else (started j) (or_else (not_refused (lists_of program) names (names_refusal program) named j) (or_else (items_refusal program) (limits_refusal program))))
+    ∙ later

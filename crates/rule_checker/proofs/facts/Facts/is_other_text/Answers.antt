@@ -1,0 +1,12 @@
+use Rattle.std.proofs.Common.{◌∙◌, ap, []}
+use Rattle.rule_checker.specs.Items.{Known, is_other_text, known}
+use Rattle.rule_checker.specs.Summaries.{summary, with_items}
+use Rattle.rule_checker.proofs.SummaryTests.{other_text_is}
+use Rattle.rule_checker.proofs.facts.Facts.is_other_text.Goals as goal
+
+pub returns-in_ok-sum : goal.returns-in_ok-sum
+returns-in_ok-sum c =
+    c.is_other.ensures
+    ∙ other_text_is (known c.self.inside.program.now) c.self.inside.stores c.self.inside.options c.args.store.now c.in_ok-sum.sum c.self.invariant
+    (c.in_ok-sum.ensures ∙ ap (with_items c.self.inside.stores (summary [])) c.as_slice.ensures)
+    ∙ ap (λ (k : Known). is_other_text k c.args.store.now) c.self.view_is
