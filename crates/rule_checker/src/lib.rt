@@ -8,11 +8,16 @@
 #![tactic(auto)]
 
 mod checking;
+mod counting;
 mod facts;
 mod limits;
 mod offsets;
 mod rules;
+mod spelled;
 mod stores;
 mod summaries;
+mod totals;
+mod values;
+mod walking;
 
 pub use checking::{Checked, check};

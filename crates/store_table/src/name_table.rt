@@ -58,6 +58,13 @@ impl NameTable {
         }
     }
 
+    /// How many names were appended.
+    pub fn len(&self) -> usize
+        ensures { result ≡ length self.now }
+    {
+        self.names.len()
+    }
+
     /// Whether a name is one of the table's.
     #[tactic(auto, unfolding(crate::specs::Names::is_named))]
     pub fn has(&self, name: &[u8]) -> bool
