@@ -8,3 +8,8 @@ pub mod Named
 pub mod Sizes
 pub mod Within
 pub mod Numbers
+pub mod Elements
+pub mod Contexts
+pub mod Outputs
+pub mod Records
+pub mod Written

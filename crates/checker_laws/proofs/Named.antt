@@ -37,10 +37,10 @@ use Rattle.checker_laws.proofs.Reading.{has_parts, have_parts, all_have_parts, w
 use Rattle.checker_laws.proofs.Options.{fixed}
 
 -- the start statement: there is one, and its group is stated
-start_names_group : (stated : Stated) (start : BeginDef) → Stands (begin_refusal stated) start → is_named stated.groups start.group ≡ true
-start_names_group stated start stands =
-    let rows = none_broken C02 (is_begun stands.0 start) ((C06, not (is_named stated.groups start.group)) ∷ []) (none_at_line start.line (begin_code stated (is_begun stands.0 start) start) stands.1) in
-    not_false (is_named stated.groups start.group) (none_broken C06 (not (is_named stated.groups start.group)) [] rows.1).0
+start_names_group : (names : Stated) (start : BeginDef) → Stands (begin_refusal names) start → is_named names.groups start.group ≡ true
+start_names_group names start stands =
+    let rows = none_broken C02 (is_begun stands.0 start) ((C06, not (is_named names.groups start.group)) ∷ []) (none_at_line start.line (begin_code names (is_begun stands.0 start) start) stands.1) in
+    not_false (is_named names.groups start.group) (none_broken C06 (not (is_named names.groups start.group)) [] rows.1).0
 
 first_start : (program : Program) (starts : List BeginDef) → AllByRecursion (Stands (begin_refusal (stated program))) starts → list_any is_unicode starts ≡ true → is_known_start program (find is_unicode starts) ≡ true
 first_start program [] all h = absurd (cc)

@@ -19,7 +19,8 @@ use Rattle.rule_model.specs.declared.program.GroupDef.{GroupDef}
 use Rattle.rule_model.specs.declared.program.Program.{Program}
 use Rattle.rule_model.specs.Naming.{names_of, rule_items, all_rules, store_items, stores_before, stores_after, items_from, source_items, key_names}
 use Rattle.compile_laws.specs.WellNamed.{is_word}
-use Rattle.kmn_parser.specs.ProgramLaws.{IsName, IsOwnKey, IsReadItem, StandsAsKey, IsReadStore, IsReadRule, IsReadGroup, IsReadProgram}
+use Rattle.compile_laws.specs.Numbers.{item_values}
+use Rattle.kmn_parser.specs.ProgramLaws.{IsCharacter, IsName, IsOwnKey, IsReadItem, StandsAsKey, IsReadStore, IsReadRule, IsReadGroup, IsReadProgram}
 use Rattle.checker_laws.proofs.Lists.{all_pass, none_passes, All-flat_map, All-distinct}
 
 -- a match or nomatch statement has no context and no key; a rule has a key only in a group with keys
@@ -126,3 +127,15 @@ word_read name own =
 
 pub words_read : (program : Program) → IsReadProgram program → list_all is_word (names_of program).keys ≡ true
 words_read program read = all_pass IsOwnKey is_word word_read (names_of program).keys (own_keys_read program read)
+
+-- the values of conditions and of `set`
+value_of_read : (item : SrcItem) → IsReadItem item → All (All IsCharacter) (item_values item)
+value_of_read (source.Equal store value) read = All-cons (All IsCharacter) value [] read (All-nil (All IsCharacter))
+value_of_read (source.Unequal store value) read = All-cons (All IsCharacter) value [] read (All-nil (All IsCharacter))
+value_of_read (source.Set store value) read = All-cons (All IsCharacter) value [] read (All-nil (All IsCharacter))
+value_of_read item read = All-nil (All IsCharacter)
+
+pub rule_values_read : (program : Program) → IsReadProgram program → All (All IsCharacter) (flat_map item_values (flat_map rule_items (all_rules program)))
+rule_values_read program read =
+    All-flat_map IsReadItem (All IsCharacter) item_values value_of_read (flat_map rule_items (all_rules program))
+    (All-flat_map AreReadItems IsReadItem rule_items (λ rule items. items) (all_rules program) (all_rules_read program.groups read.groups))

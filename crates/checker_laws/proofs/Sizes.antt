@@ -67,13 +67,13 @@ values_in_order stores (rule ∷ rules) =
 pub parted : (line : ℕ) (stores : List StoreDef) → stores_before line stores ++ stores_after line stores ≡ stores
 parted line stores = take-append-drop (prefix_len (λ (s : StoreDef). nat_lt s.line line) stores) stores
 
-stores_in_order : (known : Known) (stores : List StoreDef) (rules : List RuleDef) → flat_map (statement_size known) (in_line_order stores rules) ≡ flat_map (store_size known) stores
-stores_in_order known stores [] = gathered_stores (statement_size known) (store_size known) (λ s. refl) stores
-stores_in_order known stores (rule ∷ rules) =
-    gathered (statement_size known) stores rule rules
-    ∙ (λ j. gathered_stores (statement_size known) (store_size known) (λ s. refl) (stores_before rule.line stores) j ++ stores_in_order known (stores_after rule.line stores) rules j)
-    ∙ sym (flat_map-append (store_size known) (stores_before rule.line stores) (stores_after rule.line stores))
-    ∙ ap (flat_map (store_size known)) (parted rule.line stores)
+stores_in_order : (facts : Known) (stores : List StoreDef) (rules : List RuleDef) → flat_map (statement_size facts) (in_line_order stores rules) ≡ flat_map (store_size facts) stores
+stores_in_order facts stores [] = gathered_stores (statement_size facts) (store_size facts) (λ s. refl) stores
+stores_in_order facts stores (rule ∷ rules) =
+    gathered (statement_size facts) stores rule rules
+    ∙ (λ j. gathered_stores (statement_size facts) (store_size facts) (λ s. refl) (stores_before rule.line stores) j ++ stores_in_order facts (stores_after rule.line stores) rules j)
+    ∙ sym (flat_map-append (store_size facts) (stores_before rule.line stores) (stores_after rule.line stores))
+    ∙ ap (flat_map (store_size facts)) (parted rule.line stores)
 
 -- what stands before further stores is found as it was
 found_before : (before more : List Store) (name : List ℕ) → list_any (λ (s : Store). same_name s.name name) before ≡ true → elements_named (before ++ more) name ≡ elements_named before name
@@ -85,10 +85,10 @@ found_before (s ∷ before) more name h = by (same_name s.name name) h (found_be
     by true g rest = refl
     by false g rest = rest g
 
-module _ (known : Known) (stated : Stated) where
+module _ (facts : Known) (names_stated : Stated) where
   -- the elements of an item that puts no later store
-  item_before : (before more : List Store) (item : SrcItem) → known.stores ≡ before ++ more → puts_later_store (map (λ (s : Store). s.name) before) item ≡ false
-      → brought known item ≡ item_elements known.names before item
+  item_before : (before more : List Store) (item : SrcItem) → facts.stores ≡ before ++ more → puts_later_store (map (λ (s : Store). s.name) before) item ≡ false
+      → brought facts item ≡ item_elements facts.names before item
   item_before before more (source.Outs name) all later =
       ap (λ stores. elements_named stores name) all
       ∙ found_before before more name
@@ -98,13 +98,13 @@ module _ (known : Known) (stated : Stated) where
   item_before before more (source.Key key) all later = refl
   item_before before more item all later = refl
 
-  items_before : (before more : List Store) (items : List SrcItem) → known.stores ≡ before ++ more
-      → first_code (store_item_code stated (map (λ (s : Store). s.name) before)) items ≡ None
-      → flat_map (brought known) items ≡ flat_map (item_elements known.names before) items
+  items_before : (before more : List Store) (items : List SrcItem) → facts.stores ≡ before ++ more
+      → first_code (store_item_code names_stated (map (λ (s : Store). s.name) before)) items ≡ None
+      → flat_map (brought facts) items ≡ flat_map (item_elements facts.names before) items
   items_before before more [] all h = refl
   items_before before more (item ∷ items) all h =
-      let both = none_both (store_item_code stated (map (λ (s : Store). s.name) before) item) (first_code (store_item_code stated (map (λ (s : Store). s.name) before)) items) h in
-      let one = none_broken C05 (names_no_store stated item) ((C07, puts_later_store (map (λ (s : Store). s.name) before) item) ∷ []) both.0 in
+      let both = none_both (store_item_code names_stated (map (λ (s : Store). s.name) before) item) (first_code (store_item_code names_stated (map (λ (s : Store). s.name) before)) items) h in
+      let one = none_broken C05 (names_no_store names_stated item) ((C07, puts_later_store (map (λ (s : Store). s.name) before) item) ∷ []) both.0 in
       let two = none_broken C07 (puts_later_store (map (λ (s : Store). s.name) before) item) [] one.1 in
       λ j. item_before before more item all two.0 j ++ items_before before more items all both.1 j
 
@@ -113,15 +113,15 @@ module _ (known : Known) (stated : Stated) where
     more : List Store
     is : after ≡ before ++ more
 
-  onto : (before : List Store) (stores : List StoreDef) → Onto before (stores_onto known.names before stores)
+  onto : (before : List Store) (stores : List StoreDef) → Onto before (stores_onto facts.names before stores)
   onto before [] = record { more = []; is = sym (append-nil before) }
-  onto before (store ∷ stores) = by (is_dropped store) (onto before stores) (onto (before ++ store_of known.names before store ∷ []) stores)
+  onto before (store ∷ stores) = by (is_dropped store) (onto before stores) (onto (before ++ store_of facts.names before store ∷ []) stores)
     where
-      by : (b : Bool) → Onto before (stores_onto known.names before stores) → Onto (before ++ store_of known.names before store ∷ []) (stores_onto known.names (before ++ store_of known.names before store ∷ []) stores)
-          → Onto before (stores_onto known.names (if b then before else before ++ store_of known.names before store ∷ []) stores)
+      by : (b : Bool) → Onto before (stores_onto facts.names before stores) → Onto (before ++ store_of facts.names before store ∷ []) (stores_onto facts.names (before ++ store_of facts.names before store ∷ []) stores)
+          → Onto before (stores_onto facts.names (if b then before else before ++ store_of facts.names before store ∷ []) stores)
       by true same rest = same
       by false same rest =
-          record { more = store_of known.names before store ∷ rest.more; is = rest.is ∙ append_assoc before (store_of known.names before store ∷ []) rest.more }
+          record { more = store_of facts.names before store ∷ rest.more; is = rest.is ∙ append_assoc before (store_of facts.names before store ∷ []) rest.more }
 
   names_next : (before : List StoreDef) (store : StoreDef) (names : List (List ℕ)) → names ≡ store_names before → names ++ kept_name store ≡ store_names (before ++ store ∷ [])
   names_next before store names same =
@@ -129,41 +129,41 @@ module _ (known : Known) (stated : Stated) where
       ∙ sym (flat_map-append kept_name before (store ∷ []) ∙ ap (λ (ns : List (List ℕ)). store_names before ++ ns) (append-nil (kept_name store)))
 
   stores_sized : (before : List Store) (defined : List StoreDef) (stores : List StoreDef) → map (λ (s : Store). s.name) before ≡ store_names defined
-      → first_of (store_refusal stated) defined stores ≡ None → known.stores ≡ stores_onto known.names before stores
-      → map element_count known.stores ≡ map element_count before ++ flat_map (store_size known) stores
+      → first_of (store_refusal names_stated) defined stores ≡ None → facts.stores ≡ stores_onto facts.names before stores
+      → map element_count facts.stores ≡ map element_count before ++ flat_map (store_size facts) stores
   stores_sized before defined [] names h all = ap (map element_count) all ∙ sym (append-nil (map element_count before))
   stores_sized before defined (store ∷ stores) names h all =
-      let both = none_earlier (store_refusal stated defined store) (first_of (store_refusal stated) (defined ++ store ∷ []) stores) h in
-      let parts = none_both (broken ((C03, is_store_again (store_names defined) store) ∷ [])) (first_code (store_item_code stated (store_names defined)) store.items)
-      (none_at_line store.line (store_code stated (store_names defined) store) both.0) in
-      let items = subst (λ (ns : List (List ℕ)). first_code (store_item_code stated ns) store.items ≡ None) (sym names) parts.1 in
+      let both = none_earlier (store_refusal names_stated defined store) (first_of (store_refusal names_stated) (defined ++ store ∷ []) stores) h in
+      let parts = none_both (broken ((C03, is_store_again (store_names defined) store) ∷ [])) (first_code (store_item_code names_stated (store_names defined)) store.items)
+      (none_at_line store.line (store_code names_stated (store_names defined) store) both.0) in
+      let items = subst (λ (ns : List (List ℕ)). first_code (store_item_code names_stated ns) store.items ≡ None) (sym names) parts.1 in
       by (is_dropped store) refl items all (λ next same at. stores_sized next (defined ++ store ∷ []) stores same both.1 at)
     where
       kept : (b : Bool) → is_dropped store ≡ b → map (λ (s : Store). s.name) before ++ kept_name store ≡ map (λ (s : Store). s.name) before ++ (if b then [] else store.name ∷ [])
       kept b is = ap (λ (c : Bool). map (λ (s : Store). s.name) before ++ (if c then [] else store.name ∷ [])) is
 
-      by : (b : Bool) → is_dropped store ≡ b → first_code (store_item_code stated (map (λ (s : Store). s.name) before)) store.items ≡ None
-          → known.stores ≡ stores_onto known.names (if b then before else before ++ store_of known.names before store ∷ []) stores
-          → ((next : List Store) → map (λ (s : Store). s.name) next ≡ store_names (defined ++ store ∷ []) → known.stores ≡ stores_onto known.names next stores
-          → map element_count known.stores ≡ map element_count next ++ flat_map (store_size known) stores)
-          → map element_count known.stores ≡ map element_count before ++ ((if b then [] else length (statement_elements known store) ∷ []) ++ flat_map (store_size known) stores)
+      by : (b : Bool) → is_dropped store ≡ b → first_code (store_item_code names_stated (map (λ (s : Store). s.name) before)) store.items ≡ None
+          → facts.stores ≡ stores_onto facts.names (if b then before else before ++ store_of facts.names before store ∷ []) stores
+          → ((next : List Store) → map (λ (s : Store). s.name) next ≡ store_names (defined ++ store ∷ []) → facts.stores ≡ stores_onto facts.names next stores
+          → map element_count facts.stores ≡ map element_count next ++ flat_map (store_size facts) stores)
+          → map element_count facts.stores ≡ map element_count before ++ ((if b then [] else length (statement_elements facts store) ∷ []) ++ flat_map (store_size facts) stores)
       by true is items at rest =
           rest before
           (sym (append-nil (map (λ (s : Store). s.name) before)) ∙ sym (kept true is) ∙ names_next defined store (map (λ (s : Store). s.name) before) names) at
       by false is items at rest =
-          let next = before ++ store_of known.names before store ∷ [] in
+          let next = before ++ store_of facts.names before store ∷ [] in
           let behind = onto next stores in
-          let all_before : known.stores ≡ before ++ (store_of known.names before store ∷ behind.more) = at ∙ behind.is ∙ append_assoc before (store_of known.names before store ∷ []) behind.more in
+          let all_before : facts.stores ≡ before ++ (store_of facts.names before store ∷ behind.more) = at ∙ behind.is ∙ append_assoc before (store_of facts.names before store ∷ []) behind.more in
           rest next
-          (map-append (λ (s : Store). s.name) before (store_of known.names before store ∷ [])
+          (map-append (λ (s : Store). s.name) before (store_of facts.names before store ∷ [])
           ∙ sym (kept false is) ∙ names_next defined store (map (λ (s : Store). s.name) before) names) at
-          ∙ (λ j. map-append element_count before (store_of known.names before store ∷ []) j ++ flat_map (store_size known) stores)
-          ∙ append_assoc (map element_count before) (length (flat_map (item_elements known.names before) store.items) ∷ []) (flat_map (store_size known) stores)
-          ∙ ap (λ (es : List Element). map element_count before ++ (length es ∷ flat_map (store_size known) stores))
-          (sym (items_before before (store_of known.names before store ∷ behind.more) store.items all_before items))
+          ∙ (λ j. map-append element_count before (store_of facts.names before store ∷ []) j ++ flat_map (store_size facts) stores)
+          ∙ append_assoc (map element_count before) (length (flat_map (item_elements facts.names before) store.items) ∷ []) (flat_map (store_size facts) stores)
+          ∙ ap (λ (es : List Element). map element_count before ++ (length es ∷ flat_map (store_size facts) stores))
+          (sym (items_before before (store_of facts.names before store ∷ behind.more) store.items all_before items))
 
 -- the key dictionary has the characters of its names, and a space between each two
-space_text : IsUtf8 (32 ∷ [])
+pub space_text : IsUtf8 (32 ∷ [])
 space_text = (32 ∷ [], (refl, ap (λ bs. bs ++ []) (encode_ascii 32 (omega arith))))
 
 nothing_ascii : IsAscii []
@@ -173,8 +173,8 @@ space_ascii : IsAscii (32 ∷ [])
 space_ascii zero = omega arith
 space_ascii (suc i) = nothing_ascii i
 
-one_space : length (chars (32 ∷ [])) ≡ 1
-one_space = ap length (chars-IsAscii (32 ∷ []) space_ascii)
+pub space_chars : chars (32 ∷ []) ≡ 32 ∷ []
+space_chars = chars-IsAscii (32 ∷ []) space_ascii
 
 pub joined_size : (name : List ℕ) (names : List (List ℕ)) → All IsOwnKey (name ∷ names) → length (chars (join_with_byte 32 (name ∷ names))) ≡ names_size (name ∷ names) + length names
 joined_size name [] own = omega arith
@@ -184,7 +184,7 @@ joined_size name (next ∷ names) own =
     omega (
       arith,
       rest,
-      one_space,
+      ap length space_chars,
       ap length (chars-append name (32 ∷ join_with_byte 32 (next ∷ names)) here.word.utf8),
       length-append (chars name) (chars (32 ∷ join_with_byte 32 (next ∷ names))),
       ap length (chars-append (32 ∷ []) (join_with_byte 32 (next ∷ names)) space_text),

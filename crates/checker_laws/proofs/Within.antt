@@ -27,6 +27,7 @@ use Rattle.store_table.specs.First.{broken, first_of}
 use Rattle.rule_checker.specs.Items.{Known, known}
 use Rattle.rule_checker.specs.Limits.{Statement, OfStore, OfRule, in_line_order, line_of, items_of, output_size, names_size, sizes, mark_count, all_records, is_long_context, is_long_output, have_many_elements, are_many_stores, have_many_marks, have_many_records, are_many_groups, limit_code, statement_refusal, group_refusal, limits_refusal}
 use Rattle.rule_checker.specs.Refused.{IsRead}
+use Rattle.checker_laws.specs.Laws.{statements_of}
 use Rattle.checker_laws.proofs.Unrefused.{none_earlier, none_at_line, none_broken, none_first, Stands}
 use Rattle.checker_laws.proofs.Lists.{none_or, All-append_parts, all_behind}
 use Rattle.checker_laws.proofs.Accepted.{IsUnrefused}
@@ -45,44 +46,41 @@ not_more : (limit n : ℕ) → nat_lt limit n ≡ false → n ≤ limit
 not_more limit n h = grind (arith, nat_tests, h)
 
 -- what the limits at a statement say of all statements up to it
-record Within (known : Known) (through : List Statement) : Type 0 where
-  elements : have_many_elements (sizes known through) ≡ false
-  stores : length (sizes known through) ≤ STORES
+record Within (facts : Known) (through : List Statement) : Type 0 where
+  elements : have_many_elements (sizes facts through) ≡ false
+  stores : length (sizes facts through) ≤ STORES
   marks : mark_count through ≤ DEADKEYS
-  records : all_records known through ≤ RECORDS
+  records : all_records facts through ≤ RECORDS
 
-module _ (known : Known) (before : List Statement) (statement : Statement) (h : statement_refusal known before statement ≡ None) where
+module _ (facts : Known) (before : List Statement) (statement : Statement) (h : statement_refusal facts before statement ≡ None) where
   abbrev through : List Statement
   through = before ++ statement ∷ []
 
-  here : (is_long_context statement ≡ false) × (is_long_output known statement ≡ false) × Within known through
+  here : (is_long_context statement ≡ false) × (is_long_output facts statement ≡ false) × Within facts through
   here =
-      let r22 = (C22, have_many_records known through) ∷ [] in
+      let r22 = (C22, have_many_records facts through) ∷ [] in
       let r21 = (C21, have_many_marks through) ∷ r22 in
-      let r19 = (C19, are_many_stores (sizes known through)) ∷ r21 in
-      let r18 = (C18, have_many_elements (sizes known through)) ∷ r19 in
-      let r17 = (C17, is_long_output known statement) ∷ r18 in
-      let a = none_broken C16 (is_long_context statement) r17 (none_at_line (line_of statement) (limit_code known through statement) h) in
-      let b = none_broken C17 (is_long_output known statement) r18 a.1 in
-      let c = none_broken C18 (have_many_elements (sizes known through)) r19 b.1 in
-      let d = none_broken C19 (are_many_stores (sizes known through)) r21 c.1 in
+      let r19 = (C19, are_many_stores (sizes facts through)) ∷ r21 in
+      let r18 = (C18, have_many_elements (sizes facts through)) ∷ r19 in
+      let r17 = (C17, is_long_output facts statement) ∷ r18 in
+      let a = none_broken C16 (is_long_context statement) r17 (none_at_line (line_of statement) (limit_code facts through statement) h) in
+      let b = none_broken C17 (is_long_output facts statement) r18 a.1 in
+      let c = none_broken C18 (have_many_elements (sizes facts through)) r19 b.1 in
+      let d = none_broken C19 (are_many_stores (sizes facts through)) r21 c.1 in
       let e = none_broken C21 (have_many_marks through) r22 d.1 in
-      let f = none_broken C22 (have_many_records known through) [] e.1 in (
+      let f = none_broken C22 (have_many_records facts through) [] e.1 in (
         a.0,
         b.0,
         record {
           elements = c.0;
-          stores = not_more STORES (length (sizes known through)) d.0;
+          stores = not_more STORES (length (sizes facts through)) d.0;
           marks = not_more DEADKEYS (mark_count through) e.0;
-          records = not_more RECORDS (all_records known through) f.0;
+          records = not_more RECORDS (all_records facts through) f.0;
         },
       )
 
-none_within : (known : Known) → Within known []
-none_within known = record { elements = refl; stores = omega arith; marks = omega arith; records = omega arith }
-
-abbrev statements_of : Program → List Statement
-statements_of program = in_line_order program.stores (all_rules program)
+none_within : (facts : Known) → Within facts []
+none_within facts = record { elements = refl; stores = omega arith; marks = omega arith; records = omega arith }
 
 limits_parts : (program : Program) → limits_refusal program ≡ None
     → (first_of (statement_refusal (known program)) [] (statements_of program) ≡ None) × (first_of group_refusal [] program.groups ≡ None)
@@ -106,13 +104,13 @@ pub record IsShortRule (stores : List Store) (rule : RuleDef) : Type 0 where
   pub context : length rule.context ≤ CONTEXT_ITEMS
   pub output : output_size stores rule.output ≤ OUTPUT_ITEMS
 
-short_rules : (known : Known) (rules : List RuleDef) → AllByRecursion (λ (rule : RuleDef). Stands (statement_refusal known) (OfRule rule)) rules → All (IsShortRule known.stores) rules
-short_rules known [] h = All-nil (IsShortRule known.stores)
-short_rules known (rule ∷ rules) h =
-    let parts = here known h.0.0 (OfRule rule) h.0.1 in
-    All-cons (IsShortRule known.stores) rule rules
-    (record { context = not_more CONTEXT_ITEMS (length rule.context) parts.0; output = not_more OUTPUT_ITEMS (output_size known.stores rule.output) parts.1 })
-    (short_rules known rules h.1)
+short_rules : (facts : Known) (rules : List RuleDef) → AllByRecursion (λ (rule : RuleDef). Stands (statement_refusal facts) (OfRule rule)) rules → All (IsShortRule facts.stores) rules
+short_rules facts [] h = All-nil (IsShortRule facts.stores)
+short_rules facts (rule ∷ rules) h =
+    let parts = here facts h.0.0 (OfRule rule) h.0.1 in
+    All-cons (IsShortRule facts.stores) rule rules
+    (record { context = not_more CONTEXT_ITEMS (length rule.context) parts.0; output = not_more OUTPUT_ITEMS (output_size facts.stores rule.output) parts.1 })
+    (short_rules facts rules h.1)
 
 pub rules_are_short : (program : Program) → IsUnrefused program → All (IsShortRule (stores_of program)) (all_rules program)
 unfolding known

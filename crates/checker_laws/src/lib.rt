@@ -8,4 +8,4 @@
 
 mod laws;
 
-pub use laws::accepted_is_well_named;
+pub use laws::{accepted_can_be_written, accepted_is_well_named, limits_count_the_file};
