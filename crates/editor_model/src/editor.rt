@@ -133,7 +133,7 @@ impl Editor {
         if n as usize > self.len() {
             return Err(EditError::Place);
         }
-        self.go(n as usize);
+        self.go_to(n as usize);
         Ok(())
     }
 
@@ -170,7 +170,7 @@ impl Editor {
         self.reserve(alloc, text.len())?;
         let caret = moved_caret(from as usize, to as usize, text.len(), self.left().len());
         self.replace(from, to, text);
-        self.go(caret);
+        self.go_to(caret);
         Ok(())
     }
 
@@ -182,7 +182,7 @@ impl Editor {
         requires room { length text.now ≤ self.old.spare }
         ensures { IsAt (edited_text from to text.now (whole self.old)) (from + length text.now) self.new }
     {
-        self.go(to as usize);
+        self.go_to(to as usize);
         self.apply(to - from, text);
     }
 
@@ -193,9 +193,9 @@ impl Editor {
         self.start + (self.cells.len() - self.end)
     }
 
-    /// Moves the caret to a place of the text.
+    /// Moves the caret to a place that the text has.
     #[tactic(auto, using(crate::proofs::Places::place_steps))]
-    fn go(&mut self, place: usize)
+    pub fn go_to(&mut self, place: usize)
         requires { place ≤ length (whole self.old) }
         ensures at { IsAt (whole self.old) place self.new }
         ensures room { self.new.spare ≡ self.old.spare }

@@ -1,3 +1,5 @@
 pub mod Answers
+pub mod Changes
 pub mod Playing
+pub mod Printed
 pub mod Session

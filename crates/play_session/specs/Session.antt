@@ -1,5 +1,5 @@
 -- What a session stands for, and what an event makes of it.
-use Rattle.std.specs.Prelude.{◌≡◌, ℕ, ◌+◌, ◌≤◌, Bool, true, false, List, [], ◌++◌, length, map}
+use Rattle.std.specs.Prelude.{◌≡◌, ℕ, ◌*◌, ◌+◌, ◌^◌, ◌<◌, ◌≤◌, Bool, true, false, if◌then◌else◌, List, [], ◌++◌, length, map}
 use Rattle.kmn_base.specs.declared.items.Item.{Item}
 use Rattle.kmn_base.specs.declared.items.Item.TheVariants.{Char}
 use Rattle.kmn_base.specs.declared.events.Event.{Event}
@@ -8,17 +8,23 @@ use Rattle.kmn_base.specs.Lists.{characters, without_last, IsSound}
 use Rattle.rule_model.specs.declared.tables.Tables.{Tables}
 use Rattle.rule_model.specs.Act.{one_more}
 use Rattle.rule_model.specs.Event.{State, Happening, happening}
+use Rattle.rule_model.specs.Plain.{option_numbers}
 use Rattle.rule_model.specs.Tab.{tab}
 use Rattle.rule_model.specs.Trace.{first_state}
+use Rattle.rule_engine.specs.declared.values.Values.{Values}
 use Rattle.rule_engine.specs.Engine.{EngineState}
 use Rattle.editor_model.specs.Text.{EditorText}
+use Rattle.play_session.specs.declared.changes.Change.{Change}
+use Rattle.play_session.specs.Changes.{changes_between}
 
--- a session: its tables, the state that it stands for, and of its last step the number and what it inserted
+-- a session: its tables, the state that it stands for, and of its last step the number, what it inserted and which
+-- option values it changed
 pub record SessionState : Type 0 where
   pub tables : Tables
   pub state : State
   pub number : ℕ
   pub inserted : List ℕ
+  pub changes : List Change
 
 -- the state that an engine and an editor stand for together
 abbrev pub stands_for : EngineState → EditorText → State
@@ -31,20 +37,30 @@ stands_for engine editor =
       saved = engine.saved;
     }
 
--- the session that they are after the step of a number
-abbrev pub session_of : EngineState → EditorText → ℕ → SessionState
-session_of engine editor number =
-    record { tables = engine.tables; state = stands_for engine editor; number = number; inserted = engine.inserted }
+-- what the last step inserted, which is what the engine's last press did where that step was one
+abbrev pub typed_text : Bool → EngineState → List ℕ
+typed_text typed engine = if typed then engine.inserted else []
 
--- the engine of a session
-abbrev pub engine_of : SessionState → EngineState
-engine_of session =
+-- the session that they are after the step of a number, given whether it was a press and what it changed
+abbrev pub session_of : EngineState → EditorText → ℕ → Bool → List Change → SessionState
+session_of engine editor number typed changes =
+    record {
+      tables = engine.tables;
+      state = stands_for engine editor;
+      number = number;
+      inserted = typed_text typed engine;
+      changes = changes;
+    }
+
+-- the engine of a session, whose last press inserted this
+abbrev pub engine_of : SessionState → List ℕ → EngineState
+engine_of session inserted =
     record {
       tables = session.tables;
       left = session.state.left;
       current = session.state.current;
       saved = session.state.saved;
-      inserted = session.inserted;
+      inserted = inserted;
     }
 
 -- the engine knows the editor's text, its marks stand in the window, and the text has at most so many characters
@@ -53,17 +69,26 @@ pub record AreTogether (limit : ℕ) (engine : EngineState) (editor : EditorText
   pub sound : IsSound engine.left
   pub few : length editor.left + length editor.right ≤ limit
 
+-- the stores of tables have 32-bit numbers, and there is room for two changes of each
+pub record HasRoom (tables : Tables) (room : ℕ) : Type 0 where
+  pub numbers : length (option_numbers 0 (tab tables).stores) < 2 ^ 32
+  pub changes : 2 * length (option_numbers 0 (tab tables).stores) ≤ room
+
 -- a text before the caret whose last items are these, marks among them
 abbrev pub text_with_context : List ℕ → List Item → List Item
 text_with_context text context = map Char (without_last (length (characters context)) text) ++ context
 
 -- before the first event
 abbrev pub first_session : Tables → SessionState
-first_session tables = record { tables = tables; state = first_state (tab tables); number = 0; inserted = [] }
+first_session tables = record { tables = tables; state = first_state (tab tables); number = 0; inserted = []; changes = [] }
 
 -- what an event does that is not refused
 abbrev pub happened : SessionState → Event → Happening
 happened session event = happening (tab session.tables) session.state event
+
+-- the values of the options in a state
+abbrev pub values_of : State → Values
+values_of state = record { current = state.current; saved = state.saved }
 
 -- the session after it
 abbrev pub after_step : SessionState → Event → SessionState
@@ -73,6 +98,7 @@ after_step session event =
       state = (happened session event).after;
       number = one_more session.number;
       inserted = (happened session event).inserted;
+      changes = changes_between session.tables (values_of session.state) (values_of (happened session event).after);
     }
 
 -- an event is a key press

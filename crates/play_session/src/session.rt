@@ -1,21 +1,33 @@
-ghost use Rattle.std.specs.Prelude.{◌≡◌, ◌≤◌, length, IfOk, IfErr, IsTrue, IsSome, Ok};
+ghost use Rattle.std.specs.Prelude.{◌≡◌, ◌<◌, ◌≤◌, length, IfOk, IfErr, IsSome, Ok};
 ghost use Rattle.kmn_base.specs.declared.events.Event.TheVariants as event;
 ghost use Rattle.kmn_base.specs.declared.limits.TheConstants.{TEXT_CHARS};
 ghost use Rattle.kmn_base.specs.Lists.{characters, window};
 ghost use Rattle.kmx_format.specs.TablesOf.{tables_of};
+ghost use Rattle.rule_model.specs.Act.{one_more};
 ghost use Rattle.rule_model.specs.Event.{whole_text, event_refusal, event_of};
 ghost use Rattle.rule_model.specs.Tab.{tab};
 ghost use Rattle.rule_model.specs.Trace.{first_state};
 
-use crate::playing::key_event;
+use crate::changes::{Change, put_changes};
+use crate::playing::{caret_event, edit_event, key_event, setting_event};
 use editor_model::Editor;
 use kmn_base::limits::TEXT_CHARS_AT_KEY;
-use kmn_base::{Event, KeyPress, Memory, Outcome};
+use kmn_base::{Element, Event, KeyPress, Memory, Outcome, Seq, Text};
 use kmx_verifier::Verified;
 use rule_engine::Engine;
 use std::alloc::Global;
 use std::marker::Model;
 use thiserror::Error;
+
+/// The outcome of an event that is no key press.
+const NO_OUTCOME: Outcome = Outcome {
+    delete: 0,
+    pass: false,
+    beeps: 0,
+    entered: 0,
+    put: 0,
+    saved: 0,
+};
 
 /// Why an event was not done.
 #[derive(Debug, Drop, Error)]
@@ -54,38 +66,46 @@ pub struct Session<'a> {
     engine: Engine<'a>,
     editor: Editor,
     number: u32,
+    /// Whether the last step was a press, so that what the engine inserted is what the step did.
+    typed: bool,
+    changes: Vec<Change>,
 }
 
 impl<'a> Model for Session<'a> {
+    ghost use Rattle.std.specs.Prelude.{vec_capacity};
     ghost use Rattle.kmn_base.specs.declared.limits.TheConstants.{TEXT_CHARS};
-    ghost use Rattle.play_session.specs.Session.{SessionState, AreTogether, session_of};
+    ghost use Rattle.play_session.specs.Session.{SessionState, AreTogether, HasRoom, session_of};
 
     ghost Value = { SessionState };
 
-    ghost view = { λ session. session_of session.engine session.editor session.number };
+    ghost view = { λ session. session_of session.engine session.editor session.number session.typed session.changes.items };
 
-    ghost invariant = { λ session. AreTogether TEXT_CHARS session.engine session.editor };
+    ghost invariant = { λ session. AreTogether TEXT_CHARS session.engine session.editor
+        × HasRoom session.engine.tables (vec_capacity session.changes) };
 }
 
 impl<'a> Session<'a> {
-    ghost use Rattle.play_session.specs.Session.{engine_of, text_with_context, first_session, happened, after_step, is_key};
+    ghost use Rattle.play_session.specs.Session.{engine_of, text_with_context, first_session, happened, after_step};
     ghost use Rattle.play_session.specs.Answers.{step_of, code_of};
+    ghost use Rattle.play_session.specs.Printed.{name_of, value_of};
 
     /// A session before its first event: an empty text, each option with its elements, and none saved.
     pub fn start(alloc: Global, file: &'a Verified<'a>) -> Result<Session<'a>, Memory>
         ensures { IfOk result (λ session. session ≡ first_session (tables_of file.now)) }
     {
+        let room = 2 * file.store_count() as usize;
         Ok(Session {
             engine: Engine::start(alloc, file)?,
             editor: Editor::new(alloc),
             number: 0,
+            typed: true,
+            changes: Vec::with_capacity(alloc, room)?,
         })
     }
 
-    /// Does an event, which for now has to be a key press. After `Place` or `Length` nothing is changed; nothing is said of
-    /// a session whose step answered `Memory`.
+    /// Does an event. `Place` and `Length` come exactly where its meaning refuses it, and change nothing. Want of memory
+    /// changes nothing either, but where a press that is passed on ends in it: of that session nothing is said.
     pub fn step(&mut self, alloc: Global, event: &Event) -> Result<Step, StepError>
-        requires { IsTrue (is_key event.now) }
         ensures happens { IfOk result (λ _. event_of (tab self.old.tables) self.old.state event.now ≡ Ok (happened self.old event.now)) }
         ensures answer { IfOk result (λ step. step ≡ step_of self.old event.now) }
         ensures leaves { IfOk result (λ _. self.new ≡ after_step self.old event.now) }
@@ -94,8 +114,11 @@ impl<'a> Session<'a> {
     {
         match event {
             Event::Key(press) => self.key(alloc, *press),
-            // The `requires` rules the other events out.
-            _ => Err(StepError::Memory),
+            Event::Setting { name, value } => {
+                self.setting(alloc, name.as_slice(), value.as_slice())
+            }
+            Event::Caret(place) => self.caret(alloc, *place),
+            Event::Edit { from, to, text } => self.edit(alloc, *from, *to, text.as_slice()),
         }
     }
 
@@ -111,12 +134,69 @@ impl<'a> Session<'a> {
         if self.editor.left().len() + self.editor.right().len() > TEXT_CHARS_AT_KEY {
             return Err(StepError::Length);
         }
+        let before = self.engine.values().copy(alloc)?;
         let outcome = key_event(alloc, &mut self.engine, &mut self.editor, press)?;
-        self.number = self.number.saturating_add(1);
-        Ok(Step {
-            number: self.number,
-            outcome,
-        })
+        self.changes.clear();
+        put_changes(
+            &mut self.changes,
+            self.engine.option_numbers(),
+            &before,
+            self.engine.values(),
+        );
+        self.typed = true;
+        Ok(next_step(&mut self.number, outcome))
+    }
+
+    /// A setting of the host.
+    #[tactic(auto, unfolding(rule_model::specs::Event::happening))]
+    fn setting(&mut self, alloc: Global, name: &[u8], value: &[char]) -> Result<Step, StepError>
+        ensures happens { IfOk result (λ _. event_of (tab self.old.tables) self.old.state (event.Setting name.now value.now) ≡ Ok (happened self.old (event.Setting name.now value.now))) }
+        ensures answer { IfOk result (λ step. step ≡ step_of self.old (event.Setting name.now value.now)) }
+        ensures leaves { IfOk result (λ _. self.new ≡ after_step self.old (event.Setting name.now value.now)) }
+        ensures refused { IfErr result (λ error. code_of error ≡ event_refusal self.old.state (event.Setting name.now value.now)) }
+        ensures unchanged { IfErr result (λ _. self.new ≡ self.old) }
+    {
+        let before = self.engine.values().copy(alloc)?;
+        setting_event(alloc, &mut self.engine, &self.editor, name, value)?;
+        self.changes.clear();
+        put_changes(
+            &mut self.changes,
+            self.engine.option_numbers(),
+            &before,
+            self.engine.values(),
+        );
+        self.typed = false;
+        Ok(next_step(&mut self.number, NO_OUTCOME))
+    }
+
+    /// A caret move.
+    #[tactic(auto, using(crate::proofs::Changing::nothing_changes), unfolding(rule_model::specs::Event::happening))]
+    fn caret(&mut self, alloc: Global, place: u32) -> Result<Step, StepError>
+        ensures happens { IfOk result (λ _. event_of (tab self.old.tables) self.old.state (event.Caret place) ≡ Ok (happened self.old (event.Caret place))) }
+        ensures answer { IfOk result (λ step. step ≡ step_of self.old (event.Caret place)) }
+        ensures leaves { IfOk result (λ _. self.new ≡ after_step self.old (event.Caret place)) }
+        ensures refused { IfErr result (λ error. code_of error ≡ event_refusal self.old.state (event.Caret place)) }
+        ensures unchanged { IfErr result (λ _. self.new ≡ self.old) }
+    {
+        caret_event(alloc, &mut self.engine, &mut self.editor, place)?;
+        self.changes.clear();
+        self.typed = false;
+        Ok(next_step(&mut self.number, NO_OUTCOME))
+    }
+
+    /// An edit from outside.
+    #[tactic(auto, using(crate::proofs::Changing::nothing_changes), unfolding(rule_model::specs::Event::happening))]
+    fn edit(&mut self, alloc: Global, from: u32, to: u32, text: &[char]) -> Result<Step, StepError>
+        ensures happens { IfOk result (λ _. event_of (tab self.old.tables) self.old.state (event.Edit from to text.now) ≡ Ok (happened self.old (event.Edit from to text.now))) }
+        ensures answer { IfOk result (λ step. step ≡ step_of self.old (event.Edit from to text.now)) }
+        ensures leaves { IfOk result (λ _. self.new ≡ after_step self.old (event.Edit from to text.now)) }
+        ensures refused { IfErr result (λ error. code_of error ≡ event_refusal self.old.state (event.Edit from to text.now)) }
+        ensures unchanged { IfErr result (λ _. self.new ≡ self.old) }
+    {
+        edit_event(alloc, &mut self.engine, &mut self.editor, from, to, text)?;
+        self.changes.clear();
+        self.typed = false;
+        Ok(next_step(&mut self.number, NO_OUTCOME))
     }
 
     /// The text with its caret. The list before the caret that a session stands for is this text, whose last items are the
@@ -132,16 +212,67 @@ impl<'a> Session<'a> {
 
     /// The engine, with its context.
     pub fn engine(&self) -> &Engine<'a>
-        ensures value { result.now ≡ engine_of self.now }
+        ensures value { result.now ≡ engine_of self.now result.now.inserted }
         ensures names { self.now.state.names ≡ (first_state (tab self.now.tables)).names }
     {
         &self.engine
     }
 
-    /// The characters that the last step inserted, before what the editor did by itself; none before the first step.
+    /// The characters that the last step inserted, before what the editor did by itself; none where it was no press.
     pub fn inserted(&self) -> &[char]
         ensures { result.now ≡ self.now.inserted }
     {
-        self.engine.inserted()
+        if self.typed {
+            self.engine.inserted()
+        } else {
+            &[]
+        }
+    }
+
+    /// The option values that the last step changed: by store number, the current value before the saved one.
+    pub fn changes(&self) -> &[Change]
+        ensures { result.now ≡ self.now.changes }
+    {
+        self.changes.as_slice()
+    }
+
+    /// The current or the saved value of a store. A store that is no option has its elements, and nothing is saved.
+    pub fn value(
+        &self,
+        alloc: Global,
+        store: u32,
+        saved: bool,
+    ) -> Result<Option<Seq<Element>>, Memory>
+        requires { store < length self.now.tables.stores }
+        ensures { IfOk result (λ value. value ≡ value_of self.now store saved) }
+    {
+        if !saved {
+            return Ok(Some(Seq::from_slice(alloc, self.engine.content(store))?));
+        }
+        match self.engine.saved_of(store) {
+            Some(value) => Ok(Some(Seq::from_slice(alloc, value)?)),
+            None => Ok(None),
+        }
+    }
+
+    /// The name of a store, empty where the file has none.
+    pub fn name(&self, alloc: Global, store: u32) -> Result<Text, Memory>
+        requires { store < length self.now.tables.stores }
+        ensures { IfOk result (λ name. name ≡ name_of self.now.tables store) }
+    {
+        let stores = self.engine.tables().stores.as_slice();
+        stores[store as usize].name.copy(alloc)
+    }
+}
+
+/// The step of the next number.
+fn next_step(number: &mut u32, outcome: Outcome) -> Step
+    ensures number { number.new ≡ one_more number.old }
+    ensures step { result ≡ record { number = one_more number.old; outcome = outcome } }
+{
+    *number = number.saturating_add(1);
+    Step {
+        number: *number,
+        outcome,
     }
 }

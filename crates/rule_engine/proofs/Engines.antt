@@ -1,22 +1,25 @@
 -- What an engine keeps, and the edit of a press from the text before it.
-use Rattle.std.proofs.Common.{◌≡◌, ℕ, suc, ◌+◌, ◌-◌, ◌≤◌, true, false, cond, List, [], ◌∷◌, length, drop, sym, ap, ◌∙◌, subst, arith}
+use Rattle.std.proofs.Common.{◌≡◌, ℕ, suc, ◌+◌, ◌-◌, ◌<◌, ◌≤◌, true, false, cond, List, [], ◌∷◌, length, drop, Some, sym, ap, ◌∙◌, subst, arith, length-set}
 use Rattle.std.specs.Prelude.{nat_eq}
 use Rattle.std.proofs.lemmas.List.Elements.{All-nil}
 use Rattle.std.proofs.lemmas.List.{length-map}
+use Rattle.std.proofs.lemmas.List.Quantifiers.{position-Some}
 use Rattle.kmn_base.specs.declared.items.Item.{Item}
+use Rattle.kmn_base.specs.declared.items.Element.{Element}
 use Rattle.kmn_base.specs.declared.keys.KeyPress.{KeyPress}
 use Rattle.kmn_base.specs.Lists.{characters, is_mark, IsSound, read_again}
 use Rattle.kmn_base.proofs.ReadingAgain.{reading_again_is_sound, reading_again_gives_the_text}
 use Rattle.rule_model.specs.declared.event_state.EventState.{EventState}
 use Rattle.rule_model.specs.declared.tables.Tables.{Tables}
+use Rattle.rule_model.specs.Event.{has_name}
 use Rattle.rule_model.specs.KeyEvent.{begin_event, common_prefix, deleted, inserted, outcome_of}
 use Rattle.rule_model.specs.Tab.{tab}
-use Rattle.rule_model.specs.Trace.{options_of}
+use Rattle.rule_model.specs.Trace.{options_of, first_state}
 use Rattle.rule_model.proofs.Budget.{press_is_within_budget}
 use Rattle.rule_model.proofs.Insertions.{press_inserts_at_most_what_it_puts}
 use Rattle.rule_model.proofs.PlainCounts.{after_key-counts}
 use Rattle.rule_model.proofs.Soundness.{press_keeps_sound}
-use Rattle.rule_engine.specs.Engine.{EngineState, IsEngine, first_engine, pressed, press_outcome, press_leaves}
+use Rattle.rule_engine.specs.Engine.{EngineState, IsEngine, first_engine, option_named, pressed, press_outcome, press_leaves, with_option}
 
 pub first_is_engine : (tables : Tables) → IsEngine (first_engine tables)
 first_is_engine tables = record {
@@ -34,6 +37,27 @@ sync_keeps_engine text engine list reads is = record {
   saved = is.saved;
   inserted = is.inserted;
 }
+
+-- an option that is set keeps it
+pub given_keeps_engine : (engine : EngineState) (option : ℕ) (value : List Element) → IsEngine engine → IsEngine (with_option (Some option) value engine)
+given_keeps_engine engine option value is = record {
+  sound = is.sound;
+  current = length-set engine.current option value ∙ is.current;
+  saved = length-set engine.saved option (Some value) ∙ is.saved;
+  inserted = is.inserted;
+}
+
+-- the option of a name has a current and a saved value
+pub record HasValues (engine : EngineState) (option : ℕ) : Type 0 where
+  pub current : option < length engine.current
+  pub saved : option < length engine.saved
+
+pub named_has_values : (name : List ℕ) (engine : EngineState) (option : ℕ) → IsEngine engine → option_named name engine ≡ Some option → HasValues engine option
+named_has_values name engine option is found =
+    let names : List (List ℕ) = (first_state (tab engine.tables)).names in
+    let within : option < length names = (position-Some (has_name name) names option [] found).0 in
+    let count : length names ≡ length (options_of (tab engine.tables).stores) = length-map (options_of (tab engine.tables).stores) _ in
+    record { current = omega (arith, is.current); saved = omega (arith, is.saved) }
 
 -- what a press did, from the text before it and the one after it
 module _ (text : List ℕ) (press : KeyPress) (engine : EngineState) (s : EventState) (after : List ℕ) (acts : s ≡ pressed text press engine) (gives : after ≡ characters s.left) where

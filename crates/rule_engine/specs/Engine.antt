@@ -1,13 +1,18 @@
 -- What an engine is, and what a press and a new text make of it.
-use Rattle.std.specs.Prelude.{◌≡◌, ◌≤◌, ℕ, List, [], length, Option}
+use Rattle.std.specs.Prelude.{◌≡◌, ◌≤◌, ℕ, List, [], length, map, Option, Some, None, position, slice_get, slice_set, option_and_then}
+use Rattle.std.specs.Option.{option_flatten}
 use Rattle.kmn_base.specs.declared.items.Item.{Item}
 use Rattle.kmn_base.specs.declared.items.Element.{Element}
+use Rattle.kmn_base.specs.declared.items.Element.TheVariants.{Char}
 use Rattle.kmn_base.specs.declared.keys.KeyPress.{KeyPress}
 use Rattle.kmn_base.specs.declared.events.Outcome.{Outcome}
 use Rattle.kmn_base.specs.declared.limits.TheConstants.{EVENT_PUTS}
 use Rattle.kmn_base.specs.Lists.{IsSound, read_again}
 use Rattle.rule_model.specs.declared.event_state.EventState.{EventState}
 use Rattle.rule_model.specs.declared.tables.Tables.{Tables}
+use Rattle.rule_model.specs.Content.{option_number}
+use Rattle.rule_model.specs.Event.{has_name}
+use Rattle.rule_model.specs.Keyboard.{StoreMeaning, Numbered}
 use Rattle.rule_model.specs.KeyEvent.{begin_event, after_key, outcome_of, inserted}
 use Rattle.rule_model.specs.Tab.{tab}
 use Rattle.rule_model.specs.Trace.{options_of, first_state}
@@ -63,3 +68,21 @@ press_leaves text press engine =
 -- the engine after the text was read again
 abbrev pub synced : List ℕ → EngineState → EngineState
 synced text engine = record engine { left = read_again engine.left text }
+
+-- the option of a name: the first store that has it
+abbrev pub option_named : List ℕ → EngineState → Option ℕ
+option_named name engine = position (has_name name) (first_state (tab engine.tables)).names
+
+-- an option that there may be gets a value from the host, as current and as saved one
+abbrev pub with_option : Option ℕ → List Element → EngineState → EngineState
+with_option None value engine = engine
+with_option (Some option) value engine =
+    record engine { current = slice_set engine.current option value; saved = slice_set engine.saved option (Some value) }
+
+-- the engine after the host set the option of a name
+abbrev pub set_by_host : List ℕ → List ℕ → EngineState → EngineState
+set_by_host name value engine = with_option (option_named name engine) (map Char value) engine
+
+-- the saved value of a store, None where nothing is saved or the store is no option
+abbrev pub saved_of : List StoreMeaning → List (Option (List Element)) → ℕ → Option (List Element)
+saved_of stores saved store = option_and_then (λ option. option_flatten (slice_get saved option)) (option_number stores (Numbered store))

@@ -1,0 +1,143 @@
+-- What a caret move, an edit from outside and a setting make of an engine and an editor that are together.
+use Rattle.std.proofs.Common.{◌≡◌, ℕ, ◌+◌, ◌-◌, ◌≤◌, List, ◌++◌, length, map, take, drop, Option, Some, None, refl, sym, ◌∙◌, ap, arith, length-append, length-drop}
+use Rattle.std.proofs.lemmas.List.{take-append-drop, take_at, drop_at, length-take-le}
+use Rattle.std.proofs.lemmas.Bool.Decides.{nat_tests}
+use Rattle.std.proofs.lemmas.Grind.{common_steps}
+use Rattle.kmn_base.specs.Lists.{characters}
+use Rattle.kmn_base.specs.declared.events.Event.TheVariants as event
+use Rattle.kmn_base.specs.declared.items.Element.{Element}
+use Rattle.kmn_base.specs.declared.items.Element.TheVariants.{Char}
+use Rattle.kmn_base.specs.declared.limits.TheConstants.{TEXT_CHARS}
+use Rattle.kmn_base.proofs.ReadingAgain.{reading_again_gives_the_text, reading_again_is_sound}
+use Rattle.rule_model.specs.Event.{text_becomes, caret_event, edit_event, edited_text, edit_refusal, moved_caret, event_refusal, whole_text, set_option, setting_event}
+use Rattle.rule_engine.specs.Engine.{EngineState, synced, option_named, with_option, set_by_host}
+use Rattle.editor_model.specs.Text.{EditorText, whole, IsAt, HasTextOf}
+use Rattle.editor_model.specs.Answers.{caret_refusal}
+use Rattle.play_session.specs.Session.{AreTogether, stands_for}
+
+-- an engine that reads the text of an editor, which takes the place of another one
+pub record IsTakenOver (engine : EngineState) (editor after : EditorText) : Type 0 where
+  pub state : stands_for (synced after.left engine) after ≡ text_becomes after.left after.right (stands_for engine editor)
+  pub together : AreTogether TEXT_CHARS (synced after.left engine) after
+
+pub taken_over : (engine : EngineState) (editor after : EditorText) → length (whole after) ≤ TEXT_CHARS → IsTakenOver engine editor after
+taken_over engine editor after few = record {
+  state = refl;
+  together = record {
+    same = reading_again_gives_the_text engine.left after.left;
+    sound = reading_again_is_sound engine.left after.left;
+    few = omega (arith, few, length-append after.left after.right);
+  };
+}
+
+-- the whole text of a session is its editor's
+pub whole_is : (engine : EngineState) (editor : EditorText) → AreTogether TEXT_CHARS engine editor → whole_text (stands_for engine editor) ≡ whole editor
+whole_is engine editor h = ap (λ (left : List ℕ). left ++ editor.right) h.same
+
+-- a text with its caret somewhere is the text
+at_whole : (text : List ℕ) (caret : ℕ) (editor : EditorText) → IsAt text caret editor → whole editor ≡ text
+at_whole text caret editor h = (λ i. h.left i ++ h.right i) ∙ take-append-drop caret text
+
+-- a caret that moved, and then back to where it was
+pub caret_back : (before at after : EditorText) (place : ℕ) → IsAt (whole before) place at → IsAt (whole at) (length before.left) after → HasTextOf before after
+caret_back before at after place h back =
+    let same : whole at ≡ whole before = at_whole (whole before) place at h in
+    record {
+      left = back.left ∙ ap (take (length before.left)) same ∙ take_at before.left before.right (length before.left) refl;
+      right = back.right ∙ ap (drop (length before.left)) same ∙ drop_at before.left before.right (length before.left) refl;
+    }
+
+-- an editor that has the text of another one serves as well
+pub same_text : (engine : EngineState) (editor after : EditorText) → AreTogether TEXT_CHARS engine editor → HasTextOf editor after → AreTogether TEXT_CHARS engine after
+same_text engine editor after h text =
+    record {
+      same = h.same ∙ sym text.left;
+      sound = h.sound;
+      few = omega (arith, h.few, ap length text.left, ap length text.right);
+    }
+
+-- what is known of a caret that moved
+pub record IsMoved (engine : EngineState) (editor after : EditorText) (place : ℕ) : Type 0 where
+  pub few : length (whole after) ≤ TEXT_CHARS
+  pub state : text_becomes after.left after.right (stands_for engine editor) ≡ caret_event place (stands_for engine editor)
+
+pub caret_moved : (engine : EngineState) (editor after : EditorText) (place : ℕ) → AreTogether TEXT_CHARS engine editor → IsAt (whole editor) place after → IsMoved engine editor after place
+caret_moved engine editor after place h at =
+    let same : whole editor ≡ whole_text (stands_for engine editor) = sym (whole_is engine editor h) in
+    record {
+      few = omega (arith, ap length (at_whole (whole editor) place after at), length-append editor.left editor.right, h.few);
+      state = λ i. text_becomes ((at.left ∙ ap (take place) same) i) ((at.right ∙ ap (drop place) same) i) (stands_for engine editor);
+    }
+
+-- the refusal of a caret move is the session's
+pub caret_refused : (engine : EngineState) (editor : EditorText) (place : ℕ) → AreTogether TEXT_CHARS engine editor
+    → caret_refusal place (length (whole editor)) ≡ event_refusal (stands_for engine editor) (event.Caret place)
+caret_refused engine editor place h = ap (λ (text : List ℕ). caret_refusal place (length text)) (sym (whole_is engine editor h))
+
+-- the same of an edit
+pub record IsEdited (engine : EngineState) (editor after : EditorText) (from to : ℕ) (text : List ℕ) : Type 0 where
+  pub few : length (whole after) ≤ TEXT_CHARS
+  pub state : text_becomes after.left after.right (stands_for engine editor) ≡ edit_event from to text (stands_for engine editor)
+
+pub edit_refused : (engine : EngineState) (editor : EditorText) (from to : ℕ) (text : List ℕ) → AreTogether TEXT_CHARS engine editor
+    → edit_refusal from to (length text) (length (whole editor)) ≡ event_refusal (stands_for engine editor) (event.Edit from to text)
+edit_refused engine editor from to text h = ap (λ (t : List ℕ). edit_refusal from to (length text) (length t)) (sym (whole_is engine editor h))
+
+-- an edit that isn't refused leaves no more than a million characters
+edit_few : (from to count n : ℕ) → edit_refusal from to count n ≡ None → (to ≤ n) × (n - (to - from) + count ≤ 1_000_000) × (from ≤ to)
+edit_few from to count n none = grind (arith, nat_tests, common_steps)
+
+edited_length : (from to : ℕ) (text whole : List ℕ) → from ≤ to → to ≤ length whole → length (edited_text from to text whole) ≡ length whole - (to - from) + length text
+edited_length from to text whole ordered within =
+    omega (arith, length-append (take from whole ++ text) (drop to whole), length-append (take from whole) text, length-take-le from whole (omega arith), length-drop to whole)
+
+pub edit_done : (engine : EngineState) (editor after : EditorText) (from to : ℕ) (text : List ℕ) → AreTogether TEXT_CHARS engine editor
+    → edit_refusal from to (length text) (length (whole editor)) ≡ None
+    → IsAt (edited_text from to text (whole editor)) (moved_caret from to (length text) (length editor.left)) after → IsEdited engine editor after from to text
+edit_done engine editor after from to text h none at =
+    let same : whole editor ≡ whole_text (stands_for engine editor) = sym (whole_is engine editor h) in
+    let caret : moved_caret from to (length text) (length editor.left) ≡ moved_caret from to (length text) (length (characters engine.left))
+    = ap (λ (left : List ℕ). moved_caret from to (length text) (length left)) (sym h.same) in
+    let known = edit_few from to (length text) (length (whole editor)) none in
+    record {
+      few = omega (
+        arith,
+        ap length (at_whole (edited_text from to text (whole editor)) (moved_caret from to (length text) (length editor.left)) after at),
+        edited_length from to text (whole editor) known.2 known.0,
+        known.1,
+      );
+      state = λ i. text_becomes
+          ((at.left ∙ (λ j. take (caret j) (edited_text from to text (same j)))) i)
+          ((at.right ∙ (λ j. drop (caret j) (edited_text from to text (same j)))) i) (stands_for engine editor);
+    }
+
+pub ruleset caret_steps = (caret_moved, caret_refused, caret_back, same_text)
+
+pub ruleset edit_steps = (edit_done, edit_refused)
+
+-- what a setting makes of an engine is what it makes of the state
+option_is_set : (engine : EngineState) (editor : EditorText) (option : Option ℕ) (value : List Element)
+    → stands_for (with_option option value engine) editor ≡ set_option option value (stands_for engine editor)
+option_is_set engine editor None value = refl
+option_is_set engine editor (Some option) value = refl
+
+pub host_sets : (engine : EngineState) (editor : EditorText) (name value : List ℕ)
+    → stands_for (set_by_host name value engine) editor ≡ setting_event name value (stands_for engine editor)
+host_sets engine editor name value = option_is_set engine editor (option_named name engine) (map Char value)
+
+-- and the text of the session stays
+texts_stay : (limit : ℕ) (engine : EngineState) (editor : EditorText) (option : Option ℕ) (value : List Element) → AreTogether limit engine editor → AreTogether limit (with_option option value engine) editor
+texts_stay limit engine editor None value h = h
+texts_stay limit engine editor (Some option) value h = record { same = h.same; sound = h.sound; few = h.few }
+
+tables_stay : (engine : EngineState) (option : Option ℕ) (value : List Element) → (with_option option value engine).tables ≡ engine.tables
+tables_stay engine None value = refl
+tables_stay engine (Some option) value = refl
+
+pub set_stays_together : (limit : ℕ) (engine : EngineState) (editor : EditorText) (name value : List ℕ) → AreTogether limit engine editor → AreTogether limit (set_by_host name value engine) editor
+set_stays_together limit engine editor name value h = texts_stay limit engine editor (option_named name engine) (map Char value) h
+
+pub set_keeps_tables : (engine : EngineState) (name value : List ℕ) → (set_by_host name value engine).tables ≡ engine.tables
+set_keeps_tables engine name value = tables_stay engine (option_named name engine) (map Char value)
+
+pub ruleset setting_steps = (host_sets, set_stays_together, set_keeps_tables)

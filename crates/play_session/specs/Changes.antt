@@ -1,0 +1,39 @@
+-- Which option values an event changed, by store number.
+use Rattle.std.specs.Prelude.{ℕ, ◌+◌, Bool, true, false, not, if◌then◌else◌, List, [], ◌∷◌, ◌++◌, Option, Some, None}
+use Rattle.kmn_base.specs.declared.items.Element.{Element}
+use Rattle.rule_model.specs.declared.tables.Tables.{Tables}
+use Rattle.rule_model.specs.Match.{same_value}
+use Rattle.rule_model.specs.Plain.{option_numbers}
+use Rattle.rule_model.specs.Tab.{tab}
+use Rattle.rule_engine.specs.declared.values.Values.{Values}
+use Rattle.rule_engine.specs.Values.{current_at, saved_at}
+use Rattle.play_session.specs.declared.changes.Change.{Change}
+
+-- a saved value that there is now, and that was not saved before
+abbrev pub is_newly_saved : Option (List Element) → Option (List Element) → Bool
+is_newly_saved before None = false
+is_newly_saved None (Some after) = true
+is_newly_saved (Some before) (Some after) = not (same_value before after)
+
+-- what changed of the option of a number, which is this store: the current value, then the saved one
+abbrev pub current_change : Values → Values → ℕ → ℕ → List Change
+current_change before after store option =
+    if same_value (current_at before option) (current_at after option) then [] else record { store = store; saved = false } ∷ []
+
+abbrev pub saved_change : Values → Values → ℕ → ℕ → List Change
+saved_change before after store option =
+    if is_newly_saved (saved_at before option) (saved_at after option) then record { store = store; saved = true } ∷ [] else []
+
+-- what changed of a store, given its option number; a store that is no option has no value that could change
+abbrev pub store_changes : Values → Values → ℕ → Option ℕ → List Change
+store_changes before after store None = []
+store_changes before after store (Some option) = current_change before after store option ++ saved_change before after store option
+
+-- what changed of the stores from this number on, given their option numbers
+abbrev pub changes_from : Values → Values → ℕ → List (Option ℕ) → List Change
+changes_from before after store [] = []
+changes_from before after store (number ∷ numbers) = store_changes before after store number ++ changes_from before after (store + 1) numbers
+
+-- what changed of all stores of tables
+abbrev pub changes_between : Tables → Values → Values → List Change
+changes_between tables before after = changes_from before after 0 (option_numbers 0 (tab tables).stores)

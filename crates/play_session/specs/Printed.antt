@@ -1,0 +1,59 @@
+-- What a session tells of a store, and that its changes are those that a transcript prints.
+use Rattle.std.specs.Prelude.{◌≡◌, ℕ, Bool, true, false, List, [], flat_map, length, Option, Some, None, slice_get, unwrap_or}
+use Rattle.kmn_base.specs.declared.items.Element.{Element}
+use Rattle.kmn_base.specs.declared.events.Event.{Event}
+use Rattle.rule_model.specs.declared.tables.Store.{Store}
+use Rattle.rule_model.specs.declared.tables.Tables.{Tables}
+use Rattle.rule_model.specs.Content.{content}
+use Rattle.rule_model.specs.Event.{State}
+use Rattle.rule_model.specs.Keyboard.{Numbered}
+use Rattle.rule_model.specs.Tab.{tab}
+use Rattle.rule_model.specs.Trace.{options_of, first_state}
+use Rattle.rule_model.specs.Transcript.{value_line, changes}
+use Rattle.rule_engine.specs.Engine.{saved_of}
+use Rattle.play_session.specs.declared.changes.Change.{Change}
+use Rattle.play_session.specs.Session.{SessionState, first_session, after_step}
+
+-- the name of a store, empty where there is no such store
+abbrev pub name_in : Option Store → List ℕ
+name_in None = []
+name_in (Some store) = store.name
+
+abbrev pub name_of : Tables → ℕ → List ℕ
+name_of tables store = name_in (slice_get tables.stores store)
+
+-- the current value of a store, or the saved one that there may be; a store that is no option has its elements, and
+-- nothing is saved
+abbrev pub value_of : SessionState → ℕ → Bool → Option (List Element)
+value_of session store true = saved_of (tab session.tables).stores session.state.saved store
+value_of session store false = Some (content (tab session.tables).stores session.state.current (Numbered store))
+
+-- the line of a change of the last step: the store's name and its new value
+abbrev pub change_line : SessionState → Change → List ℕ
+change_line session change =
+    value_line change.saved (name_of session.tables change.store) (unwrap_or (value_of session change.store change.saved) [])
+
+abbrev pub change_lines : SessionState → List ℕ
+change_lines session = flat_map (change_line session) session.changes
+
+-- a session of tables: it has the names of their options, and of each option a current value and what is saved
+pub record IsSession (session : SessionState) : Type 0 where
+  pub names : session.state.names ≡ (first_state (tab session.tables)).names
+  pub current : length session.state.current ≡ length (options_of (tab session.tables).stores)
+  pub saved : length session.state.saved ≡ length (options_of (tab session.tables).stores)
+
+-- the lines of the values that a transcript prints from one state to the next
+abbrev pub printed_changes : State → State → List ℕ
+printed_changes before after = changes before.names before.current before.saved after.current after.saved
+
+-- the changes of a step are those that are printed, in this order
+abbrev pub ChangesArePrinted : Type 0
+ChangesArePrinted = (session : SessionState) (event : Event) → IsSession session →
+    printed_changes session.state (after_step session event).state ≡ change_lines (after_step session event)
+
+-- before the first event it is a session, and an event leaves one
+abbrev pub SessionsBegin : Type 0
+SessionsBegin = (tables : Tables) → IsSession (first_session tables)
+
+abbrev pub SessionsGoOn : Type 0
+SessionsGoOn = (session : SessionState) (event : Event) → IsSession session → IsSession (after_step session event)
