@@ -93,7 +93,7 @@ space_text : IsUtf8 (32 ∷ [])
 space_text = (32 ∷ [], (refl, ap (λ bs. bs ++ []) (encode_ascii 32 (omega arith))))
 
 -- joined words are text, and part again
-joined_text : (name : List ℕ) (names : List (List ℕ)) → list_all is_word (name ∷ names) ≡ true → IsUtf8 (join_with_byte 32 (name ∷ names))
+pub joined_text : (name : List ℕ) (names : List (List ℕ)) → list_all is_word (name ∷ names) ≡ true → IsUtf8 (join_with_byte 32 (name ∷ names))
 joined_text name [] h = (word_parts name (and_parts (is_word name) true h).0).text
 joined_text name (next ∷ names) h =
     let each = and_parts (is_word name) (list_all is_word (next ∷ names)) h in

@@ -57,7 +57,7 @@ kept_stores : (names : SourceNames) (before : List Store) (store : StoreDef) (dr
 kept_stores names before store true is = rw is (sym (append-nil (map (λ (s : Store). s.name) before)))
 kept_stores names before store false is = rw is (map-append (λ (s : Store). s.name) before (store_of names before store ∷ []))
 
-names_onto : (names : SourceNames) (before : List Store) (stores : List StoreDef) → map (λ (s : Store). s.name) (stores_onto names before stores) ≡ map (λ (s : Store). s.name) before ++ store_names stores
+pub names_onto : (names : SourceNames) (before : List Store) (stores : List StoreDef) → map (λ (s : Store). s.name) (stores_onto names before stores) ≡ map (λ (s : Store). s.name) before ++ store_names stores
 names_onto names before [] = sym (append-nil (map (λ (s : Store). s.name) before))
 names_onto names before (store ∷ stores) =
     names_onto names (if is_dropped store then before else before ++ store_of names before store ∷ []) stores

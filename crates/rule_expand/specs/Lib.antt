@@ -1,0 +1,5 @@
+pub mod Values
+pub mod Lookups
+pub mod Pieces
+pub mod Groups
+pub mod Expanded

@@ -1,0 +1,206 @@
+//! The records of a rule.
+
+ghost use Rattle.std.specs.Prelude.{◌≡◌, ◌++◌, true, [], ◌∷◌, map, Some, None, unwrap_or, IfOk, OnOk};
+ghost use Rattle.kmn_base.specs.declared.keys.RuleKey.TheVariants as key;
+ghost use Rattle.rule_model.specs.Hold.{key_of_element};
+ghost use Rattle.compile_laws.specs.Compiles.{file_pattern, own_key, rule_records};
+ghost use Rattle.rule_expand.specs.Groups.{is_unit_element, are_unit_elements, is_unit_key, has_unit_key};
+ghost use Rattle.rule_expand.specs.Pieces.{template_of, template_record, template_records, template_keyed};
+
+use crate::lookups::Lookups;
+use crate::pieces::{Piece, outputs_at, pieces_of};
+use kmn_base::{Element, Memory, RuleKey, Seq};
+use rule_model::{Pat, Rule, RuleDef, SrcItem};
+use std::alloc::Global;
+
+/// What the records of a rule have in common.
+#[derive(Drop)]
+pub struct Template {
+    pub line: u32,
+    pub context: Seq<Pat>,
+    pub pieces: Seq<Piece>,
+}
+
+/// A context item.
+fn pattern_of(numbers: &Lookups<'_>, item: &SrcItem) -> Pat
+    ensures { result ≡ file_pattern numbers.now item.now }
+{
+    match item {
+        SrcItem::Char(c) => Pat::Char(*c),
+        SrcItem::Dead(name) => Pat::Mark(numbers.mark(name.as_slice())),
+        SrcItem::Any(store) => Pat::Any(numbers.store(store.as_slice())),
+        SrcItem::NotAny(store) => Pat::NotAny(numbers.store(store.as_slice())),
+        SrcItem::Index(store, offset) => Pat::Index(numbers.store(store.as_slice()), *offset),
+        SrcItem::ContextAt(offset) => Pat::ContextAt(*offset),
+        SrcItem::Equal(store, value) => Pat::Equal(
+            numbers.store(store.as_slice()),
+            numbers.value(value.as_slice()),
+        ),
+        SrcItem::Unequal(store, value) => Pat::Unequal(
+            numbers.store(store.as_slice()),
+            numbers.value(value.as_slice()),
+        ),
+        _ => Pat::Nul,
+    }
+}
+
+/// The context of a rule.
+fn context_of(alloc: Global, numbers: &Lookups<'_>, items: &[SrcItem]) -> Result<Seq<Pat>, Memory>
+    ensures { IfOk result (λ context. context ≡ map (file_pattern numbers.now) items.now) }
+{
+    let mut context = Vec::with_capacity(alloc, items.len())?;
+    for item in items {
+        context.push(pattern_of(numbers, item))?;
+    }
+    Ok(Seq::from_vec(context))
+}
+
+/// What the records of a rule have in common.
+fn template_of(alloc: Global, numbers: &Lookups<'_>, rule: &RuleDef) -> Result<Template, Memory>
+    ensures { IfOk result (λ template. template ≡ template_of numbers.now rule.now) }
+{
+    let context = context_of(alloc, numbers, rule.context.as_slice())?;
+    let pieces = pieces_of(alloc, numbers, rule.context.len(), rule.output.as_slice())?;
+    Ok(Template {
+        line: rule.line,
+        context,
+        pieces,
+    })
+}
+
+/// The key of a rule without a key store.
+fn own_key(numbers: &Lookups<'_>, key: &Option<SrcItem>) -> RuleKey
+    requires { is_unit_key numbers.now.stores key.now ≡ true }
+    ensures { result ≡ own_key numbers.now key.now }
+{
+    match key {
+        Some(SrcItem::Char(c)) => RuleKey::Char(*c as u16),
+        Some(SrcItem::Key(key)) => RuleKey::Virtual {
+            flags: u32::from(key.flags),
+            code: numbers.key(key),
+        },
+        _ => RuleKey::Any,
+    }
+}
+
+/// The key that an element of a key store stands for.
+fn element_key(element: Element) -> RuleKey
+    requires { is_unit_element element ≡ true }
+    ensures { result ≡ unwrap_or (key_of_element element) key.Any }
+{
+    match element {
+        Element::Char(c) => RuleKey::Char(c as u16),
+        Element::Mark(_) => RuleKey::Any,
+        Element::Key { flags, code } => RuleKey::Virtual {
+            flags: u32::from(flags),
+            code,
+        },
+    }
+}
+
+/// The one record of a rule without a key store.
+fn single_record(
+    alloc: Global,
+    numbers: &Lookups<'_>,
+    template: Template,
+    key: RuleKey,
+) -> Result<Rule, Memory>
+    ensures { IfOk result (λ made. made ≡ template_record numbers.now.stores template None key) }
+{
+    let output = outputs_at(alloc, numbers, template.pieces.as_slice(), None)?;
+    Ok(Rule {
+        line: template.line,
+        place: 0,
+        key,
+        context: template.context,
+        output,
+    })
+}
+
+/// Appends the one record of a rule without a key store.
+fn add_single(
+    alloc: Global,
+    records: &mut Vec<Rule>,
+    numbers: &Lookups<'_>,
+    template: Template,
+    key: RuleKey,
+) -> Result<(), Memory>
+    ensures { OnOk result (records.new.items ≡ records.old.items ++ template_record numbers.now.stores template None key ∷ []) }
+{
+    let record = single_record(alloc, numbers, template, key)?;
+    records.push(record)?;
+    Ok(())
+}
+
+/// The record of a rule for the key at a place of a key store.
+fn placed_record(
+    alloc: Global,
+    numbers: &Lookups<'_>,
+    template: &Template,
+    place: u32,
+    key: RuleKey,
+) -> Result<Rule, Memory>
+    ensures { IfOk result (λ made. made ≡ template_record numbers.now.stores template.now (Some place) key) }
+{
+    Ok(Rule {
+        line: template.line,
+        place,
+        key,
+        context: template.context.copy(alloc)?,
+        output: outputs_at(alloc, numbers, template.pieces.as_slice(), Some(place))?,
+    })
+}
+
+/// Appends the records of a rule for the elements of its key store.
+#[tactic(auto, using(crate::proofs::RuleRecords::unit_at, crate::proofs::RuleRecords::few_at))]
+fn add_placed(
+    alloc: Global,
+    records: &mut Vec<Rule>,
+    numbers: &Lookups<'_>,
+    template: &Template,
+    elements: &[Element],
+) -> Result<(), Memory>
+    requires { are_unit_elements elements.now ≡ true }
+    ensures { OnOk result (records.new.items ≡ records.old.items ++ template_records numbers.now.stores template.now 0 elements.now) }
+{
+    for (place, element) in elements.iter().enumerate() {
+        let key = element_key(*element);
+        records.push(placed_record(alloc, numbers, template, place as u32, key)?)?;
+    }
+    Ok(())
+}
+
+/// Appends the records of a rule with this key: one for each element of a key store, else one.
+fn add_keyed(
+    alloc: Global,
+    records: &mut Vec<Rule>,
+    numbers: &Lookups<'_>,
+    template: Template,
+    key: &Option<SrcItem>,
+) -> Result<(), Memory>
+    requires { is_unit_key numbers.now.stores key.now ≡ true }
+    ensures { OnOk result (records.new.items ≡ records.old.items ++ template_keyed numbers.now template key.now) }
+{
+    match key {
+        Some(SrcItem::Any(store)) => {
+            let elements = numbers.elements(store.as_slice());
+            add_placed(alloc, records, numbers, &template, elements)
+        }
+        _ => add_single(alloc, records, numbers, template, own_key(numbers, key)),
+    }
+}
+
+/// Appends the records of a rule.
+#[tactic(auto, using(crate::proofs::RuleRecords::all_records))]
+pub fn add_records(
+    alloc: Global,
+    records: &mut Vec<Rule>,
+    numbers: &Lookups<'_>,
+    rule: &RuleDef,
+) -> Result<(), Memory>
+    requires { has_unit_key numbers.now.stores rule.now ≡ true }
+    ensures { OnOk result (records.new.items ≡ records.old.items ++ rule_records numbers.now rule.now) }
+{
+    let template = template_of(alloc, numbers, rule)?;
+    add_keyed(alloc, records, numbers, template, &rule.key)
+}
