@@ -2,6 +2,7 @@ pub mod FileContents
 pub mod FileGroups
 pub mod FileItems
 pub mod FileLaw
+pub mod FilePlayable
 pub mod FileRecords
 pub mod FileSize
 pub mod FileStands

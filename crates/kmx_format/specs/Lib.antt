@@ -1,6 +1,7 @@
 pub mod File
 pub mod FileLaws
 pub mod FileUnits
+pub mod Playable
 pub mod TablesOf
 pub mod WorkedFiles
 pub mod Writable

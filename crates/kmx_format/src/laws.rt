@@ -1,6 +1,7 @@
 //! Laws of the compiled file, each the contract of a function with an empty body.
 
 ghost use Rattle.kmx_format.specs.WorkedFiles.{AreWorkedFiles};
+ghost use Rattle.kmx_format.specs.Playable.{WritableIsPlayableWithNames};
 ghost use Rattle.kmx_format.specs.FileLaws.{ReadingGivesBack, FilesHaveWritableTables};
 
 /// Reading a file gives back the tables that were written.
@@ -11,6 +12,12 @@ pub fn reading_gives_back()
 /// The tables that a file is read as are again tables that a file can have.
 pub fn files_have_writable_tables()
     ensures { FilesHaveWritableTables }
+{}
+
+/// A file can have the tables that can be played and whose names can stand in one, and no others.
+#[tactic(auto, using(crate::proofs::FilePlayable::writable_is_playable_with_names))]
+pub fn writable_is_playable_with_names()
+    ensures { WritableIsPlayableWithNames }
 {}
 
 /// The definition of a file gives the bytes of two files that were worked out by hand.

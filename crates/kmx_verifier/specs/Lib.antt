@@ -1,0 +1,3 @@
+pub mod FaultOf
+pub mod Items
+pub mod Laws

@@ -1,121 +1,227 @@
-//! The items of the strings of a file, as the tables have them.
+//! One item of a string.
 
-ghost use Rattle.std.specs.Prelude.{◌≡◌, ◌-◌, ◌≤◌, length, IfOk};
-ghost use Rattle.kmn_base.specs.declared.limits.TheConstants.{FILE_BYTES};
-ghost use Rattle.kmx_format.specs.TablesOf.{string_at, items_of, element_of_unit_item, comparison_of, pattern_of_unit_item, output_of_unit_item, elements_at, patterns_at, outputs_at};
+ghost use Rattle.std.specs.Prelude.{◌≡◌};
+ghost use Rattle.item_codec.specs.Walk.{spelled_size};
+ghost use Rattle.kmx_verifier.specs.Items.{may_stand, stands_in_store, stands_in_context, stands_in_output, stands_in_match, code_of, target_of, target_at, points_right, HasSmallOffset};
+ghost use Rattle.kmx_verifier.specs.FaultOf.{names_outside, item_fault, spelling_fault, Tells};
 
-use crate::strings::string_bytes;
-use item_codec::items_of;
-use kmn_base::{Element, Memory, Seq, UnitItem};
-use rule_model::{Out, Pat};
-use std::alloc::Global;
+use crate::faults::{Fault, StringKind, Target};
+use kmn_base::{BadKind, Code, UnitItem};
+use kmx_view::word_at;
 
-/// The items of the string at an offset, up to the first place at which none is spelled.
-#[tactic(auto, unfolding(kmx_format::specs::TablesOf::items_of))]
-fn items_at(alloc: Global, bytes: &[u8], offset: u32) -> Result<Vec<UnitItem>, Memory>
-    requires { length bytes.now ≤ FILE_BYTES }
-    ensures { IfOk result (λ items. items.items ≡ items_of (string_at bytes.now offset)) }
+fn stands_in_store(item: UnitItem) -> bool
+    ensures { result ≡ stands_in_store item }
 {
-    let mut items = Vec::new(alloc);
-    for read in items_of(string_bytes(bytes, offset)) {
-        let Ok(item) = read else {
-            break;
-        };
-        items.push(item)?;
-    }
-    Ok(items)
+    matches!(
+        item,
+        UnitItem::Char(_) | UnitItem::Dead(_) | UnitItem::Key(_, _)
+    )
 }
 
-fn element_of(item: UnitItem) -> Option<Element>
-    ensures { result ≡ element_of_unit_item item }
+fn stands_in_context(item: UnitItem) -> bool
+    ensures { result ≡ stands_in_context item }
+{
+    matches!(
+        item,
+        UnitItem::Char(_)
+            | UnitItem::Dead(_)
+            | UnitItem::Any(_)
+            | UnitItem::NotAny(_)
+            | UnitItem::Index(_, _)
+            | UnitItem::ContextAt(_)
+            | UnitItem::Test(_, _, _)
+            | UnitItem::Nul
+    )
+}
+
+fn stands_in_match(item: UnitItem) -> bool
+    ensures { result ≡ stands_in_match item }
+{
+    matches!(
+        item,
+        UnitItem::Char(_)
+            | UnitItem::Dead(_)
+            | UnitItem::Enter(_)
+            | UnitItem::Set(_, _)
+            | UnitItem::Save(_)
+            | UnitItem::Reset(_)
+            | UnitItem::Nul
+            | UnitItem::Beep
+            | UnitItem::Stop
+    )
+}
+
+fn stands_in_output(item: UnitItem) -> bool
+    ensures { result ≡ stands_in_output item }
 {
     match item {
-        UnitItem::Char(c) => Some(Element::Char(c)),
-        UnitItem::Dead(mark) => Some(Element::Mark(mark)),
-        UnitItem::Key(flags, code) => Some(Element::Key { flags, code }),
-        _ => None,
+        UnitItem::Index(_, _) | UnitItem::Context | UnitItem::ContextAt(_) => true,
+        _ => stands_in_match(item),
     }
 }
 
-/// A store or group number as tables have it, from 0.
-fn from_zero(number: u16) -> u32
-    ensures { result ≡ number - 1 }
+/// Whether an item may stand in a string of a kind.
+fn may_stand(kind: StringKind, item: UnitItem) -> bool
+    ensures { result ≡ may_stand kind item }
 {
-    u32::from(number.saturating_sub(1))
-}
-
-fn comparison_of(store: u16, comparison: u16, value: u16) -> Option<Pat>
-    ensures { result ≡ comparison_of store comparison value }
-{
-    match comparison {
-        1 => Some(Pat::Unequal(from_zero(store), from_zero(value))),
-        2 => Some(Pat::Equal(from_zero(store), from_zero(value))),
-        _ => None,
+    match kind {
+        StringKind::Store => stands_in_store(item),
+        StringKind::Context => stands_in_context(item),
+        StringKind::Output => stands_in_output(item),
+        StringKind::Match => stands_in_match(item),
     }
 }
 
-fn pattern_of(item: UnitItem) -> Option<Pat>
-    ensures { result ≡ pattern_of_unit_item item }
+/// The code behind an item's sentinel, 0 of a character.
+fn code_of(item: UnitItem) -> u16
+    ensures { result ≡ code_of item }
 {
     match item {
-        UnitItem::Char(c) => Some(Pat::Char(c)),
-        UnitItem::Dead(mark) => Some(Pat::Mark(mark)),
-        UnitItem::Any(store) => Some(Pat::Any(from_zero(store))),
-        UnitItem::NotAny(store) => Some(Pat::NotAny(from_zero(store))),
-        UnitItem::Index(store, offset) => Some(Pat::Index(from_zero(store), u32::from(offset))),
-        UnitItem::ContextAt(offset) => Some(Pat::ContextAt(u32::from(offset))),
-        UnitItem::Test(store, comparison, value) => comparison_of(store, comparison, value),
-        UnitItem::Nul => Some(Pat::Nul),
-        _ => None,
+        UnitItem::Char(_) => 0,
+        UnitItem::Any(_) => 0x01,
+        UnitItem::Index(_, _) => 0x02,
+        UnitItem::Context => 0x03,
+        UnitItem::Nul => 0x04,
+        UnitItem::Enter(_) => 0x05,
+        UnitItem::Stop => 0x06,
+        UnitItem::Beep => 0x07,
+        UnitItem::Dead(_) => 0x08,
+        UnitItem::Key(_, _) => 0x0A,
+        UnitItem::ContextAt(_) => 0x11,
+        UnitItem::NotAny(_) => 0x12,
+        UnitItem::Set(_, _) => 0x13,
+        UnitItem::Test(_, _, _) => 0x14,
+        UnitItem::Save(_) => 0x15,
+        UnitItem::Reset(_) => 0x16,
     }
 }
 
-fn output_of(item: UnitItem) -> Option<Out>
-    ensures { result ≡ output_of_unit_item item }
+/// How many bytes an item has.
+pub(crate) fn spelled_size(item: UnitItem) -> u32
+    ensures { result ≡ spelled_size item }
 {
     match item {
-        UnitItem::Char(c) => Some(Out::Char(c)),
-        UnitItem::Dead(mark) => Some(Out::Mark(mark)),
-        UnitItem::Index(store, offset) => Some(Out::Index(from_zero(store), u32::from(offset))),
-        UnitItem::Context => Some(Out::Context),
-        UnitItem::ContextAt(offset) => Some(Out::ContextAt(u32::from(offset))),
-        UnitItem::Enter(group) => Some(Out::Enter(from_zero(group))),
-        UnitItem::Set(store, value) => Some(Out::Set(from_zero(store), from_zero(value))),
-        UnitItem::Save(store) => Some(Out::Save(from_zero(store))),
-        UnitItem::Reset(store) => Some(Out::Reset(from_zero(store))),
-        UnitItem::Nul => Some(Out::Nul),
-        UnitItem::Beep => Some(Out::Beep),
-        UnitItem::Stop => Some(Out::Stop),
-        _ => None,
+        UnitItem::Char(c) => { if (c as u32) < 0x1_0000 { 2 } else { 4 } }
+        UnitItem::Context | UnitItem::Nul | UnitItem::Stop | UnitItem::Beep => 4,
+        UnitItem::Any(_)
+        | UnitItem::Enter(_)
+        | UnitItem::Dead(_)
+        | UnitItem::ContextAt(_)
+        | UnitItem::NotAny(_)
+        | UnitItem::Save(_)
+        | UnitItem::Reset(_) => 6,
+        UnitItem::Index(_, _) | UnitItem::Set(_, _) => 8,
+        UnitItem::Key(_, _) | UnitItem::Test(_, _, _) => 10,
     }
 }
 
-/// The elements of the string at an offset.
-pub(crate) fn elements_at(alloc: Global, bytes: &[u8], offset: u32) -> Result<Seq<Element>, Memory>
-    requires { length bytes.now ≤ FILE_BYTES }
-    ensures { IfOk result (λ elements. elements ≡ elements_at bytes.now offset) }
+/// Whether an item names a store or group that the file doesn't have.
+fn names_outside(bytes: &[u8], item: UnitItem) -> bool
+    ensures { result ≡ names_outside bytes.now item }
 {
-    let items = items_at(alloc, bytes, offset)?;
-    let elements = items.into_iter().filter_map(element_of).collect(alloc)?;
-    Ok(Seq::from_vec(elements))
+    match item {
+        UnitItem::Any(store)
+        | UnitItem::NotAny(store)
+        | UnitItem::Index(store, _)
+        | UnitItem::Save(store)
+        | UnitItem::Reset(store) => word_at(bytes, 24) < u32::from(store),
+        UnitItem::Set(store, value) | UnitItem::Test(store, _, value) => {
+            let stores = word_at(bytes, 24);
+            stores < u32::from(store) || stores < u32::from(value)
+        }
+        UnitItem::Enter(group) => word_at(bytes, 28) < u32::from(group),
+        _ => false,
+    }
 }
 
-/// The context that the string at an offset spells.
-pub(crate) fn patterns_at(alloc: Global, bytes: &[u8], offset: u32) -> Result<Seq<Pat>, Memory>
-    requires { length bytes.now ≤ FILE_BYTES }
-    ensures { IfOk result (λ context. context ≡ patterns_at bytes.now offset) }
+/// What an offset finds at an item of a context.
+pub(crate) fn target_of(item: UnitItem) -> Target
+    ensures { result ≡ target_of item }
 {
-    let items = items_at(alloc, bytes, offset)?;
-    let context = items.into_iter().filter_map(pattern_of).collect(alloc)?;
-    Ok(Seq::from_vec(context))
+    match item {
+        UnitItem::Any(_) => Target::Any,
+        UnitItem::Test(_, _, _) | UnitItem::Nul => Target::Nothing,
+        _ => Target::Pattern,
+    }
 }
 
-/// The output that the string at an offset spells.
-pub(crate) fn outputs_at(alloc: Global, bytes: &[u8], offset: u32) -> Result<Seq<Out>, Memory>
-    requires { length bytes.now ≤ FILE_BYTES }
-    ensures { IfOk result (λ output. output ≡ outputs_at bytes.now offset) }
+/// What an offset, counted from 1, finds.
+fn target_at(targets: &[Target], offset: u16) -> Option<Target>
+    ensures { result ≡ target_at targets.now offset }
 {
-    let items = items_at(alloc, bytes, offset)?;
-    let output = items.into_iter().filter_map(output_of).collect(alloc)?;
-    Ok(Seq::from_vec(output))
+    if offset == 0 {
+        return None;
+    }
+    targets.get(offset as usize - 1).copied()
+}
+
+/// Whether the offset of an item points where it must.
+fn points_right(targets: &[Target], item: UnitItem) -> bool
+    ensures { result ≡ points_right targets.now item }
+{
+    match item {
+        UnitItem::Index(_, offset) => matches!(target_at(targets, offset), Some(Target::Any)),
+        UnitItem::ContextAt(offset) => {
+            matches!(
+                target_at(targets, offset),
+                Some(Target::Any | Target::Pattern)
+            )
+        }
+        _ => true,
+    }
+}
+
+/// An item at a place.
+pub(crate) fn check_item(
+    bytes: &[u8],
+    kind: StringKind,
+    targets: &[Target],
+    item: UnitItem,
+    at: u32,
+) -> Result<(), Fault>
+    ensures { Tells (item_fault bytes.now kind targets.now item at) result }
+{
+    if !may_stand(kind, item) {
+        return Err(Fault {
+            code: Code::V14,
+            at,
+            unit: code_of(item),
+        });
+    }
+    if names_outside(bytes, item) {
+        return Err(Fault::of(Code::V12, at));
+    }
+    if !points_right(targets, item) {
+        return Err(Fault::of(Code::V13, at));
+    }
+    Ok(())
+}
+
+/// The fault of a place where no item is spelled.
+pub(crate) fn spelling_fault(at: u32, kind: BadKind, code: u16) -> Fault
+    ensures { result ≡ spelling_fault at kind code }
+{
+    match kind {
+        BadKind::U2 => Fault {
+            code: Code::V14,
+            at,
+            unit: code,
+        },
+        _ => Fault::of(Code::V11, at),
+    }
+}
+
+/// An item's offset is a unit.
+pub(crate) fn offset_is_unit(item: UnitItem)
+    ensures { HasSmallOffset item }
+{
+    match item {
+        UnitItem::Index(_, offset) => {
+            let _offset = offset;
+        }
+        UnitItem::ContextAt(offset) => {
+            let _offset = offset;
+        }
+        _ => {}
+    }
 }

@@ -1,16 +1,25 @@
-//! A compiled keyboard file that is known to be sound, with the tables that were read from it.
+//! Files of strangers: says yes to exactly the valid ones and names the first fault of every other. A valid file has the
+//! tables that were read from it, and they can be played.
 //!
-//! It stands on `kmn_base`, `item_codec`, `rule_model` and `kmx_format`, whose definition of reading it follows. The
-//! layers above open a file here and use a `Verified`, whose tables are those that its bytes have.
+//! It stands on `kmn_base`, `item_codec`, `rule_model`, `kmx_format`, whose definition of reading it follows, and
+//! `kmx_view`. `specs/FaultOf` has the first fault of a file, step by step. The layers above open a file by `verify` and
+//! use a `Verified`, whose tables are those that its bytes have.
 #![tactic(auto)]
 
+mod contexts;
+mod faults;
+mod groups;
+mod header;
 mod items;
-mod numbers;
-mod records;
+pub mod laws;
+mod stores;
 mod strings;
+mod tables;
 mod verified;
+mod whole;
 
-pub use verified::{Fault, Verified, VerifyError, adopt};
+pub use faults::{Fault, VerifyError};
+pub use verified::{Verified, adopt, verify};
 
 #[cfg(test)]
 mod tests;

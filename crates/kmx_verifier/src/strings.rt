@@ -1,59 +1,130 @@
-//! Strings of a file: units up to a zero unit, and names in UTF-8.
+//! Strings and names.
 
-ghost use Rattle.std.specs.Prelude.{◌≡◌, ◌≤◌, length, IfOk};
-ghost use Rattle.kmn_base.specs.Spelling.{unit_bytes, whole_units};
-ghost use Rattle.kmx_format.specs.TablesOf.{before_zero, string_at, name_at};
+ghost use Rattle.std.specs.Prelude.{◌≡◌, ◌+◌, ◌≤◌, ◌<◌, [], length, true, not, nat_lt, None, Some, MatchResult, MatchOption, false};
+ghost use Rattle.kmn_base.specs.declared.limits.TheConstants.{FILE_BYTES, OUTPUT_ITEMS, ALL_ELEMENTS};
+ghost use Rattle.kmx_format.specs.TablesOf.{word_at, string_at};
+ghost use Rattle.kmx_verifier.specs.declared.faults.StringKind.TheVariants.{Store};
+ghost use Rattle.kmx_view.specs.View.{is_ended};
+ghost use Rattle.item_codec.specs.Walk.{results_of, items_given};
+ghost use Rattle.kmx_verifier.specs.FaultOf.{walk_fault, read_fault, read_at, item_count, name_fault, string_fault, too_many_elements, Tells};
 
-use kmn_base::slices::behind;
-use kmn_base::{Memory, Seq, Text};
-use std::alloc::Global;
+use crate::faults::{Fault, StringKind, Target};
+use crate::items::{check_item, spelled_size, spelling_fault};
+use item_codec::items_of;
+use kmn_base::Code;
+use kmn_base::limits::{ALL_ELEMENTS, FILE_NAME_UNITS, OUTPUT_ITEMS, STORE_ELEMENTS};
+use kmx_view::{ended_string, word_at};
 
-/// The bytes before the first zero unit.
-fn bytes_before_zero(bytes: &[u8]) -> &[u8]
-    ensures units { result.now ≡ unit_bytes (before_zero (whole_units bytes.now)) }
-    ensures within { length result.now ≤ length bytes.now }
+/// The items of a string whose first unit stands at a place; how many they are.
+pub(crate) fn walk(
+    bytes: &[u8],
+    kind: StringKind,
+    targets: &[Target],
+    at: u32,
+    string: &[u8],
+) -> Result<usize, Fault>
+    requires within { at + length string.now ≤ FILE_BYTES }
+    ensures { MatchResult result
+        (λ count. (walk_fault bytes.now kind targets.now at (results_of string.now) ≡ None) × (count ≡ length (items_given (results_of string.now))))
+        (λ fault. walk_fault bytes.now kind targets.now at (results_of string.now) ≡ Some fault) }
 {
-    let mut rest = bytes;
-    while let [low, high, behind @ ..] = rest {
-        if u16::from_le_bytes([*low, *high]) == 0 {
-            break;
+    let mut place = at;
+    let mut count = 0;
+    for read in items_of(string) {
+        match read {
+            Ok(item) => {
+                check_item(bytes, kind, targets, item, place)?;
+                place += spelled_size(item);
+                count += 1;
+            }
+            Err(bad) => {
+                return Err(spelling_fault(place, bad.kind, bad.code));
+            }
         }
-        rest = behind;
     }
-    &bytes[..bytes.len() - rest.len()]
+    Ok(count)
 }
 
-/// The bytes of the string at an offset, of which 0 is the empty string, without its zero unit.
-#[tactic(auto, unfolding(kmx_format::specs::TablesOf::string_at))]
-pub(crate) fn string_bytes(bytes: &[u8], offset: u32) -> &[u8]
-    ensures units { result.now ≡ unit_bytes (string_at bytes.now offset) }
-    ensures within { length result.now ≤ length bytes.now }
+#[tactic(auto, using(crate::proofs::Walking::string_halved))]
+/// How many units the string at an offset has; None where it is outside the file or unended.
+fn unit_count(bytes: &[u8], offset: u32) -> Option<usize>
+    ensures { MatchOption result
+        (is_ended bytes.now offset ≡ false)
+        (λ count. (is_ended bytes.now offset ≡ true) × (count ≡ length (string_at bytes.now offset))) }
 {
-    if offset == 0 {
-        return &[];
+    match ended_string(bytes, offset) {
+        None => None,
+        Some(string) => Some(string.len() / 2),
     }
-    bytes_before_zero(behind(bytes, offset as usize))
 }
 
-/// The whole units of bytes.
-fn units_of(alloc: Global, bytes: &[u8]) -> Result<Vec<u16>, Memory>
-    ensures { IfOk result (λ units. units.items ≡ whole_units bytes.now) }
+/// The name whose offset stands at a place.
+pub(crate) fn check_name(bytes: &[u8], place: usize) -> Result<(), Fault>
+    requires place { place < FILE_BYTES }
+    ensures { Tells (name_fault bytes.now place) result }
 {
-    let mut units = Vec::new(alloc);
-    let mut rest = bytes;
-    while let [low, high, behind @ ..] = rest {
-        units.push(u16::from_le_bytes([*low, *high]))?;
-        rest = behind;
+    match unit_count(bytes, word_at(bytes, place)) {
+        None => Err(Fault::of(Code::V10, place as u32)),
+        Some(count) => {
+            if count > FILE_NAME_UNITS {
+                return Err(Fault::of(Code::V15, place as u32));
+            }
+            Ok(())
+        }
     }
-    Ok(units)
 }
 
-/// The name at an offset, in UTF-8.
-#[tactic(auto, using(crate::proofs::Reading::units_again), unfolding(kmx_format::specs::TablesOf::name_at))]
-pub(crate) fn name_at(alloc: Global, bytes: &[u8], offset: u32) -> Result<Text, Memory>
-    ensures { IfOk result (λ name. name ≡ name_at bytes.now offset) }
+#[tactic(auto, unfolding(kmx_format::specs::TablesOf::items_of))]
+/// The items of the string whose offset stands at a place; how many they are.
+fn read_string(
+    bytes: &[u8],
+    kind: StringKind,
+    targets: &[Target],
+    place: usize,
+) -> Result<usize, Fault>
+    requires fits { length bytes.now ≤ FILE_BYTES }
+    requires place { place < FILE_BYTES }
+    ensures { MatchResult result
+        (λ count. (read_fault bytes.now kind targets.now place ≡ None) × (count ≡ item_count bytes.now (word_at bytes.now place)))
+        (λ fault. read_fault bytes.now kind targets.now place ≡ Some fault) }
 {
-    let units = units_of(alloc, string_bytes(bytes, offset))?;
-    let name = String::from_utf16_lossy(alloc, &units)?;
-    Ok(Seq::from_vec(name.into_bytes()))
+    let offset = word_at(bytes, place);
+    match ended_string(bytes, offset) {
+        None => Err(Fault::of(Code::V10, place as u32)),
+        Some(string) => walk(bytes, kind, targets, offset, string),
+    }
+}
+
+/// The output whose offset stands at a place, with the context that its offsets point into.
+pub(crate) fn check_output(
+    bytes: &[u8],
+    kind: StringKind,
+    targets: &[Target],
+    place: usize,
+) -> Result<(), Fault>
+    requires fits { length bytes.now ≤ FILE_BYTES }
+    requires place { place < FILE_BYTES }
+    ensures { Tells (string_fault bytes.now kind targets.now place (nat_lt OUTPUT_ITEMS)) result }
+{
+    let count = read_string(bytes, kind, targets, place)?;
+    if count > OUTPUT_ITEMS {
+        return Err(Fault::of(Code::V15, place as u32));
+    }
+    Ok(())
+}
+
+/// The content of a store, with so many elements before it; how many elements there are with it.
+pub(crate) fn check_content(bytes: &[u8], before: usize, place: usize) -> Result<usize, Fault>
+    requires fits { length bytes.now ≤ FILE_BYTES }
+    requires place { place < FILE_BYTES }
+    requires before { before ≤ ALL_ELEMENTS }
+    ensures { MatchResult result
+        (λ count. (string_fault bytes.now Store [] place (too_many_elements before) ≡ None) × (count ≡ before + item_count bytes.now (word_at bytes.now place)) × (count ≤ ALL_ELEMENTS))
+        (λ fault. string_fault bytes.now Store [] place (too_many_elements before) ≡ Some fault) }
+{
+    let count = read_string(bytes, StringKind::Store, &[], place)?;
+    if count > STORE_ELEMENTS || count > ALL_ELEMENTS - before {
+        return Err(Fault::of(Code::V15, place as u32));
+    }
+    Ok(before + count)
 }

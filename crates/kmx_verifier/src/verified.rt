@@ -1,31 +1,15 @@
-ghost use Rattle.std.specs.Prelude.{◌≡◌, length, IfOk};
+ghost use Rattle.std.specs.Prelude.{◌≡◌, length, IfOk, MatchResult, None, Some};
 ghost use Rattle.kmx_format.specs.Writable.{IsFile};
+ghost use Rattle.kmx_verifier.specs.FaultOf.{fault_of, IsRefusal};
 
-use crate::records::tables_of;
-use kmn_base::{Code, Memory};
+use crate::faults::VerifyError;
+use crate::tables::tables_of;
+use crate::whole::check_file;
+use kmn_base::Memory;
 use kmx_format::rule_count;
 use rule_model::Tables;
 use std::alloc::Global;
 use std::marker::Model;
-use thiserror::Error;
-
-/// What is wrong with a file: the rule that it breaks, the place in bytes at which it breaks it, and the code that
-/// V14 names, else 0.
-#[derive(Clone, Copy, Debug, PartialEq, Eq)]
-pub struct Fault {
-    pub code: Code,
-    pub at: u32,
-    pub unit: u16,
-}
-
-/// Why bytes were not opened as a file.
-#[derive(Debug, Drop, Error)]
-pub enum VerifyError {
-    #[error("refused {} at {}", .0.code, .0.at)]
-    Refused(Fault),
-    #[error("out of memory")]
-    Memory,
-}
 
 /// A sound file, borrowed, with the tables that were read from it. Contracts see it as its bytes.
 #[derive(Drop)]
@@ -37,19 +21,19 @@ pub struct Verified<'a> {
 impl<'a> Model for Verified<'a> {
     ghost use Rattle.std.specs.Prelude.{◌≡◌, ℕ, List};
     ghost use Rattle.kmx_format.specs.TablesOf.{tables_of};
-    ghost use Rattle.kmx_format.specs.Writable.{IsWritable};
+    ghost use Rattle.kmx_format.specs.Playable.{IsPlayable};
 
     ghost Value = { List ℕ };
 
     ghost view = { λ file. file.bytes.now };
 
-    ghost invariant = { λ file. (file.tables ≡ tables_of file.bytes.now) × IsWritable file.tables };
+    ghost invariant = { λ file. (file.tables ≡ tables_of file.bytes.now) × IsPlayable file.tables };
 }
 
 impl<'a> Verified<'a> {
     ghost use Rattle.kmx_format.specs.File.{all_rules};
     ghost use Rattle.kmx_format.specs.TablesOf.{tables_of};
-    ghost use Rattle.kmx_format.specs.Writable.{IsWritable};
+    ghost use Rattle.kmx_format.specs.Playable.{IsPlayable};
 
     /// The bytes of the file.
     pub fn bytes(&self) -> &'a [u8]
@@ -61,7 +45,7 @@ impl<'a> Verified<'a> {
     /// The tables that the file has.
     pub fn tables(&self) -> &Tables
         ensures value { result.now ≡ tables_of self.now }
-        ensures writable { IsWritable result.now }
+        ensures playable { IsPlayable result.now }
     {
         &self.tables
     }
@@ -102,4 +86,20 @@ pub fn adopt<'a>(alloc: Global, bytes: &'a [u8]) -> Result<Verified<'a>, Memory>
 {
     let tables = tables_of(alloc, bytes)?;
     Ok(Verified { bytes, tables })
+}
+
+/// Opens a file of a stranger. The fault is the first one of the file.
+pub fn verify<'a>(alloc: Global, bytes: &'a [u8]) -> Result<Verified<'a>, VerifyError>
+    ensures { MatchResult result
+        (λ file. (fault_of bytes.now ≡ None) × (file ≡ bytes.now))
+        (λ error. IsRefusal error (λ fault. fault_of bytes.now ≡ Some fault)) }
+{
+    match check_file(alloc, bytes) {
+        Ok(()) => {}
+        Err(error) => return Err(error),
+    }
+    match tables_of(alloc, bytes) {
+        Ok(tables) => Ok(Verified { bytes, tables }),
+        Err(Memory) => Err(VerifyError::Memory),
+    }
 }

@@ -1,0 +1,164 @@
+-- What holds of a string whose walk finds no fault.
+use Rattle.std.proofs.Common.{◌≡◌, ℕ, ◌+◌, ◌-◌, ◌<◌, ◌⊎◌, Bool, true, false, not, List, [], ◌∷◌, ◌++◌, map, Option, None, Some, refl, sym, ◌∙◌, ap, inl, inr, arith}
+use Rattle.std.specs.Prelude.{Ok, Err}
+use Rattle.kmn_base.specs.declared.codes.Code.{Code}
+use Rattle.kmn_base.specs.declared.items.Element.{Element}
+use Rattle.kmn_base.specs.declared.units.UnitItem.{UnitItem}
+use Rattle.kmn_base.specs.declared.units.UnitItem.TheVariants.{Char, Any, Index, Context, Nul, Enter, Stop, Beep, Dead, Key, ContextAt, NotAny, Set, Test, Save, Reset}
+use Rattle.kmn_base.specs.Spelling.{IsSpellable}
+use Rattle.item_codec.specs.Walk.{spelled_size, items_given}
+use Rattle.rule_model.specs.declared.tables.Pat.{Pat}
+use Rattle.rule_model.specs.declared.tables.Out.{Out}
+use Rattle.kmx_format.specs.FileUnits.{unit_item_of_element, unit_item_of_pattern, unit_item_of_output}
+use Rattle.kmx_format.specs.TablesOf.{element_of_unit_item, comparison_of, pattern_of_unit_item, output_of_unit_item}
+use Rattle.kmx_verifier.specs.declared.faults.Fault.{Fault}
+use Rattle.kmx_verifier.specs.declared.faults.StringKind.{StringKind}
+use Rattle.kmx_verifier.specs.declared.faults.StringKind.TheVariants as of
+use Rattle.kmx_verifier.specs.declared.faults.Target.{Target}
+use Rattle.kmx_verifier.specs.Items.{may_stand, target_of, points_right, code_of}
+use Rattle.kmx_verifier.specs.FaultOf.{or_else, broken, broken_by, names_outside, item_fault, walk_fault, context_fault}
+use Rattle.kmx_verifier.proofs.Walking.{Results}
+
+pub or_else-none : (a b : Option Fault) → or_else a b ≡ None → (a ≡ None) × (b ≡ None)
+or_else-none None b h = (refl, h)
+or_else-none (Some fault) b h = absurd (cc)
+
+pub broken-none : (code : Code) (at : ℕ) (c : Bool) → broken code at c ≡ None → c ≡ false
+broken-none code at true h = absurd (cc)
+broken-none code at false h = refl
+
+pub broken_by-none : (unit at : ℕ) (c : Bool) → broken_by unit at c ≡ None → c ≡ false
+broken_by-none unit at true h = absurd (cc)
+broken_by-none unit at false h = refl
+
+pub unnot : (c : Bool) → not c ≡ false → c ≡ true
+unnot true h = refl
+unnot false h = absurd (cc)
+
+-- an item without a fault
+pub record ItemStands (bytes : List ℕ) (kind : StringKind) (targets : List Target) (item : UnitItem) : Type 0 where
+  pub stands : may_stand kind item ≡ true
+  pub named : names_outside bytes item ≡ false
+  pub points : points_right targets item ≡ true
+
+pub item_stands : (bytes : List ℕ) (kind : StringKind) (targets : List Target) (item : UnitItem) (at : ℕ)
+    → item_fault bytes kind targets item at ≡ None → ItemStands bytes kind targets item
+item_stands bytes kind targets item at h =
+    let first = or_else-none _ _ h in
+    let second = or_else-none _ _ first.1 in
+    let third = or_else-none _ _ second.1 in
+    record {
+      stands = unnot _ (broken_by-none (code_of item) at _ first.0);
+      named = broken-none _ at _ second.0;
+      points = unnot _ (broken-none _ at _ third.0);
+    }
+
+-- items without a fault, where offsets point into a context
+abbrev pub ItemsStand : List ℕ → StringKind → List Target → List UnitItem → Type 0
+ItemsStand bytes kind targets [] = Unit {0}
+ItemsStand bytes kind targets (item ∷ items) = ItemStands bytes kind targets item × ItemsStand bytes kind targets items
+
+-- items of a context without a fault
+abbrev pub ContextStands : List ℕ → List Target → List UnitItem → Type 0
+ContextStands bytes before [] = Unit {0}
+ContextStands bytes before (item ∷ items) = ItemStands bytes of.Context before item × ContextStands bytes (before ++ target_of item ∷ []) items
+
+-- a string whose walk finds no fault is wholly readable
+pub walk_readable : (bytes : List ℕ) (kind : StringKind) (targets : List Target) (at : ℕ) (results : Results)
+    → walk_fault bytes kind targets at results ≡ None → results ≡ map Ok (items_given results)
+walk_readable bytes kind targets at [] h = refl
+walk_readable bytes kind targets at (Err bad ∷ results) h = absurd (cc)
+walk_readable bytes kind targets at (Ok item ∷ results) h =
+    ap (λ (rs : Results). Ok item ∷ rs) (walk_readable bytes kind targets (at + spelled_size item) results (or_else-none _ _ h).1)
+
+pub context_readable : (bytes : List ℕ) (before : List Target) (at : ℕ) (results : Results)
+    → context_fault bytes before at results ≡ None → results ≡ map Ok (items_given results)
+context_readable bytes before at [] h = refl
+context_readable bytes before at (Err bad ∷ results) h = absurd (cc)
+context_readable bytes before at (Ok item ∷ results) h =
+    ap (λ (rs : Results). Ok item ∷ rs) (context_readable bytes (before ++ target_of item ∷ []) (at + spelled_size item) results (or_else-none _ _ h).1)
+
+pub walk_stands : (bytes : List ℕ) (kind : StringKind) (targets : List Target) (at : ℕ) (results : Results)
+    → walk_fault bytes kind targets at results ≡ None → ItemsStand bytes kind targets (items_given results)
+walk_stands bytes kind targets at [] h = tt
+walk_stands bytes kind targets at (Err bad ∷ results) h = absurd (cc)
+walk_stands bytes kind targets at (Ok item ∷ results) h =
+    (item_stands bytes kind targets item at (or_else-none _ _ h).0, walk_stands bytes kind targets (at + spelled_size item) results (or_else-none _ _ h).1)
+
+pub context_stands : (bytes : List ℕ) (before : List Target) (at : ℕ) (results : Results)
+    → context_fault bytes before at results ≡ None → ContextStands bytes before (items_given results)
+context_stands bytes before at [] h = tt
+context_stands bytes before at (Err bad ∷ results) h = absurd (cc)
+context_stands bytes before at (Ok item ∷ results) h =
+    (item_stands bytes of.Context before item at (or_else-none _ _ h).0, context_stands bytes (before ++ target_of item ∷ []) (at + spelled_size item) results (or_else-none _ _ h).1)
+
+-- an item that may stand in a store is an element, spelled so
+pub element_again : (item : UnitItem) → may_stand of.Store item ≡ true → IsSpellable item
+    → (e : Element) × (element_of_unit_item item ≡ Some e) × (unit_item_of_element e ≡ item)
+element_again (Char c) h s = (_, refl, refl)
+element_again (Dead mark) h s = (_, refl, refl)
+element_again (Key flags code) h s = (_, refl, refl)
+element_again (Any store) h s = absurd (cc)
+element_again (NotAny store) h s = absurd (cc)
+element_again (Index store offset) h s = absurd (cc)
+element_again Context h s = absurd (cc)
+element_again Nul h s = absurd (cc)
+element_again (Enter group) h s = absurd (cc)
+element_again Stop h s = absurd (cc)
+element_again Beep h s = absurd (cc)
+element_again (ContextAt offset) h s = absurd (cc)
+element_again (Set store value) h s = absurd (cc)
+element_again (Test store comparison value) h s = absurd (cc)
+element_again (Save store) h s = absurd (cc)
+element_again (Reset store) h s = absurd (cc)
+
+less_one : (n : ℕ) → 0 < n → n - 1 + 1 ≡ n
+less_one n h = omega arith
+
+-- a comparison that is spelled
+comparison_again : (store comparison value : ℕ) → 0 < store → 0 < value → (comparison ≡ 1) ⊎ (comparison ≡ 2)
+    → (p : Pat) × (comparison_of store comparison value ≡ Some p) × (unit_item_of_pattern p ≡ Test store comparison value)
+comparison_again store comparison value s v (inl one) =
+    (_, ap (λ c. comparison_of store c value) one, ap (λ n. Test n 1 (value - 1 + 1)) (less_one store s) ∙ ap (Test store 1) (less_one value v) ∙ ap (λ c. Test store c value) (sym one))
+comparison_again store comparison value s v (inr two) =
+    (_, ap (λ c. comparison_of store c value) two, ap (λ n. Test n 2 (value - 1 + 1)) (less_one store s) ∙ ap (Test store 2) (less_one value v) ∙ ap (λ c. Test store c value) (sym two))
+
+-- an item that may stand in a context is a pattern, spelled so
+pub pattern_again : (item : UnitItem) → may_stand of.Context item ≡ true → IsSpellable item
+    → (p : Pat) × (pattern_of_unit_item item ≡ Some p) × (unit_item_of_pattern p ≡ item)
+pattern_again (Char c) h s = (_, refl, refl)
+pattern_again (Dead mark) h s = (_, refl, refl)
+pattern_again (Any store) h s = (_, refl, ap Any (less_one store s.0))
+pattern_again (NotAny store) h s = (_, refl, ap NotAny (less_one store s.0))
+pattern_again (Index store offset) h s = (_, refl, ap (λ n. Index n offset) (less_one store s.0.0))
+pattern_again (ContextAt offset) h s = (_, refl, refl)
+pattern_again (Test store comparison value) h s = comparison_again store comparison value s.0.0 s.2.0 s.1
+pattern_again Nul h s = (_, refl, refl)
+pattern_again (Key flags code) h s = absurd (cc)
+pattern_again Context h s = absurd (cc)
+pattern_again (Enter group) h s = absurd (cc)
+pattern_again Stop h s = absurd (cc)
+pattern_again Beep h s = absurd (cc)
+pattern_again (Set store value) h s = absurd (cc)
+pattern_again (Save store) h s = absurd (cc)
+pattern_again (Reset store) h s = absurd (cc)
+
+-- an item that may stand in an output is one, spelled so
+pub output_again : (item : UnitItem) → may_stand of.Output item ≡ true → IsSpellable item
+    → (o : Out) × (output_of_unit_item item ≡ Some o) × (unit_item_of_output o ≡ item)
+output_again (Char c) h s = (_, refl, refl)
+output_again (Dead mark) h s = (_, refl, refl)
+output_again (Index store offset) h s = (_, refl, ap (λ n. Index n offset) (less_one store s.0.0))
+output_again Context h s = (_, refl, refl)
+output_again (ContextAt offset) h s = (_, refl, refl)
+output_again (Enter group) h s = (_, refl, ap Enter (less_one group s.0))
+output_again (Set store value) h s = (_, refl, ap (λ n. Set n (value - 1 + 1)) (less_one store s.0.0) ∙ ap (Set store) (less_one value s.1.0))
+output_again (Save store) h s = (_, refl, ap Save (less_one store s.0))
+output_again (Reset store) h s = (_, refl, ap Reset (less_one store s.0))
+output_again Nul h s = (_, refl, refl)
+output_again Beep h s = (_, refl, refl)
+output_again Stop h s = (_, refl, refl)
+output_again (Any store) h s = absurd (cc)
+output_again (NotAny store) h s = absurd (cc)
+output_again (Key flags code) h s = absurd (cc)
+output_again (Test store comparison value) h s = absurd (cc)

@@ -1,0 +1,240 @@
+-- The first fault of a file, step by step.
+use Rattle.std.specs.Prelude.{◌≡◌, ℕ, zero, suc, ◌+◌, ◌*◌, Bool, nat_eq, nat_lt, bit_and, ◌&&◌, ◌||◌, not, if◌then◌else◌, List, [], ◌∷◌, ◌++◌, length, map, Option, Some, None, Result, Ok, Err}
+use Rattle.std.specs.List.{list_any}
+use Rattle.kmn_base.specs.declared.codes.Code.{Code}
+use Rattle.kmn_base.specs.declared.codes.Code.TheVariants.{V01, V02, V03, V04, V05, V06, V07, V08, V09, V10, V11, V12, V13, V14, V15, V16}
+use Rattle.kmn_base.specs.declared.limits.TheConstants.{FILE_NAME_UNITS, STORE_ELEMENTS, CONTEXT_ITEMS, OUTPUT_ITEMS, STORES, GROUPS, RECORDS, ALL_ELEMENTS, PICTURE_BYTES, FILE_BYTES}
+use Rattle.kmn_base.specs.declared.units.UnitItem.{UnitItem}
+use Rattle.kmn_base.specs.declared.units.BadUnits.{BadUnits}
+use Rattle.kmn_base.specs.declared.units.BadKind.{BadKind}
+use Rattle.kmn_base.specs.declared.units.BadKind.TheVariants.{U2}
+use Rattle.kmn_base.specs.Spelling.{unit_bytes}
+use Rattle.item_codec.specs.Walk.{results_of, spelled_size}
+use Rattle.kmx_format.specs.TablesOf.{word_at, string_at, items_of, uses_keys_at}
+use Rattle.kmx_format.specs.Writable.{is_version}
+use Rattle.kmn_base.specs.declared.keys.TheConstants.{SHIFT_FLAGS}
+use Rattle.kmx_verifier.specs.declared.faults.Fault.{Fault}
+use Rattle.kmx_verifier.specs.declared.faults.VerifyError.{VerifyError}
+use Rattle.kmx_verifier.specs.declared.faults.VerifyError.TheVariants.{Refused, Memory}
+use Rattle.kmx_verifier.specs.declared.faults.StringKind.{StringKind}
+use Rattle.kmx_verifier.specs.declared.faults.StringKind.TheVariants.{Store, Context, Output, Match}
+use Rattle.kmx_verifier.specs.declared.faults.Target.{Target}
+use Rattle.kmx_view.specs.View.{is_within, is_ended, store_count, group_count}
+use Rattle.kmx_verifier.specs.Items.{may_stand, code_of, stores_named, groups_named, target_of, points_right}
+
+-- a rule that is broken at a place where a condition holds
+abbrev pub broken : Code → ℕ → Bool → Option Fault
+broken code at condition = if condition then Some (record { code = code; at = at; unit = 0 }) else None
+
+-- the same, where the refusal names the code of an item
+abbrev pub broken_by : ℕ → ℕ → Bool → Option Fault
+broken_by unit at condition = if condition then Some (record { code = V14; at = at; unit = unit }) else None
+
+-- a fault, or where there is none what comes after it
+abbrev pub or_else : Option Fault → Option Fault → Option Fault
+or_else None after = after
+or_else (Some fault) after = Some fault
+
+-- the first fault that steps find
+abbrev pub first_fault : List (Option Fault) → Option Fault
+first_fault [] = None
+first_fault (step ∷ steps) = or_else step (first_fault steps)
+
+-- an item names a store or a group whose number isn't below the count
+abbrev pub names_outside : List ℕ → UnitItem → Bool
+names_outside bytes item = list_any (nat_lt (store_count bytes)) (stores_named item) || list_any (nat_lt (group_count bytes)) (groups_named item)
+
+-- one item: V14 where it may not stand in such a string; V12 where it names a store or group outside; V13 where its
+-- offset points wrong
+abbrev pub item_fault : List ℕ → StringKind → List Target → UnitItem → ℕ → Option Fault
+item_fault bytes kind targets item at = first_fault (
+    broken_by (code_of item) at (not (may_stand kind item))
+    ∷ broken V12 at (names_outside bytes item)
+    ∷ broken V13 at (not (points_right targets item))
+    ∷ [])
+
+-- a place where no item is spelled: V14 for a code that no item has, else V11
+abbrev pub spelling_fault : ℕ → BadKind → ℕ → Fault
+spelling_fault at U2 code = record { code = V14; at = at; unit = code }
+spelling_fault at _ code = record { code = V11; at = at; unit = 0 }
+
+-- the items of a string one after the other, up to the first fault, where offsets point into a context
+abbrev pub walk_fault : List ℕ → StringKind → List Target → ℕ → List (Result UnitItem BadUnits) → Option Fault
+walk_fault bytes kind targets at [] = None
+walk_fault bytes kind targets at (Err bad ∷ results) = Some (spelling_fault at bad.kind bad.code)
+walk_fault bytes kind targets at (Ok item ∷ results) =
+    or_else (item_fault bytes kind targets item at) (walk_fault bytes kind targets (at + spelled_size item) results)
+
+-- the items of a context, where offsets point at the items before
+abbrev pub context_fault : List ℕ → List Target → ℕ → List (Result UnitItem BadUnits) → Option Fault
+context_fault bytes before at [] = None
+context_fault bytes before at (Err bad ∷ results) = Some (spelling_fault at bad.kind bad.code)
+context_fault bytes before at (Ok item ∷ results) =
+    or_else (item_fault bytes Context before item at) (context_fault bytes (before ++ target_of item ∷ []) (at + spelled_size item) results)
+
+-- what the walk over the string at an offset gives
+abbrev pub read_at : List ℕ → ℕ → List (Result UnitItem BadUnits)
+read_at bytes offset = results_of (unit_bytes (string_at bytes offset))
+
+-- how many items a string has
+abbrev pub item_count : List ℕ → ℕ → ℕ
+item_count bytes offset = length (items_of (string_at bytes offset))
+
+-- a string whose offset stands at a place: V10 where it is outside the file or unended, then its items
+abbrev pub read_fault : List ℕ → StringKind → List Target → ℕ → Option Fault
+read_fault bytes kind targets place =
+    or_else (broken V10 place (not (is_ended bytes (word_at bytes place))))
+    (walk_fault bytes kind targets (word_at bytes place) (read_at bytes (word_at bytes place)))
+
+-- the same, and then V15 where the items are too many
+abbrev pub string_fault : List ℕ → StringKind → List Target → ℕ → (ℕ → Bool) → Option Fault
+string_fault bytes kind targets place too_many =
+    or_else (read_fault bytes kind targets place) (broken V15 place (too_many (item_count bytes (word_at bytes place))))
+
+-- the same of a context, where offsets point at the items before
+abbrev pub read_context_fault : List ℕ → ℕ → Option Fault
+read_context_fault bytes place =
+    or_else (broken V10 place (not (is_ended bytes (word_at bytes place))))
+    (context_fault bytes [] (word_at bytes place) (read_at bytes (word_at bytes place)))
+
+abbrev pub context_string_fault : List ℕ → ℕ → Option Fault
+context_string_fault bytes place =
+    or_else (read_context_fault bytes place) (broken V15 place (nat_lt CONTEXT_ITEMS (item_count bytes (word_at bytes place))))
+
+-- a name is only counted
+abbrev pub name_fault : List ℕ → ℕ → Option Fault
+name_fault bytes place = first_fault (
+    broken V10 place (not (is_ended bytes (word_at bytes place)))
+    ∷ broken V15 place (nat_lt FILE_NAME_UNITS (length (string_at bytes (word_at bytes place))))
+    ∷ [])
+
+-- so many elements are too many for a store, or with those of the stores before it for all
+abbrev pub too_many_elements : ℕ → ℕ → Bool
+too_many_elements before count = nat_lt STORE_ELEMENTS count || nat_lt ALL_ELEMENTS (before + count)
+
+-- a store: its name, then its content
+abbrev pub store_fault : List ℕ → ℕ → ℕ → Option Fault
+store_fault bytes before place = first_fault (
+    name_fault bytes (place + 4)
+    ∷ string_fault bytes Store [] (place + 8) (too_many_elements before)
+    ∷ [])
+
+-- how many elements the store has whose record stands at a place
+abbrev pub elements_in : List ℕ → ℕ → ℕ
+elements_in bytes place = item_count bytes (word_at bytes (place + 8))
+
+-- each store in order, with the count of elements before it
+abbrev pub stores_fault : List ℕ → ℕ → ℕ → ℕ → Option Fault
+stores_fault bytes before place zero = None
+stores_fault bytes before place (suc count) = or_else (store_fault bytes before place) (stores_fault bytes (before + elements_in bytes place) (place + 12) count)
+
+-- what offsets into the context of a record can point at
+abbrev pub context_targets : List ℕ → ℕ → List Target
+context_targets bytes offset = map target_of (items_of (string_at bytes offset))
+
+-- V14 where the flags of a key have a bit that no key has; it names the code of a virtual key
+abbrev pub flags_fault : List ℕ → Bool → ℕ → Option Fault
+flags_fault bytes using_keys place =
+    broken_by 0x0A place (using_keys && not (nat_eq (bit_and (word_at bytes place) SHIFT_FLAGS) (word_at bytes place)))
+
+-- a record: its flags, context, output
+abbrev pub record_fault : List ℕ → Bool → ℕ → Option Fault
+record_fault bytes using_keys place = first_fault (
+    flags_fault bytes using_keys (place + 8)
+    ∷ context_string_fault bytes (place + 16)
+    ∷ string_fault bytes Output (context_targets bytes (word_at bytes (place + 16))) (place + 12) (nat_lt OUTPUT_ITEMS)
+    ∷ [])
+
+-- each record in order
+abbrev pub records_fault : List ℕ → Bool → ℕ → ℕ → Option Fault
+records_fault bytes using_keys place zero = None
+records_fault bytes using_keys place (suc count) = or_else (record_fault bytes using_keys place) (records_fault bytes using_keys (place + 20) count)
+
+-- where a group's records stand: V15 where they pass the limit with those before them, V09 where they aren't in the file
+abbrev pub records_place_fault : List ℕ → ℕ → ℕ → Option Fault
+records_place_fault bytes before place = first_fault (
+    broken V15 (place + 16) (nat_lt RECORDS (before + word_at bytes (place + 16)))
+    ∷ broken V09 (place + 4) (nat_lt 0 (word_at bytes (place + 16)) && not (is_within bytes (word_at bytes (place + 4)) (20 * word_at bytes (place + 16))))
+    ∷ [])
+
+-- the strings of a group: its name, match and nomatch
+abbrev pub group_strings_fault : List ℕ → ℕ → Option Fault
+group_strings_fault bytes place = first_fault (
+    name_fault bytes place
+    ∷ string_fault bytes Match [] (place + 8) (nat_lt OUTPUT_ITEMS)
+    ∷ string_fault bytes Match [] (place + 12) (nat_lt OUTPUT_ITEMS)
+    ∷ [])
+
+-- a group: its count and key array, its strings, then each record
+abbrev pub group_fault : List ℕ → ℕ → ℕ → Option Fault
+group_fault bytes before place = first_fault (
+    records_place_fault bytes before place
+    ∷ group_strings_fault bytes place
+    ∷ records_fault bytes (uses_keys_at bytes place) (word_at bytes (place + 4)) (word_at bytes (place + 16))
+    ∷ [])
+
+-- each group in order, with the count of records before it
+abbrev pub groups_fault : List ℕ → ℕ → ℕ → ℕ → Option Fault
+groups_fault bytes before place zero = None
+groups_fault bytes before place (suc count) = or_else (group_fault bytes before place) (groups_fault bytes (before + word_at bytes (place + 16)) (place + 24) count)
+
+-- no group: the number that the header has where there is no start group
+abbrev pub no_group : ℕ
+no_group = 0xFFFF_FFFF
+
+-- the length of the file
+unfoldable pub size_fault : List ℕ → Option Fault
+size_fault bytes = first_fault (
+    broken V15 0 (nat_lt FILE_BYTES (length bytes))
+    ∷ broken V01 (length bytes) (nat_lt (length bytes) 64)
+    ∷ [])
+
+-- the numbers of the header
+unfoldable pub header_fault : List ℕ → Option Fault
+header_fault bytes = first_fault (
+    broken V02 0 (not (nat_eq (word_at bytes 0) 0x5354_584B))
+    ∷ broken V03 4 (not (is_version (word_at bytes 4)))
+    ∷ broken V04 48 (nat_lt 0x1F (word_at bytes 48))
+    ∷ broken V15 24 (nat_lt STORES (store_count bytes))
+    ∷ broken V15 28 (nat_lt GROUPS (group_count bytes))
+    ∷ broken V05 44 (nat_eq (word_at bytes 44) no_group)
+    ∷ broken V06 40 (not (nat_eq (word_at bytes 40) no_group) && not (nat_lt (word_at bytes 40) (group_count bytes)))
+    ∷ broken V06 44 (not (nat_lt (word_at bytes 44) (group_count bytes)))
+    ∷ [])
+
+-- the arrays and the picture
+unfoldable pub arrays_fault : List ℕ → Option Fault
+arrays_fault bytes = first_fault (
+    broken V07 32 (nat_lt 0 (store_count bytes) && not (is_within bytes (word_at bytes 32) (12 * store_count bytes)))
+    ∷ broken V08 36 (nat_lt 0 (group_count bytes) && not (is_within bytes (word_at bytes 36) (24 * group_count bytes)))
+    ∷ broken V16 56 (nat_lt 0 (word_at bytes 60) && (not (is_within bytes (word_at bytes 56) (word_at bytes 60)) || nat_lt PICTURE_BYTES (word_at bytes 60)))
+    ∷ [])
+
+-- the first fault of the file
+unfoldable pub fault_of : List ℕ → Option Fault
+fault_of bytes = first_fault (
+    size_fault bytes
+    ∷ header_fault bytes
+    ∷ arrays_fault bytes
+    ∷ stores_fault bytes 0 (word_at bytes 32) (store_count bytes)
+    ∷ groups_fault bytes 0 (word_at bytes 36) (group_count bytes)
+    ∷ [])
+
+-- the file has no fault
+abbrev pub IsValid : List ℕ → Type 0
+IsValid bytes = fault_of bytes ≡ None
+
+-- an answer tells a fault, or that there is none
+abbrev pub Tells : {A : Type 0} → Option Fault → Result A Fault → Type 0
+Tells fault (Ok x) = fault ≡ None
+Tells fault (Err found) = fault ≡ Some found
+
+-- an error that is no want of memory is a fault of which something holds
+abbrev pub IsRefusal : VerifyError → (Fault → Type 0) → Type 0
+IsRefusal (Refused found) holds = holds found
+IsRefusal Memory holds = Unit {0}
+
+-- an answer tells a fault, or that there is none and something holds; want of memory tells nothing
+abbrev pub TellsOf : {A : Type 0} → Option Fault → Type 0 → Result A VerifyError → Type 0
+TellsOf fault holds (Ok x) = (fault ≡ None) × holds
+TellsOf fault holds (Err error) = IsRefusal error (λ found. fault ≡ Some found)

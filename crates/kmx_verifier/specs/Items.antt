@@ -1,0 +1,125 @@
+-- What the items of a file's strings may be, name and point at.
+use Rattle.std.specs.Prelude.{ℕ, zero, suc, ◌<◌, Bool, true, false, List, [], ◌∷◌, Option, Some, None, slice_get, take}
+use Rattle.kmn_base.specs.declared.units.UnitItem.{UnitItem}
+use Rattle.kmn_base.specs.declared.units.UnitItem.TheVariants.{Char, Any, Index, Context, Nul, Enter, Stop, Beep, Dead, Key, ContextAt, NotAny, Set, Test, Save, Reset}
+use Rattle.kmx_verifier.specs.declared.faults.StringKind.{StringKind}
+use Rattle.kmx_verifier.specs.declared.faults.StringKind.TheVariants as of
+use Rattle.kmx_verifier.specs.declared.faults.Target.{Target}
+use Rattle.kmx_verifier.specs.declared.faults.Target.TheVariants as target
+
+-- the items that may stand in a store: character, deadkey, extended
+abbrev pub stands_in_store : UnitItem → Bool
+stands_in_store (Char c) = true
+stands_in_store (Dead mark) = true
+stands_in_store (Key flags code) = true
+stands_in_store _ = false
+
+-- in a context: character, deadkey, any, notany, index, context(n), if, nul
+abbrev pub stands_in_context : UnitItem → Bool
+stands_in_context (Char c) = true
+stands_in_context (Dead mark) = true
+stands_in_context (Any store) = true
+stands_in_context (NotAny store) = true
+stands_in_context (Index store offset) = true
+stands_in_context (ContextAt offset) = true
+stands_in_context (Test store comparison value) = true
+stands_in_context Nul = true
+stands_in_context _ = false
+
+-- in a match or nomatch output: character, deadkey, use, set, save, reset, nul, beep, return
+abbrev pub stands_in_match : UnitItem → Bool
+stands_in_match (Char c) = true
+stands_in_match (Dead mark) = true
+stands_in_match (Enter group) = true
+stands_in_match (Set store value) = true
+stands_in_match (Save store) = true
+stands_in_match (Reset store) = true
+stands_in_match Nul = true
+stands_in_match Beep = true
+stands_in_match Stop = true
+stands_in_match _ = false
+
+-- in an output: as in match, and index, context, context(n)
+abbrev pub stands_in_output : UnitItem → Bool
+stands_in_output (Index store offset) = true
+stands_in_output Context = true
+stands_in_output (ContextAt offset) = true
+stands_in_output item = stands_in_match item
+
+abbrev pub may_stand : StringKind → UnitItem → Bool
+may_stand of.Store item = stands_in_store item
+may_stand of.Context item = stands_in_context item
+may_stand of.Output item = stands_in_output item
+may_stand of.Match item = stands_in_match item
+
+-- the code behind an item's sentinel, by which a refusal names it; a character has none
+abbrev pub code_of : UnitItem → ℕ
+code_of (Char c) = 0
+code_of (Any store) = 0x01
+code_of (Index store offset) = 0x02
+code_of Context = 0x03
+code_of Nul = 0x04
+code_of (Enter group) = 0x05
+code_of Stop = 0x06
+code_of Beep = 0x07
+code_of (Dead mark) = 0x08
+code_of (Key flags code) = 0x0A
+code_of (ContextAt offset) = 0x11
+code_of (NotAny store) = 0x12
+code_of (Set store value) = 0x13
+code_of (Test store comparison value) = 0x14
+code_of (Save store) = 0x15
+code_of (Reset store) = 0x16
+
+-- the stores that an item names, counted from 1
+abbrev pub stores_named : UnitItem → List ℕ
+stores_named (Any store) = store ∷ []
+stores_named (NotAny store) = store ∷ []
+stores_named (Index store offset) = store ∷ []
+stores_named (Set store value) = store ∷ value ∷ []
+stores_named (Test store comparison value) = store ∷ value ∷ []
+stores_named (Save store) = store ∷ []
+stores_named (Reset store) = store ∷ []
+stores_named _ = []
+
+-- the groups that an item names, counted from 1
+abbrev pub groups_named : UnitItem → List ℕ
+groups_named (Enter group) = group ∷ []
+groups_named _ = []
+
+-- what an offset finds at an item of a context
+abbrev pub target_of : UnitItem → Target
+target_of (Any store) = target.Any
+target_of (Test store comparison value) = target.Nothing
+target_of Nul = target.Nothing
+target_of _ = target.Pattern
+
+abbrev pub is_any : Option Target → Bool
+is_any (Some target.Any) = true
+is_any _ = false
+
+abbrev pub is_pattern : Option Target → Bool
+is_pattern (Some target.Any) = true
+is_pattern (Some target.Pattern) = true
+is_pattern _ = false
+
+-- the item of a context at an offset, counted from 1
+abbrev pub target_at : List Target → ℕ → Option Target
+target_at targets zero = None
+target_at targets (suc place) = slice_get targets place
+
+-- of what offsets find so much as they reach: an offset is a unit, and counts from 1
+unfoldable pub reached : List Target → List Target
+reached targets = take 65535 targets
+
+-- an offset points where it must: index at an any, context(n) at a pattern
+abbrev pub points_right : List Target → UnitItem → Bool
+points_right targets (Index store offset) = is_any (target_at targets offset)
+points_right targets (ContextAt offset) = is_pattern (target_at targets offset)
+points_right targets _ = true
+
+-- the offset of an item is a unit
+abbrev pub HasSmallOffset : UnitItem → Type 0
+HasSmallOffset (Index store offset) = offset < 65536
+HasSmallOffset (ContextAt offset) = offset < 65536
+HasSmallOffset _ = Unit {0}

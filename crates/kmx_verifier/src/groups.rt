@@ -1,0 +1,101 @@
+//! The groups of a file and their key records.
+
+ghost use Rattle.std.specs.Prelude.{◌≡◌, ◌+◌, ◌*◌, ◌⊎◌, ◌≤◌, ◌<◌, length, None, Some, MatchResult};
+ghost use Rattle.kmn_base.specs.declared.limits.TheConstants.{FILE_BYTES, RECORDS};
+ghost use Rattle.kmx_format.specs.TablesOf.{word_at};
+ghost use Rattle.kmx_verifier.specs.FaultOf.{records_place_fault, group_strings_fault, group_fault, groups_fault, Tells, TellsOf, IsRefusal};
+
+use crate::contexts::check_records;
+use crate::faults::{Fault, StringKind, Target, VerifyError};
+use crate::strings::{check_name, check_output};
+use kmn_base::Code;
+use kmn_base::limits::RECORDS;
+use kmx_format::sizes::{GROUP_BYTES, RULE_BYTES};
+use kmx_view::word_at;
+
+/// The count of a group's records, with so many records before it, and where they stand; how many records there are
+/// with them.
+fn check_records_place(bytes: &[u8], before: usize, place: usize) -> Result<usize, Fault>
+    requires fits { length bytes.now ≤ FILE_BYTES }
+    requires place { place + 24 ≤ FILE_BYTES }
+    requires before { before ≤ RECORDS }
+    ensures { MatchResult result
+        (λ count. (records_place_fault bytes.now before place ≡ None) × (count ≡ before + word_at bytes.now (place + 16)) × (count ≤ RECORDS))
+        (λ fault. records_place_fault bytes.now before place ≡ Some fault) }
+{
+    let count = word_at(bytes, place + 16) as usize;
+    if before + count > RECORDS {
+        return Err(Fault::of(Code::V15, place as u32 + 16));
+    }
+    if count > 0 && word_at(bytes, place + 4) as usize + RULE_BYTES * count > bytes.len() {
+        return Err(Fault::of(Code::V09, place as u32 + 4));
+    }
+    Ok(before + count)
+}
+
+/// The name, match and nomatch of a group.
+fn check_group_strings(bytes: &[u8], place: usize) -> Result<(), Fault>
+    requires fits { length bytes.now ≤ FILE_BYTES }
+    requires place { place + 24 ≤ FILE_BYTES }
+    ensures { Tells (group_strings_fault bytes.now place) result }
+{
+    check_name(bytes, place)?;
+    check_output(bytes, StringKind::Match, &[], place + 8)?;
+    check_output(bytes, StringKind::Match, &[], place + 12)
+}
+
+/// The group whose record stands at a place, with so many records before it; how many records there are with its own.
+fn check_group(
+    bytes: &[u8],
+    before: usize,
+    place: usize,
+    targets: &mut Vec<Target>,
+) -> Result<usize, VerifyError>
+    requires fits { length bytes.now ≤ FILE_BYTES }
+    requires place { place + 24 ≤ FILE_BYTES }
+    requires before { before ≤ RECORDS }
+    ensures { MatchResult result
+        (λ count. (group_fault bytes.now before place ≡ None) × (count ≡ before + word_at bytes.now (place + 16)) × (count ≤ RECORDS))
+        (λ error. IsRefusal error (λ fault. group_fault bytes.now before place ≡ Some fault)) }
+{
+    let count = match check_records_place(bytes, before, place) {
+        Ok(count) => count,
+        Err(fault) => return Err(VerifyError::Refused(fault)),
+    };
+    match check_group_strings(bytes, place) {
+        Ok(()) => {}
+        Err(fault) => return Err(VerifyError::Refused(fault)),
+    }
+    let using_keys = word_at(bytes, place + 20) != 0;
+    match check_records(
+        bytes,
+        using_keys,
+        word_at(bytes, place + 4),
+        word_at(bytes, place + 16),
+        targets,
+    ) {
+        Ok(()) => Ok(count),
+        Err(error) => Err(error),
+    }
+}
+
+/// The groups.
+pub(crate) fn check_groups(
+    bytes: &[u8],
+    place: u32,
+    count: u32,
+    targets: &mut Vec<Target>,
+) -> Result<(), VerifyError>
+    requires fits { length bytes.now ≤ FILE_BYTES }
+    requires stand { (count ≡ 0) ⊎ (place + 24 * count ≤ FILE_BYTES) }
+    ensures { TellsOf (groups_fault bytes.now 0 place count) (Unit {0}) result }
+{
+    let mut records = 0;
+    for i in 0..count as usize {
+        match check_group(bytes, records, place as usize + GROUP_BYTES * i, targets) {
+            Ok(so_far) => records = so_far,
+            Err(error) => return Err(error),
+        }
+    }
+    Ok(())
+}
