@@ -16,6 +16,8 @@ mod rules;
 mod spelled;
 mod stores;
 mod summaries;
+#[cfg(test)]
+mod tests;
 mod totals;
 mod values;
 mod walking;
