@@ -15,6 +15,8 @@ mod lookups;
 mod pieces;
 mod records;
 mod stores;
+#[cfg(test)]
+mod tests;
 mod values;
 mod versions;
 
