@@ -291,7 +291,7 @@ element_stands bytes (element.Key flags code) = record { stands = refl; named = 
 
 -- ---- whole contents
 
-parted : {X : Type 0} (P : X → Type 0) (xs ys : List X) → All P (xs ++ ys) → All P xs × All P ys
+pub parted : {X : Type 0} (P : X → Type 0) (xs ys : List X) → All P (xs ++ ys) → All P xs × All P ys
 parted P [] ys h = (All-nil P, h)
 parted P (x ∷ xs) ys h =
     let others = parted P xs ys (All-tail P x (xs ++ ys) h) in

@@ -1,3 +1,5 @@
 pub mod FaultOf
 pub mod Items
 pub mod Laws
+pub mod Looked
+pub mod Options

@@ -12,6 +12,7 @@ mod groups;
 mod header;
 mod items;
 pub mod laws;
+mod options;
 mod stores;
 mod strings;
 mod tables;

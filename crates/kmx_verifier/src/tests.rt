@@ -159,6 +159,7 @@ fn tables_of_files(rt: HostRuntime) -> Result<(), Fail> {
         (file.bytes(), file.tables().stores.len()),
         (TWO_KEYS.as_slice(), 2)
     );
+    assert_eq!(rt; (file.is_option(0), file.is_option(2)), (false, false));
     let outputs = [(0x4000, 'x'), (0x4010, 'y')];
     for group in file.tables().groups.as_slice() {
         for (rule, (flags, c)) in group.rules.as_slice().iter().zip(outputs.iter()) {

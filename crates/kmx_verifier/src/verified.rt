@@ -3,6 +3,7 @@ ghost use Rattle.kmx_format.specs.Writable.{IsFile};
 ghost use Rattle.kmx_verifier.specs.FaultOf.{fault_of, IsRefusal};
 
 use crate::faults::VerifyError;
+use crate::options::is_option;
 use crate::tables::tables_of;
 use crate::whole::check_file;
 use kmn_base::Memory;
@@ -31,6 +32,9 @@ impl<'a> Model for Verified<'a> {
 }
 
 impl<'a> Verified<'a> {
+    ghost use Rattle.std.specs.Prelude.{nat_eq};
+    ghost use Rattle.std.specs.List.{list_any};
+    ghost use Rattle.rule_model.specs.Tab.{tab_options};
     ghost use Rattle.kmx_format.specs.File.{all_rules};
     ghost use Rattle.kmx_format.specs.TablesOf.{tables_of};
     ghost use Rattle.kmx_format.specs.Playable.{IsPlayable};
@@ -76,6 +80,13 @@ impl<'a> Verified<'a> {
         ensures { result ≡ length (all_rules (tables_of self.now)) }
     {
         rule_count(self.tables.groups.as_slice()) as u32
+    }
+
+    /// Whether some condition, `set`, `save` or `reset` names a store.
+    pub fn is_option(&self, store: u32) -> bool
+        ensures { result ≡ list_any (nat_eq store) (tab_options (tables_of self.now)) }
+    {
+        is_option(&self.tables, store)
     }
 }
 

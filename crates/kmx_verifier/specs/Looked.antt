@@ -1,0 +1,58 @@
+-- The places of a file that some step looks at.
+use Rattle.std.specs.Prelude.{◌≡◌, ℕ, zero, suc, ◌+◌, ◌*◌, Bool, if◌then◌else◌, List, [], ◌∷◌, ◌++◌, length, take, drop}
+use Rattle.std.specs.List.{All}
+use Rattle.kmx_format.specs.TablesOf.{word_at, string_at, uses_keys_at}
+use Rattle.kmx_view.specs.View.{store_count, group_count}
+use Rattle.kmx_verifier.specs.FaultOf.{fault_of}
+
+-- so many bytes from a place on
+pub record Range : Type 0 where
+  pub place : ℕ
+  pub size : ℕ
+
+-- the string at an offset with its zero unit; one that isn't ended goes on to the end of the file
+abbrev pub string_range : List ℕ → ℕ → Range
+string_range bytes offset = record { place = offset; size = 2 * length (string_at bytes offset) + 2 }
+
+-- the header but for checksum, keyboard id, registered, version of the keyboard and hotkey
+abbrev pub header_looked : List Range
+header_looked = record { place = 0; size = 8 } ∷ record { place = 24; size = 28 } ∷ record { place = 56; size = 8 } ∷ []
+
+-- of so many stores the offsets of their strings, and the strings; not their system ids
+abbrev pub stores_looked : List ℕ → ℕ → ℕ → List Range
+stores_looked bytes place zero = []
+stores_looked bytes place (suc count) =
+    record { place = place + 4; size = 8 }
+    ∷ string_range bytes (word_at bytes (place + 4)) ∷ string_range bytes (word_at bytes (place + 8))
+    ∷ stores_looked bytes (place + 12) count
+
+-- of so many key records the flags, where they are looked at, the offsets of their strings, and the strings
+abbrev pub records_looked : List ℕ → Bool → ℕ → ℕ → List Range
+records_looked bytes using_keys place zero = []
+records_looked bytes using_keys place (suc count) =
+    (if using_keys then record { place = place + 8; size = 12 } else record { place = place + 12; size = 8 })
+    ∷ string_range bytes (word_at bytes (place + 16)) ∷ string_range bytes (word_at bytes (place + 12))
+    ∷ records_looked bytes using_keys (place + 20) count
+
+-- of so many groups their records and strings, and their key records
+abbrev pub groups_looked : List ℕ → ℕ → ℕ → List Range
+groups_looked bytes place zero = []
+groups_looked bytes place (suc count) =
+    record { place = place; size = 24 }
+    ∷ string_range bytes (word_at bytes place) ∷ string_range bytes (word_at bytes (place + 8)) ∷ string_range bytes (word_at bytes (place + 12))
+    ∷ (records_looked bytes (uses_keys_at bytes place) (word_at bytes (place + 4)) (word_at bytes (place + 16))
+    ++ groups_looked bytes (place + 24) count)
+
+-- all that is looked at
+abbrev pub looked_at : List ℕ → List Range
+looked_at bytes =
+    header_looked
+    ++ (stores_looked bytes (word_at bytes 32) (store_count bytes) ++ groups_looked bytes (word_at bytes 36) (group_count bytes))
+
+-- two files have the same bytes there
+abbrev pub IsSameAt : List ℕ → List ℕ → Range → Type 0
+IsSameAt bytes other range = take range.size (drop range.place bytes) ≡ take range.size (drop range.place other)
+
+-- files of one length with the same bytes at all places that a step looks at have the same first fault
+abbrev pub OtherBytesChangeNothing : Type 0
+OtherBytesChangeNothing = (bytes other : List ℕ) → length bytes ≡ length other → All (IsSameAt bytes other) (looked_at bytes) → fault_of bytes ≡ fault_of other
