@@ -1,3 +1,4 @@
+pub mod FoundLayers
 mod Members
 mod Sentinels
 mod Values

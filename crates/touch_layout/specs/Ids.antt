@@ -1,5 +1,5 @@
 -- Which ids a key of a layout can have, and which of them a keyboard has a record for.
-use Rattle.std.specs.Prelude.{ℕ, Bool, true, false, ◌&&◌, ◌||◌, not, nat_eq, nat_lt, nat_le, List, [], ◌∷◌, length, take, codes, is_some, ◌==◌}
+use Rattle.std.specs.Prelude.{ℕ, Bool, true, false, ◌&&◌, ◌||◌, not, nat_eq, nat_lt, nat_le, List, [], ◌∷◌, length, take, flat_map, codes, is_some, option_to_list, ◌==◌}
 use Rattle.std.specs.Option.{option_map_or}
 use Rattle.std.specs.List.{list_any, list_all, starts_with}
 use Rattle.std.specs.Str.{byte}
@@ -67,3 +67,16 @@ has_record_of dictionary id group = list_any (is_record_of dictionary id) group.
 -- whether some record has an id as its key
 abbrev pub has_record : List (List ℕ) → List Group → List ℕ → Bool
 has_record dictionary groups id = list_any (has_record_of dictionary id) groups
+
+-- the name that the dictionary has for the key of a record
+abbrev pub recorded_name : List (List ℕ) → RuleKey → List (List ℕ)
+recorded_name dictionary Any = []
+recorded_name dictionary (Char c) = []
+recorded_name dictionary (Virtual flags code) = option_to_list (name_in dictionary code)
+
+-- the names of the keys of all records, as often as they come
+abbrev pub rule_names : List (List ℕ) → List Rule → List (List ℕ)
+rule_names dictionary rules = flat_map (λ (rule : Rule). recorded_name dictionary rule.key) rules
+
+abbrev pub recorded_names : List (List ℕ) → List Group → List (List ℕ)
+recorded_names dictionary groups = flat_map (λ (group : Group). rule_names dictionary group.rules) groups

@@ -1,27 +1,30 @@
 //! The rules of a layout, in the order in which they are looked at.
 
-ghost use Rattle.std.specs.Prelude.{◌≡◌, MatchResult, IfOk, IfErr, Some, None, Ok, Err, option_map, []};
-ghost use Rattle.std.specs.List.{list_any};
+ghost use Rattle.std.specs.Prelude.{◌≡◌, IfOk, IfErr, Some, None, Ok, option_map, map};
 ghost use Rattle.serde_json.specs.View.{view};
 ghost use Rattle.rule_model.specs.Tab.{tab};
+ghost use Rattle.store_table.specs.Names.{is_named};
 ghost use Rattle.touch_layout.specs.Ids.{has_record};
 ghost use Rattle.touch_layout.specs.Keys.{key_view, keys_view};
-ghost use Rattle.touch_layout.specs.Layers.{layer_view, layers_view, layout_view};
-ghost use Rattle.touch_layout.specs.Layout.{is_next_layer, leads_nowhere, does_nothing, has_strange_id, key_code, keys_fault, is_same_layer, layers_fault, without_mark, value_of, read_layout, rules_fault, count_of, layout_fault, key_count};
+ghost use Rattle.touch_layout.specs.LayerIds.{layer_of};
+ghost use Rattle.touch_layout.specs.Layers.{layers_view, layout_view};
+ghost use Rattle.touch_layout.specs.Layout.{leads_nowhere, does_nothing, has_strange_id, key_code, keys_fault, without_mark, value_of, read_layout, rules_fault, count_of, layout_fault, key_count};
 ghost use Rattle.touch_layout.specs.declared.faults.LayoutError.TheVariants.{Refused};
 
 use crate::faults::{LayoutError, LayoutFault, fault_at, whole_layout};
 use crate::ids::{is_key_id, is_touch_name};
 use crate::keys::TouchKey;
-use crate::layers::{Found, TouchLayer, Unfit, layout};
-use crate::ruled::has_record;
+use crate::layer_ids::{has_next_layer, layer_ids, layers_fault};
+use crate::layers::{Found, Unfit, layout};
+use crate::ruled::recorded_names;
+use indexmap::IndexSet;
 use kmn_base::limits::TEXT_BYTES;
-use kmn_base::names::same_name;
 use kmn_base::{Code, Memory};
 use rule_model::{Group, IndexedTables, Tables};
 use serde_json::Value;
 use std::alloc::Global;
 use std::str;
+use store_table::NameTable;
 
 /// Whether an id isn't empty and is one that no key can have.
 fn has_strange_id(key: &TouchKey<'_>) -> bool
@@ -30,116 +33,87 @@ fn has_strange_id(key: &TouchKey<'_>) -> bool
     key.id.len() > 0 && !is_key_id(key.id.as_bytes())
 }
 
-/// Whether the platform of a key has the layer that the key leads to.
-fn has_next_layer(layers: &[TouchLayer<'_>], key: &TouchKey<'_>) -> bool
-    ensures { result ≡ list_any (is_next_layer (key_view key.now)) (layers_view layers.now) }
-{
-    for layer in layers {
-        if layer.place.platform == key.place.platform && layer.id == key.next_layer {
-            return true;
-        }
-    }
-    false
-}
-
 /// Whether a key leads to a layer that its platform doesn't have.
-fn leads_nowhere(layers: &[TouchLayer<'_>], key: &TouchKey<'_>) -> bool
-    ensures { result ≡ leads_nowhere (layers_view layers.now) (key_view key.now) }
+fn leads_nowhere<'v>(ids: &IndexSet<(u32, &'v str)>, key: &TouchKey<'v>) -> bool
+    ensures { result ≡ leads_nowhere (map (λ id. layer_of id.0 id.1.now) ids.now.keys) (key_view key.now) }
 {
-    key.next_layer.len() > 0 && !has_next_layer(layers, key)
+    key.next_layer.len() > 0 && !has_next_layer(ids, key)
 }
 
 /// Whether a T_ key has no record, leads to no layer and is no spacer.
-fn does_nothing(keyboard: &IndexedTables<'_>, groups: &[Group], key: &TouchKey<'_>) -> bool
-    ensures { result ≡ does_nothing (has_record (tab keyboard.now).dictionary groups.now) (key_view key.now) }
+fn does_nothing(names: &NameTable, key: &TouchKey<'_>) -> bool
+    ensures { result ≡ does_nothing (is_named names.now) (key_view key.now) }
 {
     let id = key.id.as_bytes();
-    is_touch_name(id)
-        && key.next_layer.len() == 0
-        && !key.is_spacer
-        && !has_record(keyboard, groups, id)
+    is_touch_name(id) && key.next_layer.len() == 0 && !key.is_spacer && !names.has(id)
 }
 
 /// The first rule that a key breaks.
-fn key_code(
-    keyboard: &IndexedTables<'_>,
-    groups: &[Group],
-    layers: &[TouchLayer<'_>],
-    key: &TouchKey<'_>,
+fn key_code<'v>(
+    names: &NameTable,
+    ids: &IndexSet<(u32, &'v str)>,
+    key: &TouchKey<'v>,
 ) -> Option<Code>
-    ensures { result ≡ key_code (has_record (tab keyboard.now).dictionary groups.now)
-        (layers_view layers.now) (key_view key.now) }
+    ensures { result ≡ key_code (is_named names.now) (map (λ id. layer_of id.0 id.1.now) ids.now.keys) (key_view key.now) }
 {
     if has_strange_id(key) {
         return Some(Code::T3);
     }
-    if leads_nowhere(layers, key) {
+    if leads_nowhere(ids, key) {
         return Some(Code::T4);
     }
-    if does_nothing(keyboard, groups, key) {
+    if does_nothing(names, key) {
         return Some(Code::T5);
     }
     None
 }
 
 /// The first key that breaks a rule.
-fn keys_fault(
-    keyboard: &IndexedTables<'_>,
-    groups: &[Group],
-    layers: &[TouchLayer<'_>],
-    keys: &[TouchKey<'_>],
+fn keys_fault<'v>(
+    names: &NameTable,
+    ids: &IndexSet<(u32, &'v str)>,
+    keys: &[TouchKey<'v>],
 ) -> Option<LayoutFault>
-    ensures { result ≡ keys_fault (has_record (tab keyboard.now).dictionary groups.now)
-        (layers_view layers.now) (keys_view keys.now) }
+    ensures { result ≡ keys_fault (is_named names.now) (map (λ id. layer_of id.0 id.1.now) ids.now.keys) (keys_view keys.now) }
 {
     for key in keys {
-        if let Some(code) = key_code(keyboard, groups, layers, key) {
+        if let Some(code) = key_code(names, ids, key) {
             return Some(fault_at(code, key.place));
         }
     }
     None
 }
 
-/// Whether the id of a layer stood before in its platform.
-fn is_repeated(before: &[TouchLayer<'_>], layer: &TouchLayer<'_>) -> bool
-    ensures { result ≡ list_any (is_same_layer (layer_view layer.now)) (layers_view before.now) }
+/// The first key of a layout that breaks a rule.
+#[tactic(auto, using(crate::proofs::FoundLayers::same_keys_fault))]
+fn found_keys_fault(
+    alloc: Global,
+    keyboard: &IndexedTables<'_>,
+    groups: &[Group],
+    found: &Found<'_>,
+) -> Result<Option<LayoutFault>, Memory>
+    ensures { IfOk result (λ fault. fault ≡ keys_fault (has_record (tab keyboard.now).dictionary groups.now)
+        (layers_view found.now.layers.items) (keys_view found.now.keys.items)) }
 {
-    for other in before {
-        if other.place.platform == layer.place.platform
-            && same_name(other.id.as_bytes(), layer.id.as_bytes())
-        {
-            return true;
-        }
-    }
-    false
-}
-
-/// The first layer whose id stood before.
-fn layers_fault(layers: &[TouchLayer<'_>]) -> Option<LayoutFault>
-    ensures { result ≡ layers_fault [] (layers_view layers.now) }
-{
-    for i in 0..layers.len() {
-        if is_repeated(&layers[..i], &layers[i]) {
-            return Some(fault_at(Code::T6, layers[i].place));
-        }
-    }
-    None
+    let names = recorded_names(alloc, keyboard, groups)?;
+    let ids = layer_ids(alloc, found.layers.as_slice())?;
+    Ok(keys_fault(&names, &ids, found.keys.as_slice()))
 }
 
 /// The first rule that a layout breaks: that of layers before those of keys.
 fn rules_fault(
+    alloc: Global,
     keyboard: &IndexedTables<'_>,
     groups: &[Group],
     found: &Found<'_>,
-) -> Option<LayoutFault>
-    ensures { result ≡ rules_fault (has_record (tab keyboard.now).dictionary groups.now)
-        (Ok (layout_view found.now.layers.items found.now.keys.items)) }
+) -> Result<Option<LayoutFault>, Memory>
+    ensures { IfOk result (λ fault. fault ≡ rules_fault (has_record (tab keyboard.now).dictionary groups.now)
+        (Ok (layout_view found.now.layers.items found.now.keys.items))) }
 {
-    let layers = found.layers.as_slice();
-    if let Some(fault) = layers_fault(layers) {
-        return Some(fault);
+    match layers_fault(alloc, found.layers.as_slice())? {
+        Some(fault) => Ok(Some(fault)),
+        None => found_keys_fault(alloc, keyboard, groups, found),
     }
-    keys_fault(keyboard, groups, layers, found.keys.as_slice())
 }
 
 /// A text without a first U+FEFF.
@@ -188,7 +162,7 @@ fn check_value(
         Err(Unfit::Shape(place)) => return Err(LayoutError::Refused(fault_at(Code::T2, place))),
         Err(Unfit::Memory) => return Err(LayoutError::Memory),
     };
-    if let Some(fault) = rules_fault(keyboard, groups, &found) {
+    if let Some(fault) = rules_fault(alloc, keyboard, groups, &found)? {
         return Err(LayoutError::Refused(fault));
     }
     match u32::try_from(found.keys.len()) {

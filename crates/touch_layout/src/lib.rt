@@ -10,6 +10,7 @@ mod check;
 mod faults;
 mod ids;
 mod keys;
+mod layer_ids;
 mod layers;
 mod ruled;
 #[cfg(test)]

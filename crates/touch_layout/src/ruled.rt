@@ -1,47 +1,52 @@
 //! Which ids the records of a keyboard have as their key.
 
-ghost use Rattle.std.specs.Prelude.{◌≡◌};
-ghost use Rattle.std.specs.List.{list_any};
+ghost use Rattle.std.specs.Prelude.{◌≡◌, ◌++◌, IfOk, OnOk};
 ghost use Rattle.rule_model.specs.Tab.{tab};
-ghost use Rattle.touch_layout.specs.Ids.{is_key_of, is_record_of, has_record};
+ghost use Rattle.touch_layout.specs.Ids.{recorded_name, recorded_names, rule_names};
 
-use kmn_base::RuleKey;
-use kmn_base::names::same_name;
+use kmn_base::{Memory, RuleKey};
 use rule_model::{Group, IndexedTables, Rule};
+use std::alloc::Global;
+use store_table::NameTable;
 
-/// Whether the key of a record is the one that the dictionary has for an id.
-fn is_key_of(keyboard: &IndexedTables<'_>, id: &[u8], key: RuleKey) -> bool
-    ensures { result ≡ is_key_of (tab keyboard.now).dictionary id.now key }
+/// Adds the name that the dictionary has for the key of a record.
+fn add_name(names: &mut NameTable, keyboard: &IndexedTables<'_>, key: RuleKey) -> Result<(), Memory>
+    ensures { OnOk result (names.new ≡ names.old ++ recorded_name (tab keyboard.now).dictionary key) }
 {
     let RuleKey::Virtual { code, .. } = key else {
-        return false;
+        return Ok(());
     };
     match keyboard.own_key(code) {
-        Some(name) => same_name(id, name),
-        None => false,
+        Some(name) => names.push(name),
+        None => Ok(()),
     }
 }
 
-/// Whether one of some records has an id as its key.
-fn is_key_among(keyboard: &IndexedTables<'_>, rules: &[Rule], id: &[u8]) -> bool
-    ensures { result ≡ list_any (is_record_of (tab keyboard.now).dictionary id.now) rules.now }
+/// Adds the names of the keys of records.
+fn add_names(
+    names: &mut NameTable,
+    keyboard: &IndexedTables<'_>,
+    rules: &[Rule],
+) -> Result<(), Memory>
+    ensures { OnOk result (names.new ≡ names.old ++ rule_names (tab keyboard.now).dictionary rules.now) }
 {
     for rule in rules {
-        if is_key_of(keyboard, id, rule.key) {
-            return true;
-        }
+        add_name(names, keyboard, rule.key)?;
     }
-    false
+    Ok(())
 }
 
-/// Whether some record of the groups has an id as its key.
-pub(crate) fn has_record(keyboard: &IndexedTables<'_>, groups: &[Group], id: &[u8]) -> bool
-    ensures { result ≡ has_record (tab keyboard.now).dictionary groups.now id.now }
+/// The names of the keys of all records.
+pub(crate) fn recorded_names(
+    alloc: Global,
+    keyboard: &IndexedTables<'_>,
+    groups: &[Group],
+) -> Result<NameTable, Memory>
+    ensures { IfOk result (λ names. names ≡ recorded_names (tab keyboard.now).dictionary groups.now) }
 {
+    let mut names = NameTable::new(alloc);
     for group in groups {
-        if is_key_among(keyboard, group.rules.as_slice(), id) {
-            return true;
-        }
+        add_names(&mut names, keyboard, group.rules.as_slice())?;
     }
-    false
+    Ok(names)
 }

@@ -5,7 +5,7 @@ use std::alloc::Global;
 use std::test::Fail;
 
 /// Layouts, and the count of their keys or the rule that they break, with platform, layer, row and key.
-const LAYOUTS: [(&str, Result<u32, (Code, u32, u32, u32, u32)>); 6] = [
+const LAYOUTS: [(&str, Result<u32, (Code, u32, u32, u32, u32)>); 11] = [
     ("", Err((Code::T1, 0, 0, 0, 0))),
     ("\u{FEFF}{}", Ok(0)),
     ("[]", Err((Code::T2, 0, 0, 0, 0))),
@@ -18,11 +18,37 @@ const LAYOUTS: [(&str, Result<u32, (Code, u32, u32, u32, u32)>); 6] = [
         r#"{"phone":{"layer":[{"id":"a","row":[]},{"id":"A","row":[]}]}}"#,
         Err((Code::T6, 1, 2, 0, 0)),
     ),
+    (
+        r#"{"phone":{"layer":[{"id":"a","row":[]}]},"x":1e999}"#,
+        Err((Code::T1, 0, 0, 0, 0)),
+    ),
+    (
+        r#"{"phone":{"layer":[{"id":"a","row":[],"row":{}}]}}"#,
+        Err((Code::T2, 1, 1, 0, 0)),
+    ),
+    (
+        r#"{"desktop":{"layer":[{"id":"a","row":[{"key":[{"id":"x"}]}]},{"id":"a","row":[]}]}}"#,
+        Err((Code::T6, 3, 2, 0, 0)),
+    ),
+    (
+        r#"{"phone":{"layer":[{"id":"a","row":[]}]},"tablet":{"layer":[{"id":"b","row":[{"key":[{"nextlayer":"b"},{"nextlayer":"a"}]}]}]}}"#,
+        Err((Code::T4, 2, 1, 1, 2)),
+    ),
+    (
+        r#"{"desktop":{"layer":[{"id":"a","row":[{"key":[{"id":"x"}]}]}]},"phone":{"layer":[{"id":"a","row":[{"key":[]},{"key":[{"id":"T_x"}]}]}]}}"#,
+        Err((Code::T5, 1, 1, 2, 1)),
+    ),
 ];
 
 /// The keys of the one row of a tablet's layer `a`, and their count or the rule that is broken, with the key.
-const ROWS: [(&str, Result<u32, (Code, u32)>); 7] = [
+const ROWS: [(&str, Result<u32, (Code, u32)>); 10] = [
     (r#"{},{"id":1}"#, Err((Code::T2, 2))),
+    (r#"{"id":"x"},7"#, Err((Code::T2, 2))),
+    (r#"{"id":"x","sk":[{"sp":null}]}"#, Err((Code::T2, 1))),
+    (
+        r#"{"sk":[{"nextlayer":"b"}]},{"id":"x"}"#,
+        Err((Code::T4, 1)),
+    ),
     (r#"{"flick":{"nw":{"id":"K_ZZ"}}}"#, Err((Code::T3, 1))),
     (r#"{"id":"T_a b"}"#, Err((Code::T3, 1))),
     (r#"{"nextlayer":"a"},{"nextlayer":"A"}"#, Err((Code::T4, 2))),
@@ -154,7 +180,7 @@ fn layouts(rt: HostRuntime) -> Result<(), Fail> {
     }
     let long = vec![in alloc; b' '; 4_194_305]?;
     assert!(rt;
-        matches!(check_layout(alloc, long.as_slice(), &tables), Err(LayoutError::Refused(fault)) if fault.code == Code::T7)
+        matches!(check_layout(alloc, long.as_slice(), &tables), Err(LayoutError::Refused(found)) if found == fault(Code::T7, 0, 0, 0, 0))
     );
     Ok(())
 }
