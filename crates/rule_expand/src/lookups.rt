@@ -1,6 +1,6 @@
 //! The numbers of names and values.
 
-ghost use Rattle.std.specs.Prelude.{◌≡◌, length, ◌≤◌, ◌^◌};
+ghost use Rattle.std.specs.Prelude.{◌≡◌};
 ghost use Rattle.rule_model.specs.Naming.{mark_number, key_number, elements_named};
 ghost use Rattle.compile_laws.specs.Numbers.{number_of_store, number_of_group, number_of_value};
 ghost use Rattle.rule_expand.specs.Lookups.{source_names, AreFew, BeginWith, AreNumbers, place_of_store, elements_at};
