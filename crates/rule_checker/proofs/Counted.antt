@@ -1,8 +1,7 @@
 -- Counts that stay at the end of their type are those of the elements.
-use Rattle.std.proofs.Common.{◌≡◌, ℕ, suc, ◌+◌, ◌<◌, ◌≤◌, min, Bool, true, false, cond, List, [], ◌∷◌, ◌++◌, length, map, drop, get_or, Option, Some, None, refl, sym, ap, subst, ◌∙◌, arith, if◌then◌else◌, length-append}
-use Rattle.std.specs.Prelude.{sum, fold, flat_map, find, position, slice_get, unwrap_or, option_map}
-use Rattle.std.proofs.lemmas.List.{drop_more, map-append}
-use Rattle.kmn_base.specs.declared.items.Element.{Element}
+use Rattle.std.proofs.Common.{◌≡◌, ℕ, suc, ◌+◌, Bool, true, false, cond, List, [], ◌∷◌, ◌++◌, length, map, Option, Some, None, refl, sym, ap, ◌∙◌, arith, if◌then◌else◌, length-append}
+use Rattle.std.specs.Prelude.{sum, fold, flat_map, find, option_map}
+use Rattle.std.proofs.lemmas.List.{map-append}
 use Rattle.kmn_base.specs.Names.{same_name}
 use Rattle.virtual_keys.specs.Dictionary.{place_in}
 use Rattle.rule_model.specs.declared.program.SrcItem.{SrcItem}

@@ -28,9 +28,9 @@ use Rattle.rule_checker.specs.declared.counting.StoreCounts.{StoreCounts}
 use Rattle.rule_checker.specs.declared.totals.Totals.{Totals}
 use Rattle.rule_checker.specs.declared.walking.Walk.{Walk}
 use Rattle.rule_checker.specs.Items.{Known, known, statement_elements}
-use Rattle.rule_checker.specs.Limits.{Statement, OfStore, OfRule, in_line_order, line_of, items_of, values_of_statement, statement_size, store_size, record_count, records_of_statement, all_records, names_size, dictionary_size, sizes, mark_count, have_many_elements, are_many_stores, have_many_marks, have_many_records, limit_code, statement_refusal, output_size}
+use Rattle.rule_checker.specs.Limits.{Statement, OfStore, OfRule, in_line_order, line_of, items_of, values_of_statement, statement_size, store_size, record_count, records_of_statement, all_records, names_size, dictionary_size, sizes, have_many_elements, are_many_stores, have_many_marks, have_many_records, limit_code, statement_refusal, output_size}
 use Rattle.rule_checker.specs.Counting.{capped, total, count_of, output_count_of, with_stores, no_counts}
-use Rattle.rule_checker.specs.Walking.{with_names, with_values, with_size, with_store_size, record_count_of, after_store, after_rule, dictionary_count, store_count, passes_elements, totals_code, after_statement, walked, no_totals, no_walk}
+use Rattle.rule_checker.specs.Walking.{with_names, with_values, with_size, with_store_size, record_count_of, after_store, after_rule, store_count, passes_elements, totals_code, after_statement, walked, no_totals, no_walk}
 use Rattle.rule_checker.proofs.Counted.{AreCounts, named_count, items_count, output_counted, program_counts, one_more, from_zero}
 use Rattle.rule_checker.proofs.Gathered.{AreSums, Gains, gains_both, names_gain, values_gain, distinct_append, fold_push, any_push}
 
