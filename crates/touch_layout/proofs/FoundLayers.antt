@@ -20,7 +20,8 @@ use Rattle.virtual_keys.specs.Dictionary.{name_in}
 use Rattle.rule_model.specs.declared.tables.Rule.{Rule}
 use Rattle.rule_model.specs.declared.tables.Group.{Group}
 use Rattle.store_table.specs.Names.{is_named}
-use Rattle.store_table.proofs.Naming.{some_place}
+use Rattle.store_table.specs.Numbering.{with_marks}
+use Rattle.touch_layout.proofs.RecordedNames.{named_once}
 use Rattle.touch_layout.specs.declared.layers.TouchLayer.{TouchLayer}
 use Rattle.touch_layout.specs.declared.faults.LayoutFault.{LayoutFault}
 use Rattle.touch_layout.specs.Faults.{fault, whole_layout}
@@ -61,11 +62,9 @@ rules_found dictionary id rules =
     any_flat (same_name id) (λ (rule : Rule). recorded_name dictionary rule.key) rules
     ∙ any_same (λ (rule : Rule). list_any (same_name id) (recorded_name dictionary rule.key)) (is_record_of dictionary id) (λ rule. key_found dictionary id rule.key) rules
 
-recorded : (dictionary : List (List ℕ)) (groups : List Group) (id : List ℕ) → is_named (recorded_names dictionary groups) id ≡ has_record dictionary groups id
-unfolding is_named
+recorded : (dictionary : List (List ℕ)) (groups : List Group) (id : List ℕ) → list_any (same_name id) (recorded_names dictionary groups) ≡ has_record dictionary groups id
 recorded dictionary groups id =
-    some_place (same_name id) (recorded_names dictionary groups)
-    ∙ any_flat (same_name id) (λ (group : Group). rule_names dictionary group.rules) groups
+    any_flat (same_name id) (λ (group : Group). rule_names dictionary group.rules) groups
     ∙ any_same (λ (group : Group). list_any (same_name id) (rule_names dictionary group.rules)) (has_record_of dictionary id) (λ group. rules_found dictionary id group.rules) groups
 
 -- keys break the same rules
@@ -78,11 +77,11 @@ same_faults has ids layers finds [] = refl
 same_faults has ids layers finds (key ∷ keys) =
     λ j. option_or (Rattle.std.specs.Prelude.option_map (λ code. fault code key.place) (same_code has ids layers finds key j)) (same_faults has ids layers finds keys j)
 
-pub same_keys_fault : (dictionary : List (List ℕ)) (groups : List Group) (names : List (List ℕ)) (ids layers : List Layer) (keys : List Key) → names ≡ recorded_names dictionary groups → FindsSame ids layers
+pub same_keys_fault : (dictionary : List (List ℕ)) (groups : List Group) (names : List (List ℕ)) (ids layers : List Layer) (keys : List Key) → names ≡ with_marks [] (recorded_names dictionary groups) → FindsSame ids layers
     → keys_fault (is_named names) ids keys ≡ keys_fault (has_record dictionary groups) layers keys
 same_keys_fault dictionary groups names ids layers keys named finds =
     ap (λ ns. keys_fault (is_named ns) ids keys) named
-    ∙ (λ j. keys_fault (λ id. recorded dictionary groups id j) ids keys)
+    ∙ (λ j. keys_fault (λ id. (named_once (recorded_names dictionary groups) id ∙ recorded dictionary groups id) j) ids keys)
     ∙ same_faults (has_record dictionary groups) ids layers finds keys
 
 -- equal layers are found by the same keys

@@ -1,4 +1,5 @@
 pub mod FoundLayers
+pub mod RecordedNames
 mod Members
 mod Sentinels
 mod Values

@@ -1,7 +1,9 @@
 //! Which ids the records of a keyboard have as their key.
 
-ghost use Rattle.std.specs.Prelude.{◌≡◌, ◌++◌, IfOk, OnOk};
+ghost use Rattle.std.specs.Prelude.{◌≡◌, [], IfOk, OnOk};
+ghost use Rattle.virtual_keys.specs.Dictionary.{with_name};
 ghost use Rattle.rule_model.specs.Tab.{tab};
+ghost use Rattle.store_table.specs.Numbering.{with_marks};
 ghost use Rattle.touch_layout.specs.Ids.{recorded_name, recorded_names, rule_names};
 
 use kmn_base::{Memory, RuleKey};
@@ -9,26 +11,39 @@ use rule_model::{Group, IndexedTables, Rule};
 use std::alloc::Global;
 use store_table::NameTable;
 
+/// Adds a name where it is new.
+#[tactic(auto, unfolding(store_table::specs::Names::is_named))]
+fn add_new(names: &mut NameTable, name: &[u8]) -> Result<(), Memory>
+    ensures { OnOk result (names.new ≡ with_name names.old name.now) }
+{
+    if names.has(name) {
+        Ok(())
+    } else {
+        names.push(name)
+    }
+}
+
 /// Adds the name that the dictionary has for the key of a record.
 fn add_name(names: &mut NameTable, keyboard: &IndexedTables<'_>, key: RuleKey) -> Result<(), Memory>
-    ensures { OnOk result (names.new ≡ names.old ++ recorded_name (tab keyboard.now).dictionary key) }
+    ensures { OnOk result (names.new ≡ with_marks names.old (recorded_name (tab keyboard.now).dictionary key)) }
 {
     let RuleKey::Virtual { code, .. } = key else {
         return Ok(());
     };
     match keyboard.own_key(code) {
-        Some(name) => names.push(name),
+        Some(name) => add_new(names, name),
         None => Ok(()),
     }
 }
 
 /// Adds the names of the keys of records.
+#[tactic(auto, using(crate::proofs::RecordedNames::next_rule))]
 fn add_names(
     names: &mut NameTable,
     keyboard: &IndexedTables<'_>,
     rules: &[Rule],
 ) -> Result<(), Memory>
-    ensures { OnOk result (names.new ≡ names.old ++ rule_names (tab keyboard.now).dictionary rules.now) }
+    ensures { OnOk result (names.new ≡ with_marks names.old (rule_names (tab keyboard.now).dictionary rules.now)) }
 {
     for rule in rules {
         add_name(names, keyboard, rule.key)?;
@@ -36,13 +51,14 @@ fn add_names(
     Ok(())
 }
 
-/// The names of the keys of all records.
+/// The names of the keys of all records, each once.
+#[tactic(auto, using(crate::proofs::RecordedNames::next_group))]
 pub(crate) fn recorded_names(
     alloc: Global,
     keyboard: &IndexedTables<'_>,
     groups: &[Group],
 ) -> Result<NameTable, Memory>
-    ensures { IfOk result (λ names. names ≡ recorded_names (tab keyboard.now).dictionary groups.now) }
+    ensures { IfOk result (λ names. names ≡ with_marks [] (recorded_names (tab keyboard.now).dictionary groups.now)) }
 {
     let mut names = NameTable::new(alloc);
     for group in groups {
