@@ -1,9 +1,6 @@
 -- What the inputs that were read state.
-use Rattle.std.proofs.Common.{◌≡◌, ◌+◌, ℕ, true, IsTrue, List, [], ◌∷◌, ◌++◌, map, Option, Some, Result, Ok, Err, refl, sym, ap, ◌∙◌}
-use Rattle.std.specs.List.{AllByRecursion, list_all}
-use Rattle.kmn_base.specs.Answers.{Answers}
+use Rattle.std.proofs.Common.{◌≡◌, ◌+◌, ℕ, IsTrue, List, [], ◌∷◌, ◌++◌, map, Option, Some, Result, Ok, Err, refl, sym, ap, ◌∙◌}
 use Rattle.kmn_base.specs.declared.codes.Code.{Code}
-use Rattle.kmn_base.specs.declared.events.Event.TheVariants as event
 use Rattle.kmn_base.specs.declared.refusals.CompileError.{CompileError}
 use Rattle.kmn_base.specs.declared.refusals.CompileError.TheVariants as compile
 use Rattle.kmn_base.specs.declared.refusals.Refusal.{Refusal}
@@ -15,8 +12,10 @@ use Rattle.kmn_outside.specs.declared.traits.ReadError.TheVariants as read
 use Rattle.compile_laws.specs.Ordered.{compiled_tables}
 use Rattle.rule_model.specs.declared.program.Program.{Program}
 use Rattle.rule_model.specs.declared.script.Entry.{Entry}
-use Rattle.rule_model.specs.declared.script.Entry.TheVariants.{Act, Expect}
 use Rattle.rule_model.specs.declared.tables.Tables.{Tables}
+use Rattle.play_script.specs.Answers.{Answers}
+use Rattle.play_script.specs.declared.errors.ScriptError.{ScriptError}
+use Rattle.play_script.specs.declared.errors.ScriptError.TheVariants as script
 use Rattle.keyman_tool.specs.declared.preparing.Stop.{Stop}
 use Rattle.keyman_tool.specs.declared.preparing.Stop.TheVariants as stop
 use Rattle.keyman_tool.specs.declared.reason.Reason.{Reason}
@@ -24,14 +23,12 @@ use Rattle.keyman_tool.specs.declared.reason.Reason.TheVariants as reason
 use Rattle.keyman_tool.specs.Asked.{Ask, read_of, answered}
 use Rattle.keyman_tool.specs.Inputs.{by_line, unless_large, program_read, program_of, script_of}
 use Rattle.keyman_tool.specs.Run.{HasRead}
-use Rattle.keyman_tool.specs.ScriptLines.{IsPress, script_entries}
 use Rattle.keyman_tool.specs.Seen.{FolderView, FolderState, seen_folder}
-use Rattle.keyman_tool.specs.Steps.{StopCounts, GivesBy, Gives, read_stop, compile_stop, tables_in, entries_in, is_press, IsPressing}
+use Rattle.keyman_tool.specs.Steps.{StopCounts, GivesBy, Gives, read_stop, compile_stop, script_stop, tables_in, entries_in}
 use Rattle.keyman_tool.specs.Work.{Reading, Work, given, and_then, reads, comes_to}
 use Rattle.keyman_tool.specs.Work.Reading.{Bytes, Over}
 use Rattle.keyman_tool.specs.Work.Work.{Give, Read}
 use Rattle.keyman_tool.proofs.AskedLaws.{first_none, first_all}
-use Rattle.keyman_tool.proofs.ScriptLinesLaws.{all_presses, entries_within_limit}
 use Rattle.keyman_tool.proofs.WorkLaws.{reading_within, reading_over, reads_found, comes_found}
 
 -- the answer of the work behind a read, which reads no more
@@ -134,8 +131,8 @@ comes_entries : (files : Files) (read : Result (List Entry) Reason) → comes_to
 comes_entries files (Ok entries) = refl
 comes_entries files (Err why) = refl
 
-pub script_concludes : Concludes (λ reading. given (script_of reading)) script_of
-script_concludes = record { reads_none = λ files reading. no_entries files (script_of reading); comes = λ files reading. comes_entries files (script_of reading) }
+pub script_concludes : (dictionary : List (List ℕ)) → Concludes (λ reading. given (script_of dictionary reading)) (script_of dictionary)
+script_concludes dictionary = record { reads_none = λ files reading. no_entries files (script_of dictionary reading); comes = λ files reading. comes_entries files (script_of dictionary reading) }
 
 -- what a compilation states
 pub compiled_states : (read : Result Program Refusal) (compiled : Compiled) → CompilesTo read (Ok compiled) → StatesBy tables_in (tables_stated (program_read read)) (Ok compiled)
@@ -151,22 +148,6 @@ refused_states read (compile.TooLarge code size) h =
 refused_states read compile.Memory h = tt
 
 -- what a script states
-pub script_states : (read : Result (List Entry) Refusal) (error : CompileError) → Answers read (Err error) → StatesBy entries_in (by_line read) (Err (compile_stop error))
-script_states read (compile.Refused refusal) h = ap by_line h
-script_states read (compile.TooLarge code size) h = absurd h
-script_states read compile.Memory h = tt
-
-one_press : (entry : Entry) → IsPress entry → is_press entry ≡ true
-one_press (Act line (event.Key press)) is = refl
-one_press (Act line (event.Setting name value)) is = absurd is
-one_press (Act line (event.Caret place)) is = absurd is
-one_press (Act line (event.Edit from to text)) is = absurd is
-one_press (Expect line text) is = absurd is
-
-every_press : (entries : List Entry) → AllByRecursion IsPress entries → list_all is_press entries ≡ true
-every_press [] all = refl
-every_press (entry ∷ entries) all = rw (one_press entry all.0, every_press entries all.1) refl
-
--- the entries of a script only press keys
-pub script_presses : (script : List ℕ) (entries : List Entry) → script_entries script ≡ Ok entries → IsPressing entries
-script_presses script entries is = record { presses = every_press entries (all_presses script entries is); few = entries_within_limit script entries is }
+pub script_states : (read : Result (List Entry) Refusal) (error : ScriptError) → Answers read (Err error) → StatesBy entries_in (by_line read) (Err (script_stop error))
+script_states read (script.Refused refusal) h = ap by_line h
+script_states read script.Memory h = tt

@@ -1,12 +1,7 @@
 pub mod AskedLaws
-pub mod FormLaws
-pub mod Hexadecimal
 pub mod InputLaws
 pub mod MeaningLaws
 pub mod PlayingLaws
 pub mod PrintingLaws
 pub mod RunLaws
-pub mod ScriptLinesLaws
-pub mod ScriptWordsLaws
-pub mod TextLinesLaws
 pub mod WorkLaws

@@ -17,11 +17,17 @@ use Rattle.rule_model.specs.declared.tables.Tables.{Tables}
 use Rattle.kmx_format.specs.File.{file_of}
 use Rattle.compile_laws.specs.Means.{Means}
 use Rattle.compile_laws.specs.Ordered.{compiled_tables}
+use Rattle.compile_laws.proofs.Dictionary.{dictionary-same}
+use Rattle.compile_laws.proofs.Ordered.{program_compiles}
 use Rattle.rule_model.specs.Src.{src}
-use Rattle.rule_model.specs.Tab.{tab}
+use Rattle.rule_model.specs.Tab.{tab, tab_dictionary}
 use Rattle.rule_model.specs.Transcript.{events_of}
 use Rattle.kmn_compiler.specs.Source.{compiled_program}
-use Rattle.kmn_compiler.proofs.Accepted.{compiled_means, compiled_steps, compiled_prints}
+use Rattle.kmn_compiler.specs.declared.compiling.Compiled.{Compiled}
+use Rattle.kmx_format.specs.TablesOf.{tables_of}
+use Rattle.rule_model.specs.Keyboard.{Keyboard}
+use Rattle.keyman_tool.specs.Steps.{IsCompiled}
+use Rattle.kmn_compiler.proofs.Accepted.{accepted, accepted_named, compiled_means, compiled_steps, compiled_prints}
 use Rattle.keyman_tool.specs.declared.reason.Reason.{Reason}
 use Rattle.keyman_tool.specs.declared.status.Status.{Status}
 use Rattle.keyman_tool.specs.declared.status.Status.TheVariants as status
@@ -76,7 +82,7 @@ same_played : (name source : List ℕ) (program : Program) (entries : List Entry
     → test_ending name (compiled_tables program) (tab (compiled_tables program)) entries ≡ test_ending name (compiled_tables program) (src program) entries
 same_played name source program entries is = λ i.
     record {
-      status = play_status (sym (compiled_steps source program is (events_of entries)) i).refused;
+      status = play_status (sym (compiled_steps source program is (events_of entries)) i) entries;
       file = Some (name, file_of (compiled_tables program) []);
       printed = sym (compiled_prints source program is entries) i;
     }
@@ -95,6 +101,30 @@ reading_played : (name : List ℕ) (reading : Reading) (program : Program) (entr
 reading_played name (Bytes source) program entries is = read_played name source (compiled_program source) program entries refl is
 reading_played name (Over size) program entries is = absurd (cc)
 
+-- the tables of an accepted program have the key names of the program
+read_names : (source : List ℕ) (found program : Program) (passed : Option (Code × ℕ)) → compiled_program source ≡ Ok found → unless_large found passed ≡ Ok program
+    → (tab (compiled_tables program)).dictionary ≡ (src program).dictionary
+read_names source found program passed is same =
+    let e : compiled_program source ≡ Ok program = is ∙ ap Ok (large_program found passed program same) in
+    dictionary-same program (compiled_tables program) (accepted_named program (accepted source program e)) (program_compiles program)
+
+program_names : (source : List ℕ) (read : Result Program Refusal) (program : Program) → compiled_program source ≡ read → program_read read ≡ Ok program
+    → (tab (compiled_tables program)).dictionary ≡ (src program).dictionary
+program_names source (Err refusal) program is same = absurd (cc)
+program_names source (Ok found) program is same = read_names source found program (excess (compiled_tables found) []) is same
+
+reading_names : (reading : Reading) (program : Program) → program_of reading ≡ Ok program → (tab (compiled_tables program)).dictionary ≡ (src program).dictionary
+reading_names (Bytes source) program is = program_names source (compiled_program source) program refl is
+reading_names (Over size) program is = absurd (cc)
+
+-- tables without stores have no key names
+no_dictionary : (tables : Tables) → tables.stores ≡ [] → (tab tables).dictionary ≡ []
+unfolding tab tab_dictionary
+no_dictionary tables none = ap tab_dictionary none
+
+pub compiled_names : (compiled : Compiled) → IsCompiled compiled → (tab compiled.tables).dictionary ≡ []
+compiled_names compiled is = sym (ap (λ (kb : Keyboard). kb.dictionary) is.keyboard) ∙ no_dictionary (tables_of compiled.bytes) is.no_store
+
 -- work behind the tables of a source is work behind its program
 pub tables_behind : {A : Type 0} (source : List ℕ) (more : Tables → Work A) → and_then (tables_work source) more ≡ and_then (program_work source) (λ program. more (compiled_tables program))
 tables_behind source more = and_then_assoc (program_work source) (λ program. Give (compiled_tables program)) more
@@ -105,13 +135,13 @@ play_job file job = Give (test_ending file job.keyboard (tab job.keyboard) job.e
 -- what is played by the tables is what the meaning wants
 pub as_meant : (source file keys : List ℕ) → and_then (job_work source keys) (play_job file) ≡ test_work source file keys
 as_meant source file keys =
-    and_then_assoc (tables_work source) (λ tables. and_then (script_work keys) (λ entries. Give (record { keyboard = tables; entries = entries }))) (play_job file)
-    ∙ (λ i. and_then (tables_work source) (λ tables. and_then_assoc (script_work keys) (λ entries. Give (record { keyboard = tables; entries = entries })) (play_job file) i))
-    ∙ tables_behind source (λ tables. and_then (script_work keys) (λ entries. play_job file (record { keyboard = tables; entries = entries })))
+    and_then_assoc (tables_work source) (λ tables. and_then (script_work (tab tables).dictionary keys) (λ entries. Give (record { keyboard = tables; entries = entries }))) (play_job file)
+    ∙ (λ i. and_then (tables_work source) (λ tables. and_then_assoc (script_work (tab tables).dictionary keys) (λ entries. Give (record { keyboard = tables; entries = entries })) (play_job file) i))
+    ∙ tables_behind source (λ tables. and_then (script_work (tab tables).dictionary keys) (λ entries. play_job file (record { keyboard = tables; entries = entries })))
     ∙ (λ i. Read source TEXT_BYTES (λ reading. same_behind_given (program_of reading)
-    (λ program. and_then (script_work keys) (λ entries. play_job file (record { keyboard = compiled_tables program; entries = entries })))
-    (λ program. and_then (script_work keys) (λ entries. Give (test_ending file (compiled_tables program) (src program) entries)))
-    (λ program is j. and_then (script_work keys) (λ entries. Give (reading_played file reading program entries is j))) i))
+    (λ program. and_then (script_work (tab (compiled_tables program)).dictionary keys) (λ entries. play_job file (record { keyboard = compiled_tables program; entries = entries })))
+    (λ program. and_then (script_work (src program).dictionary keys) (λ entries. Give (test_ending file (compiled_tables program) (src program) entries)))
+    (λ program is j. and_then (script_work (reading_names reading program is j) keys) (λ entries. Give (reading_played file reading program entries is j))) i))
 
 pub does_as : {F S : Type 0} (work other : Work Ending) (folders : FolderView F) (folder after : F) (sinks : SinkView S) (out out_after : S) (how : Status)
     → work ≡ other → Does work folders folder after sinks out out_after how → Does other folders folder after sinks out out_after how
@@ -237,8 +267,8 @@ test_means source file keys folders folder after sinks out out_after how does to
     let work : Work Ending = test_work source file keys in
     let w : WrittenEnding (ends files work) (folders.files after) =
     written_ending (reads files work) (reads_none files work) (ends files work) (seen_folder folders folder) (seen_folder folders after) written (seen_sink sinks out) (seen_sink sinks out_after) how (does.leaves told) in
-    let c = came_from files (program_work source) (λ program. and_then (script_work keys) (λ entries. Give (test_ending file (compiled_tables program) (src program) entries))) w.ending (w.name, w.bytes) w.is w.file in
-    let d = came_from files (script_work keys) (λ entries. Give (test_ending file (compiled_tables c.value) (src c.value) entries)) w.ending (w.name, w.bytes) c.ends w.file in
+    let c = came_from files (program_work source) (λ program. and_then (script_work (src program).dictionary keys) (λ entries. Give (test_ending file (compiled_tables program) (src program) entries))) w.ending (w.name, w.bytes) w.is w.file in
+    let d = came_from files (script_work (src c.value).dictionary keys) (λ entries. Give (test_ending file (compiled_tables c.value) (src c.value) entries)) w.ending (w.name, w.bytes) c.ends w.file in
     let e : test_ending file (compiled_tables c.value) (src c.value) d.value ≡ w.ending = inside (test_ending file (compiled_tables c.value) (src c.value) d.value) w.ending d.ends in
     source_means files (folders.files after) source file c.value w.ending w.name w.bytes c.is (sym (ap (λ (x : Ending). x.file) e)) w.file w.stands
 

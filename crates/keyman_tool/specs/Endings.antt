@@ -1,12 +1,12 @@
 -- How work on files ends: with which status, which file it writes, and what it prints.
-use Rattle.std.specs.Prelude.{ℕ, List, [], ◌∷◌, ◌++◌, length, codes, Option, Some, None, option_map, Result, Ok, Err}
+use Rattle.std.specs.Prelude.{ℕ, zero, suc, List, [], ◌∷◌, ◌++◌, length, codes, Option, Some, None, option_map, Result, Ok, Err}
 use Rattle.std.specs.List.{concat}
 use Rattle.std.specs.Fmt.{decimal}
 use Rattle.kmn_base.specs.declared.codes.Code.{Code}
 use Rattle.kmn_outside.specs.Outside.{Files}
 use Rattle.kmx_format.specs.File.{file_of, all_rules}
 use Rattle.rule_model.specs.Keyboard.{Keyboard}
-use Rattle.rule_model.specs.Trace.{trace}
+use Rattle.rule_model.specs.Trace.{Trace, trace}
 use Rattle.rule_model.specs.Transcript.{events_of, transcript}
 use Rattle.rule_model.specs.declared.script.Entry.{Entry}
 use Rattle.rule_model.specs.declared.tables.Tables.{Tables}
@@ -14,6 +14,7 @@ use Rattle.keyman_tool.specs.declared.reason.Reason.{Reason}
 use Rattle.keyman_tool.specs.declared.status.Status.{Status}
 use Rattle.keyman_tool.specs.declared.status.Status.TheVariants as status
 use Rattle.keyman_tool.specs.Asked.{Ask, write_of}
+use Rattle.keyman_tool.specs.Failures.{failures}
 use Rattle.keyman_tool.specs.Reasons.{reason_line}
 use Rattle.keyman_tool.specs.Work.{Work, reads, comes_to}
 
@@ -44,10 +45,14 @@ compiled_line tables = concat (
 abbrev pub compile_ending : List ℕ → Tables → Ending
 compile_ending name tables = record { status = status.Done; file = Some (name, file_of tables []); printed = compiled_line tables }
 
--- a play ends well, or with the refusal of an event
-abbrev pub play_status : Option (ℕ × Code) → Status
-play_status None = status.Done
-play_status (Some refused) = status.Refused
+-- a play ends with the refusal of an event, or with expected texts that differed, or well
+abbrev pub ended_status : Option (ℕ × Code) → ℕ → Status
+ended_status (Some refused) failed = status.Refused
+ended_status None zero = status.Done
+ended_status None (suc failed) = status.ExpectFailed
+
+abbrev pub play_status : Trace → List Entry → Status
+play_status traced entries = ended_status traced.refused (failures traced entries)
 
 -- tables and the script to play on them
 pub record Job : Type 0 where
@@ -58,7 +63,7 @@ pub record Job : Type 0 where
 abbrev pub test_ending : List ℕ → Tables → Keyboard → List Entry → Ending
 test_ending name tables kb entries =
     record {
-      status = play_status (trace kb (events_of entries)).refused;
+      status = play_status (trace kb (events_of entries)) entries;
       file = Some (name, file_of tables []);
       printed = transcript kb entries;
     }

@@ -1,16 +1,16 @@
 -- What the inputs of a command state.
 use Rattle.std.specs.Prelude.{ℕ, List, [], Option, Some, None, Result, Ok, Err}
 use Rattle.kmn_base.specs.declared.codes.Code.{Code}
-use Rattle.kmn_base.specs.declared.codes.Code.TheVariants.{L05}
+use Rattle.kmn_base.specs.declared.codes.Code.TheVariants.{L05, P06}
 use Rattle.kmn_base.specs.declared.refusals.Refusal.{Refusal}
 use Rattle.rule_model.specs.declared.program.Program.{Program}
 use Rattle.rule_model.specs.declared.script.Entry.{Entry}
 use Rattle.compile_laws.specs.Ordered.{compiled_tables}
 use Rattle.kmx_writer.specs.Excess.{excess}
 use Rattle.kmn_compiler.specs.Source.{compiled_program}
+use Rattle.play_script.specs.Entries.{entries}
 use Rattle.keyman_tool.specs.declared.reason.Reason.{Reason}
 use Rattle.keyman_tool.specs.declared.reason.Reason.TheVariants as reason
-use Rattle.keyman_tool.specs.ScriptLines.{script_entries, outside_script}
 use Rattle.keyman_tool.specs.Work.{Reading}
 use Rattle.keyman_tool.specs.Work.Reading.{Bytes, Over}
 
@@ -34,7 +34,7 @@ abbrev pub program_of : Reading → Result Program Reason
 program_of (Bytes source) = program_read (compiled_program source)
 program_of (Over size) = Err (reason.Line (record { line = 1; code = L05 }))
 
--- the entries of a script, or its first line outside the form
-abbrev pub script_of : Reading → Result (List Entry) Reason
-script_of (Bytes script) = by_line (script_entries script)
-script_of (Over size) = Err (reason.Line (outside_script 1))
+-- the entries of a script for a keyboard with this dictionary of keys, or the first rule that the script breaks
+abbrev pub script_of : List (List ℕ) → Reading → Result (List Entry) Reason
+script_of dictionary (Bytes script) = by_line (entries dictionary script)
+script_of dictionary (Over size) = Err (reason.Line (record { line = 1; code = P06 }))

@@ -1,6 +1,5 @@
 -- What the steps of a run answer.
-use Rattle.std.specs.Prelude.{◌≡◌, IsTrue, ◌≤◌, ℕ, Bool, true, false, List, [], ◌++◌, length, Option, Some, Result, Ok, Err}
-use Rattle.std.specs.List.{list_all}
+use Rattle.std.specs.Prelude.{◌≡◌, IsTrue, ℕ, List, [], ◌++◌, Option, Some, Result, Ok, Err}
 use Rattle.kmn_base.specs.declared.refusals.CompileError.{CompileError}
 use Rattle.kmn_base.specs.declared.refusals.CompileError.TheVariants as compile
 use Rattle.kmn_base.specs.declared.codes.Code.{Code}
@@ -10,20 +9,19 @@ use Rattle.kmn_outside.specs.declared.traits.WriteError.TheVariants as write
 use Rattle.kmn_outside.specs.declared.traits.ReadError.{ReadError}
 use Rattle.kmn_outside.specs.declared.traits.ReadError.TheVariants as read
 use Rattle.rule_model.specs.declared.script.Entry.{Entry}
-use Rattle.rule_model.specs.declared.script.Entry.TheVariants.{Act, Expect}
 use Rattle.rule_model.specs.declared.tables.Tables.{Tables}
 use Rattle.kmx_format.specs.File.{file_of}
 use Rattle.rule_model.specs.Tab.{tab}
 use Rattle.kmx_format.specs.TablesOf.{tables_of}
 use Rattle.kmx_format.specs.Writable.{IsFile, IsWritable}
-use Rattle.play_session.specs.Session.{is_key}
+use Rattle.play_script.specs.declared.errors.ScriptError.{ScriptError}
+use Rattle.play_script.specs.declared.errors.ScriptError.TheVariants as script
 use Rattle.kmn_compiler.specs.declared.compiling.Compiled.{Compiled}
 use Rattle.keyman_tool.specs.declared.preparing.Prepared.{Prepared}
 use Rattle.keyman_tool.specs.declared.preparing.Stop.{Stop}
 use Rattle.keyman_tool.specs.declared.preparing.Stop.TheVariants as stop
 use Rattle.keyman_tool.specs.declared.reason.Reason.{Reason}
 use Rattle.keyman_tool.specs.declared.reason.Reason.TheVariants as reason
-use Rattle.keyman_tool.specs.declared.script_lines.TheConstants.{INPUT_BYTES}
 use Rattle.keyman_tool.specs.declared.status.Status.{Status}
 use Rattle.keyman_tool.specs.declared.status.Status.TheVariants as status
 use Rattle.keyman_tool.specs.Asked.{Ask}
@@ -34,11 +32,16 @@ use Rattle.keyman_tool.specs.Run.{HasRead, HasBegunToRead, HasFailedToRead}
 use Rattle.keyman_tool.specs.Seen.{FolderView, SinkView, FolderState, seen_folder}
 use Rattle.keyman_tool.specs.Work.{Work, reads, comes_to}
 
--- why a run stops where a source was not compiled, or a script not read
+-- why a run stops where a source was not compiled
 abbrev pub compile_stop : CompileError → Stop
 compile_stop (compile.Refused refusal) = stop.Refused (reason.Line refusal)
 compile_stop (compile.TooLarge code size) = stop.Refused (reason.Size code size)
 compile_stop compile.Memory = stop.Memory
+
+-- why a run stops where a script breaks a rule
+abbrev pub script_stop : ScriptError → Stop
+script_stop (script.Refused refusal) = stop.Refused (reason.Line refusal)
+script_stop script.Memory = stop.Memory
 
 -- why a run stops where an input wasn't read: a longer one is refused by its code at line 1
 abbrev pub read_stop : Code → ReadError → Stop
@@ -80,24 +83,9 @@ tables_in compiled = compiled.tables
 abbrev pub entries_in : List Entry → List Entry
 entries_in entries = entries
 
--- an entry of a script that presses a key
-abbrev pub is_press : Entry → Bool
-is_press (Act line event) = is_key event
-is_press (Expect line text) = false
-
--- a script that only presses keys, and not too often to be counted
-pub record IsPressing (entries : List Entry) : Type 0 where
-  pub presses : list_all is_press entries ≡ true
-  pub few : length entries ≤ INPUT_BYTES
-
 -- what is prepared, as a job
 abbrev pub prepared_job : Prepared → Job
 prepared_job prepared = record { keyboard = prepared.compiled.tables; entries = prepared.entries }
-
--- a file and a script that are ready to be played
-pub record IsPrepared (prepared : Prepared) : Type 0 where
-  pub compiled : IsCompiled prepared.compiled
-  pub script : IsPressing prepared.entries
 
 -- the count of faults of a sink that something is printed to before a run ends well with a status
 abbrev pub SinkCounts : Status → ℕ → ℕ → Status → Type 0

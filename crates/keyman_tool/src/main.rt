@@ -4,22 +4,19 @@
 //! each command as a value: which file is read first, how it goes on by what came, and how it ends. `specs/Run` says once
 //! what a run of such work asks for, leaves and answers (`Does`); each command's contract is its row, and `run` says the
 //! whole by name. `main` calls it over the real files and standard output. Two commands are built, `compile` and `test`, and
-//! one form of source and script.
+//! one form of source.
 #![tactic(auto)]
 
 mod command;
+mod lines;
 mod playing;
 mod preparing;
 mod printing;
 mod reason;
 mod run;
-mod script_lines;
-mod script_words;
 mod status;
 #[cfg(test)]
 mod tests;
-mod text_lines;
-mod transcript;
 mod words;
 
 use kmn_base::Memory;

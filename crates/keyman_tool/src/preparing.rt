@@ -1,15 +1,19 @@
-ghost use Rattle.std.specs.Prelude.{◌≡◌, IfOk};
+ghost use Rattle.std.specs.Prelude.{◌≡◌, [], IfOk};
 ghost use Rattle.keyman_tool.specs.Orders.{job_work, tables_work, script_work};
-ghost use Rattle.keyman_tool.specs.Steps.{Gives, IsCompiled, IsPressing, IsPrepared, tables_in, entries_in, prepared_job, compile_stop, read_stop};
+ghost use Rattle.keyman_tool.specs.Steps.{Gives, IsCompiled, tables_in, entries_in, prepared_job, compile_stop, script_stop, read_stop};
+ghost use Rattle.play_script.specs.Answers.{Answers};
+ghost use Rattle.play_script.specs.Entries.{entries};
+ghost use Rattle.rule_model.specs.Tab.{tab};
 
 use crate::reason::Reason;
-use crate::script_lines::{INPUT_BYTES, read_script};
 use kmn_base::limits::TEXT_BYTES;
 use kmn_base::{Code, CompileError, Refusal, Seq};
 use kmn_compiler::{Compiled, compile};
 use kmn_outside::{Folder, ReadError};
-use rule_model::Entry;
+use play_script::{ScriptError, read_script};
+use rule_model::{Entry, Tables};
 use std::alloc::Global;
+use virtual_keys::KeyDictionary;
 
 /// Why a run stops before it writes.
 #[derive(Clone, Copy, Debug, PartialEq, Eq)]
@@ -27,20 +31,21 @@ pub struct Prepared {
 }
 
 /// Reads and compiles the source, then reads the script.
+#[tactic(auto, using(crate::proofs::MeaningLaws::compiled_names))]
 pub fn prepare<F: Folder>(
     alloc: Global,
     source: &[u8],
     keys: &[u8],
     folder: &mut F,
 ) -> Result<Prepared, Stop>
-    ensures prepared { IfOk result IsPrepared }
+    ensures compiled { IfOk result (λ prepared. IsCompiled prepared.compiled) }
     ensures gives { Gives prepared_job (job_work source.now keys.now) F.Folder folder.old folder.new result }
 {
     let compiled = match read_and_compile(alloc, source, folder) {
         Ok(compiled) => compiled,
         Err(stop) => return Err(stop),
     };
-    match read_entries(alloc, keys, folder) {
+    match read_entries(alloc, keys, &compiled.tables, folder) {
         Ok(entries) => Ok(Prepared { compiled, entries }),
         Err(stop) => Err(stop),
     }
@@ -64,21 +69,35 @@ pub fn read_and_compile<F: Folder>(
     }
 }
 
-/// Reads the script of a name.
-fn read_entries<F: Folder>(alloc: Global, name: &[u8], folder: &mut F) -> Result<Seq<Entry>, Stop>
-    ensures presses { IfOk result IsPressing }
-    ensures gives { Gives entries_in (script_work name.now) F.Folder folder.old folder.new result }
+/// Reads the script of a name for the keyboard of tables.
+fn read_entries<F: Folder>(
+    alloc: Global,
+    keys: &[u8],
+    tables: &Tables,
+    folder: &mut F,
+) -> Result<Seq<Entry>, Stop>
+    requires { (tab tables.now).dictionary ≡ [] }
+    ensures { Gives entries_in (script_work (tab tables.now).dictionary keys.now) F.Folder folder.old folder.new result }
 {
-    match folder.read(alloc, name, INPUT_BYTES) {
-        Ok(script) => match read_script(alloc, script.as_slice()) {
+    match folder.read(alloc, keys, TEXT_BYTES) {
+        Ok(script) => match entries_of(alloc, script.as_slice(), tables) {
             Ok(entries) => Ok(entries),
-            Err(error) => Err(compile_stop(error)),
+            Err(error) => Err(script_stop(error)),
         },
-        Err(error) => Err(read_stop(error, Code::N02)),
+        Err(error) => Err(read_stop(error, Code::P06)),
     }
 }
 
-/// Why a run stops where a source was not compiled, or a script not read.
+/// The entries of a script for the keyboard of tables, which has no key names of its own so far.
+fn entries_of(alloc: Global, script: &[u8], tables: &Tables) -> Result<Seq<Entry>, ScriptError>
+    requires { (tab tables.now).dictionary ≡ [] }
+    ensures { Answers (entries (tab tables.now).dictionary script.now) result }
+{
+    let names = KeyDictionary::new(alloc);
+    read_script(alloc, script, &names)
+}
+
+/// Why a run stops where a source was not compiled.
 fn compile_stop(error: CompileError) -> Stop
     ensures { result ≡ compile_stop error }
 {
@@ -86,6 +105,16 @@ fn compile_stop(error: CompileError) -> Stop
         CompileError::Refused(refusal) => Stop::Refused(Reason::Line(refusal)),
         CompileError::TooLarge { code, size } => Stop::Refused(Reason::Size { code, size }),
         CompileError::Memory => Stop::Memory,
+    }
+}
+
+/// Why a run stops where a script breaks a rule.
+fn script_stop(error: ScriptError) -> Stop
+    ensures { result ≡ script_stop error }
+{
+    match error {
+        ScriptError::Refused(refusal) => Stop::Refused(Reason::Line(refusal)),
+        ScriptError::Memory => Stop::Memory,
     }
 }
 

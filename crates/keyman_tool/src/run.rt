@@ -10,15 +10,15 @@ ghost use Rattle.keyman_tool.specs.Orders.{compile_work, test_work, work_of};
 ghost use Rattle.keyman_tool.specs.Reasons.{reason_line};
 ghost use Rattle.keyman_tool.specs.Run.{Does, FaultCounts, FileMeans, Leaves};
 ghost use Rattle.keyman_tool.specs.Seen.{seen_folder, seen_sink};
-ghost use Rattle.keyman_tool.specs.Steps.{IsCompiled, IsPrepared, Tells, TellsStop, write_status};
+ghost use Rattle.keyman_tool.specs.Steps.{IsCompiled, Tells, TellsStop, write_status};
 
 use crate::command::{Command, command_of};
-use crate::playing::{PlayEnd, play};
+use crate::lines::{compiled_line, reason_line};
+use crate::playing::play;
 use crate::preparing::{Prepared, Stop, prepare, read_and_compile};
 use crate::printing::put_all;
 use crate::reason::Reason;
 use crate::status::Status;
-use crate::transcript::{compiled_line, reason_line};
 use kmn_base::{Memory, Text};
 use kmn_compiler::Compiled;
 use kmn_outside::{Folder, Sink, WriteError};
@@ -119,8 +119,8 @@ fn tell_compiled<S: Sink>(alloc: Global, compiled: &Compiled, out: &mut S) -> St
 /// Plays the script on the file that was written.
 #[tactic(auto, using(crate::proofs::PrintingLaws::none_begun))]
 fn play_file<S: Sink>(alloc: Global, prepared: &Prepared, out: &mut S) -> Status
-    requires { IsPrepared prepared.now }
-    ensures { Tells (play_status (trace (tab prepared.now.compiled.tables) (events_of prepared.now.entries)).refused)
+    requires { IsCompiled prepared.now.compiled }
+    ensures { Tells (play_status (trace (tab prepared.now.compiled.tables) (events_of prepared.now.entries)) prepared.now.entries)
         (transcript (tab prepared.now.compiled.tables) prepared.now.entries) S.Sink out.old out.new result }
 {
     let file = match adopt(alloc, prepared.compiled.bytes.as_slice()) {
@@ -128,8 +128,7 @@ fn play_file<S: Sink>(alloc: Global, prepared: &Prepared, out: &mut S) -> Status
         Err(Memory) => return Status::Memory,
     };
     match play(alloc, &file, prepared.entries.as_slice(), out) {
-        Ok(PlayEnd::Done) => Status::Done,
-        Ok(PlayEnd::Refused) => Status::Refused,
+        Ok(status) => status,
         Err(error) => write_status(error),
     }
 }

@@ -92,7 +92,42 @@ test a.kmn a.kmx a.keys
 @+ 'a' > 'b'~
 [K_A]~[K_QQ]~
 0 1 0
-refused N02 line 2~
+refused P03 line 2~
+test a.kmn a.kmx a.keys
+@+ 'a' > 'b'~
+[K_A]~expect \"c\"~
+0 6 122
+1 del=0 ins=0062 pass=0 beep=0 ent=1 ctx=0062~expect failed line=2~text 0062|-~end events=1 failed=1~
+test a.kmn a.kmx a.keys
+@+ 'a' > 'b'~
+expect \"\"~[K_A] [K_A]~caret 1~edit 1 2 'yz'~expect 'byz'~caret 3~option o '1'~
+0 0 122
+1 del=0 ins=0062 pass=0 beep=0 ent=1 ctx=0062~2 del=0 ins=0062 pass=0 beep=0 ent=1 ctx=0062.0062~3 del=0 ins=- pass=0 beep=0 ent=0 ctx=0062~4 del=0 ins=- pass=0 beep=0 ent=0 ctx=0062~5 del=0 ins=- pass=0 beep=0 ent=0 ctx=0062.0079.007A~6 del=0 ins=- pass=0 beep=0 ent=0 ctx=0062.0079.007A~text 0062.0079.007A|-~end events=6 failed=0~
+test a.kmn a.kmx a.keys
+@+ 'a' > 'b'~
+expect 'x'~caret 5~
+0 1 122
+expect failed line=1~refused E1 event 1~
+test a.kmn a.kmx a.keys
+@+ 'a' > 'b'~
+[K_A]~edit 1 0 'x'~
+0 1 122
+1 del=0 ins=0062 pass=0 beep=0 ent=1 ctx=0062~refused E1 event 2~
+test a.kmn a.kmx a.keys
+@+ 'a' > 'b'~
+[K_QQ]~
+0 1 0
+refused P03 line 1~
+test a.kmn a.kmx a.keys
+@+ 'a' > 'b'~
+caret 0 0
+0 1 0
+refused P08 line 1~
+test a.kmn a.kmx a.keys
+@+ 'a' > 'b'~
+edit 0 x \"a\"~
+0 1 0
+refused P05 line 1~
 test a.kmn
 @+ 'a' > 'b'~
 [K_A]
@@ -222,7 +257,7 @@ fn runs(rt: HostRuntime) -> Result<(), Fail> {
         assert_eq!(rt; written, size, "{line}: {source}");
         count = u32::saturating_add(count, 1);
     }
-    assert_eq!(rt; count, 23);
+    assert_eq!(rt; count, 30);
     Ok(())
 }
 
@@ -239,28 +274,45 @@ fn first_file(rt: HostRuntime) -> Result<(), Fail> {
     Ok(())
 }
 
-/// A text that grows by a thousand characters with each key: the key that finds too long a text is refused, after the lines
-/// of those before it.
-#[test]
-fn long_text(rt: HostRuntime) -> Result<(), Fail> {
-    let alloc = rt.alloc();
-    let mut source = written_out(alloc, "@+ 'a' > '")?;
-    for _ in 0..1_000 {
-        source.push('z')?;
-    }
-    source.push_str("'\n")?;
+/// Fails where a script of `count` such lines and a last one, on the keyboard of one rule, isn't refused at an event whose
+/// line is the last of `lines`.
+fn refused_after(
+    rt: &impl Abort,
+    alloc: Global,
+    line: &str,
+    count: usize,
+    last: &str,
+    lines: usize,
+) -> Result<(), Fail> {
+    let source = written_out(alloc, "@+ 'a' > 'b'~")?;
     let mut script = String::new(alloc);
-    for _ in 0..997 {
-        script.push_str("[K_A]\n")?;
+    for _ in 0..count {
+        script.push_str(line)?;
     }
+    script.push_str(last)?;
     let mut folder = folder(alloc, source.as_bytes(), script.as_bytes())?;
     let mut sink = MemorySink::new(alloc, Seq::new(alloc));
     let words = words(alloc, "test a.kmn a.kmx a.keys")?;
     let status = run(alloc, words.as_slice(), &mut folder, &mut sink);
     assert_eq!(rt; status, Status::Refused);
-    let lines = sink.written().iter().filter(|byte| **byte == b'\n').count();
-    assert_eq!(rt; lines, 997);
-    assert!(rt; sink.written().ends_with(b"\nrefused E2 event 997\n"));
+    let ends = sink.written().iter().filter(|byte| **byte == b'\n').count();
+    assert_eq!(rt; ends, lines);
+    let refusal = format!(in alloc; "refused E2 event {lines}\n")?;
+    assert!(rt; sink.written().ends_with(refusal.as_bytes()));
     assert!(rt; folder.file(b"a.kmx").is_some());
     Ok(())
+}
+
+/// A text that grows by 4,096 characters with each edit: the key that finds too long a text is refused, and the edit that
+/// would make one, after the lines of the events before it.
+#[test]
+fn long_texts(rt: HostRuntime) -> Result<(), Fail> {
+    let alloc = rt.alloc();
+    let mut edit = String::from_str(alloc, "edit 0 0 '")?;
+    for _ in 0..4_096 {
+        edit.push('x')?;
+    }
+    edit.push_str("'\n")?;
+    refused_after(&rt, alloc, edit.as_str(), 243, "[K_A]\n", 244)?;
+    refused_after(&rt, alloc, edit.as_str(), 245, "", 245)
 }

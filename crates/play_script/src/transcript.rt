@@ -106,7 +106,7 @@ pub fn text_line(alloc: Global, left: &[char], right: &[char]) -> Result<Text, M
 
 /// The last line: how many events there were, and how many expected texts differed.
 #[tactic(auto, unfolding(rule_model::specs::Lines::end_line))]
-pub fn end_line(alloc: Global, events: u32, failed: u32) -> Result<Text, Memory>
+pub fn end_line(alloc: Global, events: usize, failed: usize) -> Result<Text, Memory>
     ensures { IfOk result (λ line. line ≡ end_line events failed) }
 {
     Ok(text_of(format!(in alloc; "end events={events} failed={failed}\n")?))

@@ -1,8 +1,8 @@
-use Rattle.std.proofs.Common.{◌≡◌, ◌+◌, ◌∙◌, ap, refl, rules, arith}
-use Rattle.rule_model.specs.Act.{one_more}
+use Rattle.std.proofs.Common.{sym, refl, rules, arith}
 use Rattle.kmx_format.specs.TablesOf.{tables_of}
+use Rattle.play_session.proofs.Printing.{sessions_begin, sessions_go_on}
 use Rattle.keyman_tool.proofs.PrintingLaws.{none_begun}
-use Rattle.keyman_tool.proofs.PlayingLaws.{Begins, session_begins, HasGoneOn, gone_on, refused_prints, play_stops, play_ends, counts_on}
+use Rattle.keyman_tool.proofs.PlayingLaws.{Begins, session_begins, HasGoneOn, gone_on, refused_ends, refused_prints, play_stops, play_ends, ends_if, ends_so}
 use Rattle.keyman_tool.proofs.playing.play.Goals as goal
 
 pub returns-in-Err-clause-prints : goal.returns-in-Err-clause-prints
@@ -10,37 +10,46 @@ returns-in-Err-clause-prints g c = λ told. none_begun _ _
 
 pub loop-entry-init : goal.loop-entry-init
 loop-entry-init g c =
-    let h : Begins c.in-Ok.session (tables_of c.args.file.now) c.args.entries.now = session_begins c.in-Ok.session (tables_of c.args.file.now) c.args.entries.now c.in-Ok.ensures c.requires.no_store in
-    record { faults = refl; told = refl; counted = refl; number = h.number; names = h.names; ends = h.ends; printed = λ told. h.printed _ }
+    let h : Begins c.in-Ok.session (tables_of c.args.file.now) c.args.entries.now = session_begins sessions_begin c.in-Ok.session (tables_of c.args.file.now) c.args.entries.now c.in-Ok.ensures in
+    rw c.no_counts-counts.ensures (record { faults = refl; told = refl; session = h.options; number = h.number; events = omega arith; failed = omega arith; status = h.status; printed = λ told. h.printed _ })
+
+pub returns-in-Ok-Refused-clause-ends : goal.returns-in-Ok-Refused-clause-ends
+returns-in-Ok-Refused-clause-ends g c =
+    sym (refused_ends c.loop-entry.session c.loop-entry.counts c.args.entries.now c.loop-entry.entry-index c.entry-item.result c.entry-item.result (omega arith) c.entry-item.is sessions_go_on c.play_entry.new.session
+    c.loop-entry.invariant.session c.loop-entry.invariant.number (search rules) _ c.loop-entry.invariant.status)
 
 pub returns-in-Ok-Refused-clause-prints : goal.returns-in-Ok-Refused-clause-prints
 returns-in-Ok-Refused-clause-prints g c = λ told.
-    refused_prints c.loop-entry.session c.args.entries.now c.loop-entry.entry-index c.entry-item.result c.entry-item.result (omega arith) c.entry-item.is c.play_entry.new.session
-    (counts_on c.loop-entry.session.number c.loop-entry.done c.loop-entry.invariant.number (search rules)) c.loop-entry.invariant.names (search rules)
-    _ _ _ _ (c.loop-entry.invariant.printed told) (search rules)
+    refused_prints c.loop-entry.session c.loop-entry.counts c.args.entries.now c.loop-entry.entry-index c.entry-item.result c.entry-item.result (omega arith) c.entry-item.is sessions_go_on c.play_entry.new.session
+    c.loop-entry.invariant.session c.loop-entry.invariant.number (search rules) _ _ _ _ (c.loop-entry.invariant.printed told) (search rules)
 
 pub returns-in-Err-play_entry-clause-prints : goal.returns-in-Err-play_entry-clause-prints
 returns-in-Err-play_entry-clause-prints g c = λ told.
-    play_stops c.loop-entry.session c.args.entries.now c.loop-entry.entry-index c.entry-item.result c.entry-item.result (omega arith) c.entry-item.is
-    (counts_on c.loop-entry.session.number c.loop-entry.done c.loop-entry.invariant.number (search rules)) c.loop-entry.invariant.names
+    play_stops c.loop-entry.session c.loop-entry.counts c.args.entries.now c.loop-entry.entry-index c.entry-item.result c.entry-item.result (omega arith) c.entry-item.is
     _ _ _ _ (c.loop-entry.invariant.printed told) (c.in-Err-play_entry.ensures.prints (search rules))
+
+pub returns-clause-ends : goal.returns-clause-ends
+returns-clause-ends g c =
+    ends_if c.put_end.result _ _ c.put_end.ensures.status
+    (ends_so c.loop-entry.session c.loop-entry.counts c.args.entries.now c.loop-entry.entry-index _ (omega arith) c.loop-entry.invariant.status)
 
 pub returns-clause-prints : goal.returns-clause-prints
 returns-clause-prints g c = λ told.
-    play_ends c.loop-entry.session c.args.entries.now c.loop-entry.entry-index _ _ _ _ _ (omega arith)
+    play_ends c.loop-entry.session c.loop-entry.counts c.args.entries.now c.loop-entry.entry-index _ _ _ _ _ (omega arith)
     (c.loop-entry.invariant.printed told) (c.put_end.ensures.prints (search rules))
 
 pub loop-entry-preserved : goal.loop-entry-preserved
 loop-entry-preserved g c =
-    let counted : one_more c.loop-entry.session.number ≡ c.loop-entry.session.number + 1 = counts_on c.loop-entry.session.number c.loop-entry.done c.loop-entry.invariant.number (search rules) in
-    let h : HasGoneOn c.loop-entry.session c.args.entries.now c.loop-entry.entry-index c.entry-item.result c.entry-item.result (omega arith) c.entry-item.is c.play_entry.new.session =
-    gone_on c.loop-entry.session c.args.entries.now c.loop-entry.entry-index c.entry-item.result c.entry-item.result (omega arith) c.entry-item.is c.play_entry.new.session counted c.loop-entry.invariant.names (search rules) in
+    let h : HasGoneOn c.loop-entry.session c.loop-entry.counts c.args.entries.now c.loop-entry.entry-index c.entry-item.result c.entry-item.result (omega arith) c.entry-item.is c.play_entry.new.session c.in-Ok-On.next =
+    gone_on c.loop-entry.session c.loop-entry.counts c.args.entries.now c.loop-entry.entry-index c.entry-item.result c.entry-item.result (omega arith) c.entry-item.is sessions_go_on c.play_entry.new.session c.in-Ok-On.next
+    c.loop-entry.invariant.session c.loop-entry.invariant.number (search rules) in
     record {
       faults = search rules;
       told = search rules;
-      counted = search rules;
-      number = h.number ∙ ap (λ n. n + 1) c.loop-entry.invariant.number;
-      names = h.names;
-      ends = h.ends _ c.loop-entry.invariant.ends;
+      session = h.session;
+      number = h.number;
+      events = omega (arith, h.events, c.loop-entry.invariant.events);
+      failed = omega (arith, h.failed, c.loop-entry.invariant.failed);
+      status = h.status _ c.loop-entry.invariant.status;
       printed = λ told. h.printed _ _ _ _ (c.loop-entry.invariant.printed told) (search rules);
     }

@@ -1,9 +1,11 @@
-use Rattle.std.proofs.Common.{◌≡◌, [], drop, IsTrue}
+use Rattle.std.proofs.Common.{◌≡◌, ◌≤◌, drop, IsTrue}
 use Rattle.rule_model.specs.Tab.{tab}
 use Rattle.kmx_format.specs.TablesOf.{tables_of}
 use Rattle.rule_model.specs.Trace.{trace}
 use Rattle.rule_model.specs.Transcript.{events_of, transcript}
-use Rattle.keyman_tool.specs.Playing.{steps_left, lines_left}
+use Rattle.play_session.specs.Printed.{IsSession}
+use Rattle.keyman_tool.specs.Endings.{play_status}
+use Rattle.keyman_tool.specs.Playing.{lines_left, status_left}
 use Rattle.keyman_tool.specs.Printing.{AppendsBut}
 use Rattle.keyman_tool.proofs.playing.play.Given as goal
 
@@ -12,10 +14,11 @@ invariant-loop-entry g l =
     record {
       faults : g.S.Sink.faults l.out ≡ g.S.Sink.faults l.initial.out;
       told : g.S.Sink.told l.out ≡ g.S.Sink.told l.initial.out;
-      counted : l.done ≡ l.entry-index;
-      number : l.session.number ≡ l.done;
-      names : l.session.state.names ≡ [];
-      ends : (steps_left l.session (drop l.entry-index l.entries)).refused ≡ (trace (tab (tables_of l.file)) (events_of l.entries)).refused;
+      session : IsSession l.session;
+      number : l.session.number ≡ l.counts.number;
+      events : l.counts.events ≤ l.entry-index;
+      failed : l.counts.failed ≤ l.entry-index;
+      status : status_left l.session l.counts (drop l.entry-index l.entries) ≡ play_status (trace (tab (tables_of l.file)) (events_of l.entries)) l.entries;
       printed : IsTrue (g.S.Sink.told l.initial.out)
-          → AppendsBut (lines_left l.session (drop l.entry-index l.entries)) (g.S.Sink.written l.initial.out) (g.S.Sink.written l.out) (transcript (tab (tables_of l.file)) l.entries);
+          → AppendsBut (lines_left l.session l.counts (drop l.entry-index l.entries)) (g.S.Sink.written l.initial.out) (g.S.Sink.written l.out) (transcript (tab (tables_of l.file)) l.entries);
     }
