@@ -1,5 +1,5 @@
 -- What is found in tables of names and layers is what is found in their lists.
-use Rattle.std.proofs.Common.{◌≡◌, ℕ, ◌+◌, ◌<◌, Bool, true, false, not, List, [], ◌∷◌, ◌++◌, length, map, take, drop, get_or, Option, Some, None, refl, sym, ap, subst, ◌∙◌, arith, if◌then◌else◌}
+use Rattle.std.proofs.Common.{◌≡◌, ℕ, ◌+◌, ◌<◌, Bool, true, false, not, List, [], ◌∷◌, ◌++◌, length, map, take, drop, get_or, Option, Some, None, refl, sym, ap, ◌∙◌, arith, if◌then◌else◌}
 use Rattle.std.specs.Prelude.{◌||◌, ◌&&◌, nat_eq, nat_lt, flat_map, option_to_list, bytes_eq}
 use Rattle.std.specs.Option.{option_map_or, option_or}
 use Rattle.std.specs.List.{list_any}
@@ -11,7 +11,6 @@ use Rattle.std.proofs.lemmas.List.{drop_more, get_or_default, map-append}
 use Rattle.std.proofs.lemmas.List.Folds.{list_any-append}
 use Rattle.std.proofs.lemmas.Slice.Eq.{bytes_eq-Decides}
 use Rattle.indexmap.specs.IndexSet.{insert_key}
-use Rattle.kmn_base.specs.declared.codes.Code.{Code}
 use Rattle.kmn_base.specs.declared.codes.Code.TheVariants.{T3, T4, T5, T6}
 use Rattle.kmn_base.specs.declared.keys.RuleKey.{RuleKey}
 use Rattle.kmn_base.specs.declared.keys.RuleKey.TheVariants.{Any, Char, Virtual}
@@ -23,13 +22,12 @@ use Rattle.store_table.specs.Names.{is_named}
 use Rattle.store_table.specs.Numbering.{with_marks}
 use Rattle.touch_layout.proofs.RecordedNames.{named_once}
 use Rattle.touch_layout.specs.declared.layers.TouchLayer.{TouchLayer}
-use Rattle.touch_layout.specs.declared.faults.LayoutFault.{LayoutFault}
 use Rattle.touch_layout.specs.Faults.{fault, whole_layout}
 use Rattle.touch_layout.specs.Ids.{is_key_of, is_record_of, has_record_of, has_record, recorded_name, rule_names, recorded_names}
 use Rattle.touch_layout.specs.Keys.{Key}
 use Rattle.touch_layout.specs.Layers.{Layer, layer_view, layers_view}
 use Rattle.touch_layout.specs.LayerIds.{folded, is_equal_layer, FindsSame}
-use Rattle.touch_layout.specs.Layout.{is_next_layer, has_strange_id, leads_nowhere, does_nothing, key_code, keys_fault, is_same_layer, layers_fault}
+use Rattle.touch_layout.specs.Layout.{is_next_layer, has_strange_id, does_nothing, key_code, keys_fault, is_same_layer, layers_fault}
 
 or_false : (b : Bool) → (b || false) ≡ b
 or_false true = refl

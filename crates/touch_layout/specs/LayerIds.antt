@@ -1,5 +1,5 @@
 -- Layers as tables of ids have them, with what look-ups compare: the platform and the id.
-use Rattle.std.specs.Prelude.{◌≡◌, ℕ, Bool, ◌&&◌, nat_eq, List, map, Vec, bytes_eq}
+use Rattle.std.specs.Prelude.{◌≡◌, ℕ, Bool, ◌&&◌, nat_eq, List, bytes_eq}
 use Rattle.std.specs.Str.{str_to_ascii_lowercase}
 use Rattle.std.specs.List.{list_any}
 use Rattle.touch_layout.specs.Faults.{at_place}

@@ -1,5 +1,4 @@
-use Rattle.std.proofs.Common.{◌≡◌, ℕ, ◌+◌, ◌*◌, ◌<◌, codes, sym, arith}
-use Rattle.serde_json.specs.Data.{depth}
+use Rattle.std.proofs.Common.{codes, sym, arith}
 use Rattle.serde_json.specs.View.{view}
 use Rattle.touch_layout.proofs.Members.{get_depth, listed_depth}
 use Rattle.touch_layout.proofs.keys.+add_key.Goals as goal

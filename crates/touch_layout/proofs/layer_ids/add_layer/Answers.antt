@@ -1,4 +1,4 @@
-use Rattle.std.proofs.Common.{◌∙◌, ap, ℕ, List, Vec, Global, map, not, refl}
+use Rattle.std.proofs.Common.{◌∙◌, ap, ℕ, Vec, Global, map, not, refl}
 use Rattle.std.specs.Prelude.{◌&&◌, nat_eq, bytes_eq}
 use Rattle.std.specs.List.{list_any}
 use Rattle.touch_layout.specs.LayerIds.{is_equal_layer, layer_of}

@@ -1,4 +1,4 @@
-use Rattle.std.proofs.Common.{◌≡◌, ℕ, ◌+◌, drop}
+use Rattle.std.proofs.Common.{◌≡◌, ◌+◌, drop}
 use Rattle.serde_json.specs.View.{items_view}
 use Rattle.touch_layout.specs.Keys.{keys_view}
 use Rattle.touch_layout.specs.Layers.{layer_rows}
