@@ -1,8 +1,9 @@
-ghost use Rattle.std.specs.Prelude.{◌≡◌, ◌<◌, ◌≤◌, length, IfOk, IfErr, IsSome, Ok};
+ghost use Rattle.std.specs.Prelude.{◌≡◌, ◌≤◌, length, IfOk, IfErr, IsSome, Ok};
 ghost use Rattle.kmn_base.specs.declared.events.Event.TheVariants as event;
 ghost use Rattle.kmn_base.specs.declared.limits.TheConstants.{TEXT_CHARS};
 ghost use Rattle.kmn_base.specs.Lists.{characters, window};
 ghost use Rattle.kmx_format.specs.TablesOf.{tables_of};
+ghost use Rattle.rule_engine.specs.Engine.{first_engine};
 ghost use Rattle.rule_model.specs.Act.{one_more};
 ghost use Rattle.rule_model.specs.Event.{whole_text, event_refusal, event_of};
 ghost use Rattle.rule_model.specs.Tab.{tab};
@@ -93,9 +94,23 @@ impl<'a> Session<'a> {
     pub fn start(alloc: Global, file: &'a Verified<'a>) -> Result<Session<'a>, Memory>
         ensures { IfOk result (λ session. session ≡ first_session (tables_of file.now)) }
     {
-        let room = 2 * file.store_count() as usize;
+        let engine = Engine::start(alloc, file)?;
+        Session::with_engine(alloc, engine, file.store_count())
+    }
+
+    /// A session with an engine before its first press, whose tables have so many stores.
+    pub(crate) fn with_engine(
+        alloc: Global,
+        engine: Engine<'a>,
+        stores: u32,
+    ) -> Result<Session<'a>, Memory>
+        requires first { engine ≡ first_engine engine.tables }
+        requires stores { stores ≡ length engine.tables.stores }
+        ensures { IfOk result (λ session. session ≡ first_session engine.entry.tables) }
+    {
+        let room = 2 * stores as usize;
         Ok(Session {
-            engine: Engine::start(alloc, file)?,
+            engine,
             editor: Editor::new(alloc),
             number: 0,
             typed: true,
@@ -236,14 +251,14 @@ impl<'a> Session<'a> {
         self.changes.as_slice()
     }
 
-    /// The current or the saved value of a store. A store that is no option has its elements, and nothing is saved.
+    /// The current or the saved value of a store. A store that is no option has its elements, and nothing is saved; None
+    /// comes exactly for a saved value that there is none of.
     pub fn value(
         &self,
         alloc: Global,
         store: u32,
         saved: bool,
     ) -> Result<Option<Seq<Element>>, Memory>
-        requires { store < length self.now.tables.stores }
         ensures { IfOk result (λ value. value ≡ value_of self.now store saved) }
     {
         if !saved {
@@ -255,13 +270,14 @@ impl<'a> Session<'a> {
         }
     }
 
-    /// The name of a store, empty where the file has none.
+    /// The name of a store, empty where it has none or there is no such store.
     pub fn name(&self, alloc: Global, store: u32) -> Result<Text, Memory>
-        requires { store < length self.now.tables.stores }
         ensures { IfOk result (λ name. name ≡ name_of self.now.tables store) }
     {
-        let stores = self.engine.tables().stores.as_slice();
-        stores[store as usize].name.copy(alloc)
+        match self.engine.tables().stores.as_slice().get(store as usize) {
+            Some(store) => store.name.copy(alloc),
+            None => Ok(Seq::new(alloc)),
+        }
     }
 }
 

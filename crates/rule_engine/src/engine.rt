@@ -59,9 +59,9 @@ impl<'a> Engine<'a> {
         Engine::of_tables(alloc, file.tables())
     }
 
-    /// The engine of tables.
+    /// The engine of tables that a file could have.
     #[tactic(auto, using(crate::proofs::Engines::first_is_engine))]
-    pub(crate) fn of_tables(alloc: Global, tables: &'a Tables) -> Result<Engine<'a>, Memory>
+    pub fn of_tables(alloc: Global, tables: &'a Tables) -> Result<Engine<'a>, Memory>
         ensures { IfOk result (λ engine. engine ≡ first_engine tables.now) }
     {
         let indexed = IndexedTables::new(alloc, tables)?;
