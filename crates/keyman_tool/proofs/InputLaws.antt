@@ -1,19 +1,19 @@
 -- What the inputs that were read state.
-use Rattle.std.proofs.Common.{◌≡◌, ◌+◌, ℕ, IsTrue, List, [], ◌∷◌, ◌++◌, map, Option, Some, Result, Ok, Err, refl, sym, ap, ◌∙◌}
-use Rattle.kmn_base.specs.declared.codes.Code.{Code}
+use Rattle.std.proofs.Common.{◌≡◌, ◌+◌, ℕ, true, IsTrue, List, [], ◌∷◌, ◌++◌, map, Option, Some, Result, Ok, Err, refl, sym, ap, ◌∙◌, subst}
+use Rattle.kmn_base.specs.Answers.{Answers}
 use Rattle.kmn_base.specs.declared.refusals.CompileError.{CompileError}
 use Rattle.kmn_base.specs.declared.refusals.CompileError.TheVariants as compile
 use Rattle.kmn_base.specs.declared.refusals.Refusal.{Refusal}
 use Rattle.kmn_compiler.specs.declared.compiling.Compiled.{Compiled}
+use Rattle.kmn_compiler.specs.Picture.{picture_name}
 use Rattle.kmn_compiler.specs.Source.{CompilesTo}
 use Rattle.kmn_outside.specs.Outside.{Files, ReadCounts, Reads}
 use Rattle.kmn_outside.specs.declared.traits.ReadError.{ReadError}
 use Rattle.kmn_outside.specs.declared.traits.ReadError.TheVariants as read
-use Rattle.compile_laws.specs.Ordered.{compiled_tables}
+use Rattle.kmx_format.specs.File.{file_of}
 use Rattle.rule_model.specs.declared.program.Program.{Program}
-use Rattle.rule_model.specs.declared.script.Entry.{Entry}
 use Rattle.rule_model.specs.declared.tables.Tables.{Tables}
-use Rattle.play_script.specs.Answers.{Answers}
+use Rattle.play_script.specs.Answers.{Answers as ScriptAnswers}
 use Rattle.play_script.specs.declared.errors.ScriptError.{ScriptError}
 use Rattle.play_script.specs.declared.errors.ScriptError.TheVariants as script
 use Rattle.keyman_tool.specs.declared.preparing.Stop.{Stop}
@@ -21,15 +21,17 @@ use Rattle.keyman_tool.specs.declared.preparing.Stop.TheVariants as stop
 use Rattle.keyman_tool.specs.declared.reason.Reason.{Reason}
 use Rattle.keyman_tool.specs.declared.reason.Reason.TheVariants as reason
 use Rattle.keyman_tool.specs.Asked.{Ask, read_of, answered}
-use Rattle.keyman_tool.specs.Inputs.{by_line, unless_large, program_read, program_of, script_of}
+use Rattle.keyman_tool.specs.Inputs.{by_line, file_from, pictured_within, unless_large}
+use Rattle.keyman_tool.specs.Orders.{file_work, picture_work}
 use Rattle.keyman_tool.specs.Run.{HasRead}
 use Rattle.keyman_tool.specs.Seen.{FolderView, FolderState, seen_folder}
-use Rattle.keyman_tool.specs.Steps.{StopCounts, GivesBy, Gives, read_stop, compile_stop, script_stop, tables_in, entries_in}
+use Rattle.keyman_tool.specs.Steps.{StopCounts, GivesBy, Gives, IsCompiled, read_stop, compile_stop, script_stop, itself}
 use Rattle.keyman_tool.specs.Work.{Reading, Work, given, and_then, reads, comes_to}
 use Rattle.keyman_tool.specs.Work.Reading.{Bytes, Over}
-use Rattle.keyman_tool.specs.Work.Work.{Give, Read}
+use Rattle.keyman_tool.specs.Work.Work.{Give, Refuse, Read}
 use Rattle.keyman_tool.proofs.AskedLaws.{first_none, first_all}
-use Rattle.keyman_tool.proofs.WorkLaws.{reading_within, reading_over, reads_found, comes_found}
+use Rattle.keyman_tool.proofs.RunLaws.{gives_value, gives_refused, gives_no_memory}
+use Rattle.keyman_tool.proofs.WorkLaws.{reading_within, reading_over, reads_found, comes_found, comes_given, and_then_assoc}
 
 -- the answer of the work behind a read, which reads no more
 abbrev pub StatesBy : {A B : Type 0} → (A → B) → Result B Reason → Result A Stop → Type 0
@@ -77,17 +79,17 @@ gives_answered seen name limit next stated folders folder after bytes result con
 }
 
 -- a file that wasn't
-pub gives_unread : {F A B : Type 0} (seen : A → B) (name : List ℕ) (limit : ℕ) (next : Reading → Work B) (stated : Reading → Result B Reason) (code : Code) (folders : FolderView F) (folder after : F) (error : ReadError)
-    → Concludes next stated → ((size : ℕ) → stated (Over size) ≡ Err (reason.Line (record { line = 1; code = code })))
+pub gives_unread : {F A B : Type 0} (seen : A → B) (name : List ℕ) (limit : ℕ) (next : Reading → Work B) (stated : Reading → Result B Reason) (long : Reason) (folders : FolderView F) (folder after : F) (error : ReadError)
+    → Concludes next stated → stated (Over (limit + 1)) ≡ Err long
     → ReadCounts (folders.faults folder) (folders.faults after) (Err error) → folders.told after ≡ folders.told folder
     → (IsTrue (folders.told folder) → Reads (folders.files folder) (folders.files after) (folders.calls folder) (folders.calls after) name limit (Err error))
-    → Gives {A = A} seen (Read name limit next) folders folder after (Err (read_stop code error))
-gives_unread seen name limit next stated code folders folder after read.Failed concludes over counts told answers = record {
+    → Gives {A = A} seen (Read name limit next) folders folder after (Err (read_stop long error))
+gives_unread seen name limit next stated long folders folder after read.Failed concludes over counts told answers = record {
   counts = counts;
   told = told;
   gives = λ told_folder. let h = answers told_folder in record { asked = record { front = []; name = name; rest = _; parts = refl; made = h.1 }; files = h.0 };
 }
-gives_unread seen name limit next stated code folders folder after (read.Over size) concludes over counts told answers = record {
+gives_unread seen name limit next stated long folders folder after (read.Over size) concludes over counts told answers = record {
   counts = counts;
   told = told;
   gives = λ told_folder.
@@ -97,57 +99,69 @@ gives_unread seen name limit next stated code folders folder after (read.Over si
       let at = reading_over limit bytes h.1.0.2 in
       let asked : reads files (Read name limit next) ≡ read_of name ∷ [] =
       reads_found files name limit next bytes h.1.0.1 (Over (limit + 1)) at ∙ ap (λ asks. read_of name ∷ asks) (concludes.reads_none files (Over (limit + 1))) in (
-        comes_found files name limit next bytes h.1.0.1 (Over (limit + 1)) at ∙ concludes.comes files (Over (limit + 1)) ∙ ap Some (over (limit + 1)),
+        comes_found files name limit next bytes h.1.0.1 (Over (limit + 1)) at ∙ concludes.comes files (Over (limit + 1)) ∙ ap Some over,
         record { asked = h.1.2 ∙ ap (λ asks. folders.calls folder ++ map answered asks) (sym asked); files = h.0 },
       );
 }
-gives_unread seen name limit next stated code folders folder after read.Memory concludes over counts told answers = record {
+gives_unread seen name limit next stated long folders folder after read.Memory concludes over counts told answers = record {
   counts = counts;
   told = told;
   gives = λ told_folder. let h = answers told_folder in record { asked = first_none (reads (folders.files folder) (Read name limit next)) (folders.calls folder) (folders.calls after) h.1; files = h.0 };
 }
 
--- the tables of a program that was read
-abbrev pub tables_stated : Result Program Reason → Result Tables Reason
-tables_stated (Ok program) = Ok (compiled_tables program)
-tables_stated (Err why) = Err why
+none_read : {B : Type 0} (files : Files) (read : Result B Reason) → reads files (given read) ≡ []
+none_read files (Ok value) = refl
+none_read files (Err why) = refl
 
-no_reads : (files : Files) (read : Result Program Reason) → reads files (and_then (given read) (λ program. Give (compiled_tables program))) ≡ []
-no_reads files (Ok program) = refl
-no_reads files (Err why) = refl
+-- work that states something of a reading, and reads no more
+pub given_concludes : {B : Type 0} (stated : Reading → Result B Reason) → Concludes (λ reading. given (stated reading)) stated
+given_concludes stated = record { reads_none = λ files reading. none_read files (stated reading); comes = λ files reading. comes_given files (stated reading) }
 
-comes_tables : (files : Files) (read : Result Program Reason) → comes_to files (and_then (given read) (λ program. Give (compiled_tables program))) ≡ Some (tables_stated read)
-comes_tables files (Ok program) = refl
-comes_tables files (Err why) = refl
+-- what lines state that were read
+pub value_stated : {A : Type 0} (read : Result A Refusal) (value : A) → read ≡ Ok value → StatesBy itself (by_line read) (Ok value)
+value_stated read value is = ap by_line is
 
-pub tables_conclude : Concludes (λ reading. and_then (given (program_of reading)) (λ program. Give (compiled_tables program))) (λ reading. tables_stated (program_of reading))
-tables_conclude = record { reads_none = λ files reading. no_reads files (program_of reading); comes = λ files reading. comes_tables files (program_of reading) }
+pub error_stated : {A : Type 0} (read : Result A Refusal) (error : CompileError) → Answers read (Err error) → StatesBy {A = A} itself (by_line read) (Err (compile_stop error))
+error_stated read (compile.Refused refusal) h = ap by_line h
+error_stated read (compile.TooLarge code size) h = absurd h
+error_stated read compile.Memory h = tt
 
-no_entries : (files : Files) (read : Result (List Entry) Reason) → reads files (given read) ≡ []
-no_entries files (Ok entries) = refl
-no_entries files (Err why) = refl
+-- what a script states that breaks a rule
+pub broken_stated : {A : Type 0} (read : Result A Refusal) (error : ScriptError) → ScriptAnswers read (Err error) → StatesBy {A = A} itself (by_line read) (Err (script_stop error))
+broken_stated read (script.Refused refusal) h = ap by_line h
+broken_stated read script.Memory h = tt
 
-comes_entries : (files : Files) (read : Result (List Entry) Reason) → comes_to files (given read) ≡ Some read
-comes_entries files (Ok entries) = refl
-comes_entries files (Err why) = refl
+-- the work behind a program and its picture
+abbrev pub compile_behind : Program → List ℕ → Work Compiled
+compile_behind program picture = and_then (given (pictured_within program picture)) (λ pictured. Give (file_from pictured))
 
-pub script_concludes : (dictionary : List (List ℕ)) → Concludes (λ reading. given (script_of dictionary reading)) (script_of dictionary)
-script_concludes dictionary = record { reads_none = λ files reading. no_entries files (script_of dictionary reading); comes = λ files reading. comes_entries files (script_of dictionary reading) }
+-- compiling a source's program in steps
+pub file_in_steps : (source : List ℕ) (program : Program) → file_work source program ≡ and_then (picture_work source (picture_name program)) (compile_behind program)
+file_in_steps source program = and_then_assoc (picture_work source (picture_name program)) (λ picture. given (pictured_within program picture)) (λ pictured. Give (file_from pictured))
 
 -- what a compilation states
-pub compiled_states : (read : Result Program Refusal) (compiled : Compiled) → CompilesTo read (Ok compiled) → StatesBy tables_in (tables_stated (program_read read)) (Ok compiled)
-compiled_states read compiled h =
-    let within : program_read (Ok h.0) ≡ Ok h.0 = ap (unless_large h.0) h.2.within in
-    ap (λ r. tables_stated (program_read r)) h.1 ∙ ap tables_stated within ∙ ap Ok (sym h.2.tables)
+pub compiled_gives : {F : Type 0} (program : Program) (picture : List ℕ) (folders : FolderView F) (folder : F) (compiled : Compiled) → CompilesTo (Ok program) picture (Ok compiled)
+    → Gives itself (compile_behind program picture) folders folder folder (Ok compiled)
+compiled_gives {F} program picture folders folder compiled h =
+    let same : h.0 ≡ program = cc in
+    let within : pictured_within h.0 picture ≡ Ok (record { program = h.0; picture = picture }) = ap (unless_large (record { program = h.0; picture = picture })) h.2.within in
+    let file : compiled ≡ file_from (record { program = h.0; picture = picture }) =
+    λ i. record { bytes = (h.2.bytes ∙ ap (λ (t : Tables). file_of t picture) h.2.tables) i; tables = h.2.tables i } in
+    let work : compile_behind program picture ≡ Give compiled =
+    ap (λ (p : Program). compile_behind p picture) (sym same) ∙ ap (λ read. and_then (given read) (λ pictured. Give (file_from pictured))) within ∙ ap Give (sym file) in
+    subst (λ (w : Work Compiled). Gives itself w folders folder folder (Ok compiled)) (sym work) (gives_value itself folders folder compiled)
 
-pub refused_states : (read : Result Program Refusal) (error : CompileError) → CompilesTo read (Err error) → StatesBy tables_in (tables_stated (program_read read)) (Err (compile_stop error))
-refused_states read (compile.Refused refusal) h = ap (λ r. tables_stated (program_read r)) h
-refused_states read (compile.TooLarge code size) h =
-    let large : program_read (Ok h.0) ≡ Err (reason.Size code size) = ap (unless_large h.0) h.2 in
-    ap (λ r. tables_stated (program_read r)) h.1 ∙ ap tables_stated large
-refused_states read compile.Memory h = tt
+pub uncompiled_gives : {F : Type 0} (program : Program) (picture : List ℕ) (folders : FolderView F) (folder : F) (error : CompileError) → CompilesTo (Ok program) picture (Err error)
+    → Gives {A = Compiled} itself (compile_behind program picture) folders folder folder (Err (compile_stop error))
+uncompiled_gives program picture folders folder (compile.Refused refusal) h = absurd (cc)
+uncompiled_gives {F} program picture folders folder (compile.TooLarge code size) h =
+    let same : h.0 ≡ program = cc in
+    let large : pictured_within h.0 picture ≡ Err (reason.Size code size) = ap (unless_large (record { program = h.0; picture = picture })) h.2 in
+    let work : compile_behind program picture ≡ Refuse (reason.Size code size) =
+    ap (λ (p : Program). compile_behind p picture) (sym same) ∙ ap (λ read. and_then (given read) (λ pictured. Give (file_from pictured))) large in
+    subst (λ (w : Work Compiled). Gives {A = Compiled} itself w folders folder folder (Err (stop.Refused (reason.Size code size)))) (sym work) (gives_refused itself folders folder (reason.Size code size))
+uncompiled_gives program picture folders folder compile.Memory h = gives_no_memory itself (compile_behind program picture) folders folder
 
--- what a script states
-pub script_states : (read : Result (List Entry) Refusal) (error : ScriptError) → Answers read (Err error) → StatesBy entries_in (by_line read) (Err (script_stop error))
-script_states read (script.Refused refusal) h = ap by_line h
-script_states read script.Memory h = tt
+-- the file of a program whose keyboard is that of its tables
+pub is_compiled : (program : Program) (picture : List ℕ) (compiled : Compiled) → CompilesTo (Ok program) picture (Ok compiled) → IsCompiled compiled
+is_compiled program picture compiled h = record { writable = h.2.writable; file = h.2.file; keyboard = h.2.keyboard }

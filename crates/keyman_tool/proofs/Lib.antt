@@ -1,4 +1,5 @@
 pub mod AskedLaws
+pub mod BesideLaws
 pub mod InputLaws
 pub mod MeaningLaws
 pub mod PlayingLaws

@@ -3,31 +3,28 @@ use Rattle.std.proofs.Common.{◌≡◌, ◌⊎◌, inl, inr, ℕ, Bool, true, f
 use Rattle.std.specs.Prelude.{option_map, option_and_then, IsSomeAnd}
 use Rattle.std.specs.List.{list_any}
 use Rattle.std.specs.Option.{option_map_or}
-use Rattle.std.proofs.lemmas.List.{append_cancel_left, map-append}
+use Rattle.std.proofs.lemmas.List.{append_cancel_left, map-append, take_all}
 use Rattle.std.proofs.lemmas.List.Folds.{list_any-append}
 use Rattle.kmn_base.specs.declared.codes.Code.{Code}
-use Rattle.kmn_base.specs.declared.limits.TheConstants.{TEXT_BYTES}
 use Rattle.kmn_base.specs.declared.refusals.Refusal.{Refusal}
 use Rattle.kmn_outside.specs.Outside.{Files, Rose}
 use Rattle.kmn_outside.specs.declared.traits.Call.{Call}
 use Rattle.kmx_writer.specs.Excess.{excess}
 use Rattle.rule_model.specs.declared.program.Program.{Program}
 use Rattle.rule_model.specs.declared.script.Entry.{Entry}
-use Rattle.rule_model.specs.declared.tables.Tables.{Tables}
-use Rattle.kmx_format.specs.File.{file_of}
 use Rattle.compile_laws.specs.Means.{Means}
 use Rattle.compile_laws.specs.Ordered.{compiled_tables}
-use Rattle.compile_laws.proofs.Dictionary.{dictionary-same}
-use Rattle.compile_laws.proofs.Ordered.{program_compiles}
 use Rattle.rule_model.specs.Src.{src}
-use Rattle.rule_model.specs.Tab.{tab, tab_dictionary}
+use Rattle.rule_model.specs.Tab.{tab}
 use Rattle.rule_model.specs.Transcript.{events_of}
-use Rattle.kmn_compiler.specs.Source.{compiled_program}
+use Rattle.kmn_base.specs.declared.limits.TheConstants.{KEY_NAMES}
+use Rattle.rule_model.specs.Naming.{names_of}
+use Rattle.store_table.specs.Numbering.{lists_of}
+use Rattle.rule_checker.specs.Refused.{IsRead, checked, refused}
+use Rattle.rule_expand.proofs.AcceptedTables.{has_tables}
+use Rattle.kmn_compiler.specs.Picture.{picture_name}
 use Rattle.kmn_compiler.specs.declared.compiling.Compiled.{Compiled}
-use Rattle.kmx_format.specs.TablesOf.{tables_of}
-use Rattle.rule_model.specs.Keyboard.{Keyboard}
-use Rattle.keyman_tool.specs.Steps.{IsCompiled}
-use Rattle.kmn_compiler.proofs.Accepted.{accepted, accepted_named, compiled_means, compiled_steps, compiled_prints}
+use Rattle.kmn_compiler.proofs.Checks.{checked_means, checked_steps, checked_prints}
 use Rattle.keyman_tool.specs.declared.reason.Reason.{Reason}
 use Rattle.keyman_tool.specs.declared.status.Status.{Status}
 use Rattle.keyman_tool.specs.declared.status.Status.TheVariants as status
@@ -35,113 +32,131 @@ use Rattle.keyman_tool.specs.Asked.{Ask, write_of, answered, failed, AsksAll, As
 use Rattle.keyman_tool.specs.Command.{Request}
 use Rattle.keyman_tool.specs.Command.Request.{Compile, Test}
 use Rattle.keyman_tool.specs.Endings.{Ending, Job, asked, conclusion, refused_ending, compile_ending, test_ending, play_status, ends, file_asks, writes}
-use Rattle.keyman_tool.specs.Inputs.{unless_large, program_read, program_of}
-use Rattle.keyman_tool.specs.Orders.{program_work, tables_work, script_work, job_work, compile_work, test_work, work_of}
+use Rattle.keyman_tool.specs.Inputs.{Pictured, by_line, file_from, picture_of, pictured_within, program_of, unless_large}
+use Rattle.keyman_tool.specs.Orders.{source_work, picture_work, pictured_work, program_work, file_work, compiled_work, script_work, job_work, compile_work, test_work, work_of}
 use Rattle.keyman_tool.specs.Run.{Written, HasWorked, HasFailedToWrite, LeavesBy, Does, SourceMeans, FileMeans}
 use Rattle.keyman_tool.specs.Seen.{FolderView, SinkView, FolderState, SinkState, seen_folder, seen_sink}
 use Rattle.keyman_tool.specs.Work.{Reading, Work, given, and_then, reading_of, reads, comes_to}
 use Rattle.keyman_tool.specs.Work.Reading.{Bytes, Over}
 use Rattle.keyman_tool.specs.Work.Work.{Give, Refuse, Read}
 use Rattle.keyman_tool.proofs.AskedLaws.{first_front, until_front, first_all}
-use Rattle.keyman_tool.proofs.WorkLaws.{comes_behind, comes_and_then, and_then_assoc, comes_given, same_behind_given}
+use Rattle.keyman_tool.proofs.WorkLaws.{AllGive, all_given, all_behind_all, same_behind_all, comes_to_all, comes_behind, comes_and_then, and_then_assoc}
 
--- a program that is read is one that the source has, and its file is not too large
-large_program : (found : Program) (passed : Option (Code × ℕ)) (program : Program) → unless_large found passed ≡ Ok program → found ≡ program
-large_program found None program is = cc
-large_program found (Some more) program is = cc
+-- a program that a source is accepted with, and a picture with which its file keeps the limits
+pub record IsCompilable (pictured : Pictured) : Type 0 where
+  pub source : List ℕ
+  pub is : checked source ≡ Ok pictured.program
+  pub within : excess (compiled_tables pictured.program) pictured.picture ≡ None
 
--- the file of a program that can be compiled means the program
-sized_means : (source : List ℕ) (found program : Program) (passed : Option (Code × ℕ)) → compiled_program source ≡ Ok found → excess (compiled_tables found) [] ≡ passed
-    → unless_large found passed ≡ Ok program → Means (file_of (compiled_tables program) []) program
-sized_means source found program None is within same =
+-- a program that a source is accepted with
+abbrev pub IsChecked : Program → Type 0
+IsChecked program = (source : List ℕ) × (checked source ≡ Ok program)
+
+line_read : (source : List ℕ) (read : Result Program Refusal) (program : Program) → checked source ≡ read → by_line read ≡ Ok program → IsChecked program
+line_read source (Ok found) program is same =
     let e : found ≡ program = cc in
-    subst (λ (p : Program). Means (file_of (compiled_tables p) []) p) e (compiled_means source found is within)
-sized_means source found program (Some more) is within same = absurd (cc)
+    (source, is ∙ ap Ok e)
+line_read source (Err refusal) program is same = absurd (cc)
 
-read_means : (source : List ℕ) (read : Result Program Refusal) (program : Program) → compiled_program source ≡ read → program_read read ≡ Ok program → Means (file_of (compiled_tables program) []) program
-read_means source (Err refusal) program is same = absurd (cc)
-read_means source (Ok found) program is same = sized_means source found program (excess (compiled_tables found) []) is refl same
+reading_checked : (reading : Reading) (program : Program) → program_of reading ≡ Ok program → IsChecked program
+reading_checked (Bytes source) program is = line_read source (checked source) program refl is
+reading_checked (Over size) program is = absurd (cc)
 
-reading_means : (reading : Reading) (program : Program) → program_of reading ≡ Ok program → Means (file_of (compiled_tables program) []) program
-reading_means (Bytes source) program is = read_means source (compiled_program source) program refl is
-reading_means (Over size) program is = absurd (cc)
+all_checked : (source : List ℕ) → AllGive IsChecked (source_work source)
+all_checked source = λ reading. all_given IsChecked (program_of reading) (reading_checked reading)
 
-found_means : (files : Files) (found : Option (List ℕ)) (program : Program)
-    → option_and_then (λ bytes. comes_to files (given (program_of (reading_of TEXT_BYTES bytes)))) found ≡ Some (Ok program) → Means (file_of (compiled_tables program) []) program
-found_means files None program is = absurd (cc)
-found_means files (Some bytes) program is =
-    let e : Some (program_of (reading_of TEXT_BYTES bytes)) ≡ Some (Ok program) = sym (comes_given files (program_of (reading_of TEXT_BYTES bytes))) ∙ is in
-    reading_means (reading_of TEXT_BYTES bytes) program (cc)
+-- of a picture nothing is known
+abbrev IsPicture : List ℕ → Type 0
+IsPicture picture = Unit {0}
+
+all_pictures : (source : List ℕ) (name : Option (List ℕ)) → AllGive IsPicture (picture_work source name)
+all_pictures source None = tt
+all_pictures source (Some name) = λ reading. all_given IsPicture (picture_of reading) (λ picture is. tt)
+
+-- of an accepted program, a picture with which its file keeps the limits
+pub record IsOf (program : Program) (pictured : Pictured) : Type 0 where
+  pub same : pictured.program ≡ program
+  pub compilable : IsCompilable pictured
+
+within_of : (program : Program) (picture : List ℕ) (passed : Option (Code × ℕ)) (pictured : Pictured) → IsChecked program → excess (compiled_tables program) picture ≡ passed
+    → unless_large (record { program = program; picture = picture }) passed ≡ Ok pictured → IsOf program pictured
+within_of program picture None pictured h is same =
+    let e : record { program = program; picture = picture } ≡ pictured = cc in
+    subst (IsOf program) e (record { same = refl; compilable = record { source = h.0; is = h.1; within = is } })
+within_of program picture (Some more) pictured h is same = absurd (cc)
+
+all_of : (source : List ℕ) (program : Program) → IsChecked program → AllGive (IsOf program) (pictured_work source program)
+all_of source program h =
+    all_behind_all IsPicture (IsOf program) (picture_work source (picture_name program)) (λ picture. given (pictured_within program picture)) (all_pictures source (picture_name program))
+    (λ picture any. all_given (IsOf program) (pictured_within program picture) (λ pictured is. within_of program picture (excess (compiled_tables program) picture) pictured h refl is))
+
+all_compilable_of : (source : List ℕ) (program : Program) → IsChecked program → AllGive IsCompilable (pictured_work source program)
+all_compilable_of source program h =
+    all_behind_all IsPicture IsCompilable (picture_work source (picture_name program)) (λ picture. given (pictured_within program picture)) (all_pictures source (picture_name program))
+    (λ picture any. all_given IsCompilable (pictured_within program picture) (λ pictured is. (within_of program picture (excess (compiled_tables program) picture) pictured h refl is).compilable))
+
+-- what a source is compiled as can be compiled
+pub all_compilable : (source : List ℕ) → AllGive IsCompilable (program_work source)
+all_compilable source = all_behind_all IsChecked IsCompilable (source_work source) (pictured_work source) (all_checked source) (all_compilable_of source)
 
 -- the file of the program of a source means it
-pub program_means : (files : Files) (source : List ℕ) (program : Program) → comes_to files (program_work source) ≡ Some (Ok program) → Means (file_of (compiled_tables program) []) program
-program_means files source program is = found_means files (files source) program is
+pub program_means : (files : Files) (source : List ℕ) (pictured : Pictured) → comes_to files (program_work source) ≡ Some (Ok pictured) → Means (file_from pictured).bytes pictured.program
+program_means files source pictured is =
+    let h : IsCompilable pictured = comes_to_all IsCompilable files (program_work source) pictured (all_compilable source) is in
+    checked_means h.source pictured.program h.is pictured.picture h.within
 
 -- what the tables of an accepted program print is what the program means
-same_played : (name source : List ℕ) (program : Program) (entries : List Entry) → compiled_program source ≡ Ok program
-    → test_ending name (compiled_tables program) (tab (compiled_tables program)) entries ≡ test_ending name (compiled_tables program) (src program) entries
-same_played name source program entries is = λ i.
+same_played : (name bytes : List ℕ) (pictured : Pictured) (entries : List Entry) → IsCompilable pictured
+    → test_ending name bytes (tab (compiled_tables pictured.program)) entries ≡ test_ending name bytes (src pictured.program) entries
+same_played name bytes pictured entries h = λ i.
     record {
-      status = play_status (sym (compiled_steps source program is (events_of entries)) i) entries;
-      file = Some (name, file_of (compiled_tables program) []);
-      printed = sym (compiled_prints source program is entries) i;
+      status = play_status (sym (checked_steps h.source pictured.program h.is (events_of entries)) i) entries;
+      file = Some (name, bytes);
+      printed = sym (checked_prints h.source pictured.program h.is entries) i;
     }
 
-sized_played : (name source : List ℕ) (found program : Program) (entries : List Entry) (passed : Option (Code × ℕ)) → compiled_program source ≡ Ok found → unless_large found passed ≡ Ok program
-    → test_ending name (compiled_tables program) (tab (compiled_tables program)) entries ≡ test_ending name (compiled_tables program) (src program) entries
-sized_played name source found program entries passed is same = same_played name source program entries (is ∙ ap Ok (large_program found passed program same))
-
-read_played : (name source : List ℕ) (read : Result Program Refusal) (program : Program) (entries : List Entry) → compiled_program source ≡ read → program_read read ≡ Ok program
-    → test_ending name (compiled_tables program) (tab (compiled_tables program)) entries ≡ test_ending name (compiled_tables program) (src program) entries
-read_played name source (Err refusal) program entries is same = absurd (cc)
-read_played name source (Ok found) program entries is same = sized_played name source found program entries (excess (compiled_tables found) []) is same
-
-reading_played : (name : List ℕ) (reading : Reading) (program : Program) (entries : List Entry) → program_of reading ≡ Ok program
-    → test_ending name (compiled_tables program) (tab (compiled_tables program)) entries ≡ test_ending name (compiled_tables program) (src program) entries
-reading_played name (Bytes source) program entries is = read_played name source (compiled_program source) program entries refl is
-reading_played name (Over size) program entries is = absurd (cc)
-
--- the tables of an accepted program have the key names of the program
-read_names : (source : List ℕ) (found program : Program) (passed : Option (Code × ℕ)) → compiled_program source ≡ Ok found → unless_large found passed ≡ Ok program
-    → (tab (compiled_tables program)).dictionary ≡ (src program).dictionary
-read_names source found program passed is same =
-    let e : compiled_program source ≡ Ok program = is ∙ ap Ok (large_program found passed program same) in
-    dictionary-same program (compiled_tables program) (accepted_named program (accepted source program e)) (program_compiles program)
-
-program_names : (source : List ℕ) (read : Result Program Refusal) (program : Program) → compiled_program source ≡ read → program_read read ≡ Ok program
-    → (tab (compiled_tables program)).dictionary ≡ (src program).dictionary
-program_names source (Err refusal) program is same = absurd (cc)
-program_names source (Ok found) program is same = read_names source found program (excess (compiled_tables found) []) is same
-
-reading_names : (reading : Reading) (program : Program) → program_of reading ≡ Ok program → (tab (compiled_tables program)).dictionary ≡ (src program).dictionary
-reading_names (Bytes source) program is = program_names source (compiled_program source) program refl is
-reading_names (Over size) program is = absurd (cc)
-
--- tables without stores have no key names
-no_dictionary : (tables : Tables) → tables.stores ≡ [] → (tab tables).dictionary ≡ []
-unfolding tab tab_dictionary
-no_dictionary tables none = ap tab_dictionary none
-
-pub compiled_names : (compiled : Compiled) → IsCompiled compiled → (tab compiled.tables).dictionary ≡ []
-compiled_names compiled is = sym (ap (λ (kb : Keyboard). kb.dictionary) is.keyboard) ∙ no_dictionary (tables_of compiled.bytes) is.no_store
-
--- work behind the tables of a source is work behind its program
-pub tables_behind : {A : Type 0} (source : List ℕ) (more : Tables → Work A) → and_then (tables_work source) more ≡ and_then (program_work source) (λ program. more (compiled_tables program))
-tables_behind source more = and_then_assoc (program_work source) (λ program. Give (compiled_tables program)) more
+-- work behind the file of a source is work behind its program
+pub file_behind : {A : Type 0} (source : List ℕ) (more : Compiled → Work A) → and_then (compiled_work source) more ≡ and_then (program_work source) (λ pictured. more (file_from pictured))
+file_behind source more =
+    and_then_assoc (source_work source) (file_work source) more
+    ∙ (λ i. and_then (source_work source) (λ program. and_then_assoc (pictured_work source program) (λ pictured. Give (file_from pictured)) more i))
+    ∙ sym (and_then_assoc (source_work source) (pictured_work source) (λ pictured. more (file_from pictured)))
 
 abbrev pub play_job : List ℕ → Job → Work Ending
-play_job file job = Give (test_ending file job.keyboard (tab job.keyboard) job.entries)
+play_job file job = Give (test_ending file job.compiled.bytes (tab job.compiled.tables) job.entries)
+
+-- the work of a job behind the program of its source, and what the meaning wants behind the same
+abbrev pub job_behind : (source keys : List ℕ) → Program → Work Job
+job_behind source keys program =
+    and_then (file_work source program) (λ compiled.
+    and_then (script_work (src program).dictionary keys) (λ entries.
+    Give (record { compiled = compiled; entries = entries })))
+
+abbrev test_behind : (file keys : List ℕ) → Pictured → Work Ending
+test_behind file keys pictured =
+    and_then (script_work (src pictured.program).dictionary keys) (λ entries. Give (test_ending file (file_from pictured).bytes (src pictured.program) entries))
+
+played_behind : (source file keys : List ℕ) (program : Program) → IsChecked program → and_then (job_behind source keys program) (play_job file) ≡ and_then (pictured_work source program) (test_behind file keys)
+played_behind source file keys program h =
+    and_then_assoc (file_work source program) (λ compiled. and_then (script_work (src program).dictionary keys) (λ entries. Give (record { compiled = compiled; entries = entries }))) (play_job file)
+    ∙ (λ i. and_then (file_work source program) (λ compiled. and_then_assoc (script_work (src program).dictionary keys) (λ entries. Give (record { compiled = compiled; entries = entries })) (play_job file) i))
+    ∙ and_then_assoc (pictured_work source program) (λ pictured. Give (file_from pictured)) (λ compiled. and_then (script_work (src program).dictionary keys) (λ entries. play_job file (record { compiled = compiled; entries = entries })))
+    ∙ same_behind_all (IsOf program) (pictured_work source program)
+    (λ pictured. and_then (script_work (src program).dictionary keys) (λ entries. play_job file (record { compiled = file_from pictured; entries = entries }))) (test_behind file keys) (all_of source program h)
+    (λ pictured of i. and_then (script_work (src (sym of.same i)).dictionary keys) (λ entries. Give (same_played file (file_from pictured).bytes pictured entries of.compilable i)))
 
 -- what is played by the tables is what the meaning wants
 pub as_meant : (source file keys : List ℕ) → and_then (job_work source keys) (play_job file) ≡ test_work source file keys
 as_meant source file keys =
-    and_then_assoc (tables_work source) (λ tables. and_then (script_work (tab tables).dictionary keys) (λ entries. Give (record { keyboard = tables; entries = entries }))) (play_job file)
-    ∙ (λ i. and_then (tables_work source) (λ tables. and_then_assoc (script_work (tab tables).dictionary keys) (λ entries. Give (record { keyboard = tables; entries = entries })) (play_job file) i))
-    ∙ tables_behind source (λ tables. and_then (script_work (tab tables).dictionary keys) (λ entries. play_job file (record { keyboard = tables; entries = entries })))
-    ∙ (λ i. Read source TEXT_BYTES (λ reading. same_behind_given (program_of reading)
-    (λ program. and_then (script_work (tab (compiled_tables program)).dictionary keys) (λ entries. play_job file (record { keyboard = compiled_tables program; entries = entries })))
-    (λ program. and_then (script_work (src program).dictionary keys) (λ entries. Give (test_ending file (compiled_tables program) (src program) entries)))
-    (λ program is j. and_then (script_work (reading_names reading program is j) keys) (λ entries. Give (reading_played file reading program entries is j))) i))
+    and_then_assoc (source_work source) (job_behind source keys) (play_job file)
+    ∙ same_behind_all IsChecked (source_work source) (λ program. and_then (job_behind source keys program) (play_job file)) (λ program. and_then (pictured_work source program) (test_behind file keys)) (all_checked source)
+    (played_behind source file keys)
+    ∙ sym (and_then_assoc (source_work source) (pictured_work source) (test_behind file keys))
+
+-- the names of a program's own keys are those that its dictionary has
+pub names_of_keys : (program : Program) → IsRead program → refused program ≡ None → (lists_of program).keys ≡ (src program).dictionary
+unfolding lists_of src
+names_of_keys program read kept = take_all KEY_NAMES (names_of program).keys (has_tables program read kept).keys
 
 pub does_as : {F S : Type 0} (work other : Work Ending) (folders : FolderView F) (folder after : F) (sinks : SinkView S) (out out_after : S) (how : Status)
     → work ≡ other → Does work folders folder after sinks out out_after how → Does other folders folder after sinks out out_after how
@@ -237,15 +252,15 @@ came_from {A} files part more ending file is at = by_end (comes_to files part) r
         absurd (cc)
     by_end (Some (Ok value)) come behind = record { value = value; is = come; ends = behind }
 
--- the ending of a command whose file is that of a program's tables
-source_means : (before after : Files) (source file : List ℕ) (program : Program) (ending : Ending) (name bytes : List ℕ) → comes_to before (program_work source) ≡ Some (Ok program)
-    → ending.file ≡ Some (file, file_of (compiled_tables program) []) → ending.file ≡ Some (name, bytes) → after name ≡ Some bytes → SourceMeans before after source file
-source_means before after source file program ending name bytes is of at stands =
-    let e : Some (name, bytes) ≡ Some (file, file_of (compiled_tables program) []) = sym at ∙ of in
-    let pair : (name, bytes) ≡ (file, file_of (compiled_tables program) []) = inside (name, bytes) (file, file_of (compiled_tables program) []) e in
-    let found : after file ≡ Some (file_of (compiled_tables program) []) =
+-- the ending of a command whose file is that of a program
+source_means : (before after : Files) (source file : List ℕ) (pictured : Pictured) (ending : Ending) (name bytes : List ℕ) → comes_to before (program_work source) ≡ Some (Ok pictured)
+    → ending.file ≡ Some (file, (file_from pictured).bytes) → ending.file ≡ Some (name, bytes) → after name ≡ Some bytes → SourceMeans before after source file
+source_means before after source file pictured ending name bytes is of at stands =
+    let e : Some (name, bytes) ≡ Some (file, (file_from pictured).bytes) = sym at ∙ of in
+    let pair : (name, bytes) ≡ (file, (file_from pictured).bytes) = inside (name, bytes) (file, (file_from pictured).bytes) e in
+    let found : after file ≡ Some (file_from pictured).bytes =
     ap after (sym (ap (λ (p : List ℕ × List ℕ). p.0) pair)) ∙ stands ∙ ap (λ (p : List ℕ × List ℕ). Some p.1) pair in
-    record { program = program; is = is; means = rw found (program_means before source program is) }
+    record { pictured = pictured; is = is; means = rw found (program_means before source pictured is) }
 
 pub compile_means : {F S : Type 0} (source file : List ℕ) (folders : FolderView F) (folder after : F) (sinks : SinkView S) (out out_after : S) (how : Status)
     → Does (compile_work source file) folders folder after sinks out out_after how → IsTrue (folders.told folder) → HasWritten (folders.calls folder) (folders.calls after)
@@ -255,8 +270,8 @@ compile_means source file folders folder after sinks out out_after how does told
     let work : Work Ending = compile_work source file in
     let w : WrittenEnding (ends files work) (folders.files after) =
     written_ending (reads files work) (reads_none files work) (ends files work) (seen_folder folders folder) (seen_folder folders after) written (seen_sink sinks out) (seen_sink sinks out_after) how (does.leaves told) in
-    let c = came_from files (program_work source) (λ program. Give (compile_ending file (compiled_tables program))) w.ending (w.name, w.bytes) w.is w.file in
-    let e : compile_ending file (compiled_tables c.value) ≡ w.ending = inside (compile_ending file (compiled_tables c.value)) w.ending c.ends in
+    let c = came_from files (program_work source) (λ pictured. Give (compile_ending file (file_from pictured))) w.ending (w.name, w.bytes) w.is w.file in
+    let e : compile_ending file (file_from c.value) ≡ w.ending = inside (compile_ending file (file_from c.value)) w.ending c.ends in
     source_means files (folders.files after) source file c.value w.ending w.name w.bytes c.is (sym (ap (λ (x : Ending). x.file) e)) w.file w.stands
 
 pub test_means : {F S : Type 0} (source file keys : List ℕ) (folders : FolderView F) (folder after : F) (sinks : SinkView S) (out out_after : S) (how : Status)
@@ -267,9 +282,9 @@ test_means source file keys folders folder after sinks out out_after how does to
     let work : Work Ending = test_work source file keys in
     let w : WrittenEnding (ends files work) (folders.files after) =
     written_ending (reads files work) (reads_none files work) (ends files work) (seen_folder folders folder) (seen_folder folders after) written (seen_sink sinks out) (seen_sink sinks out_after) how (does.leaves told) in
-    let c = came_from files (program_work source) (λ program. and_then (script_work (src program).dictionary keys) (λ entries. Give (test_ending file (compiled_tables program) (src program) entries))) w.ending (w.name, w.bytes) w.is w.file in
-    let d = came_from files (script_work (src c.value).dictionary keys) (λ entries. Give (test_ending file (compiled_tables c.value) (src c.value) entries)) w.ending (w.name, w.bytes) c.ends w.file in
-    let e : test_ending file (compiled_tables c.value) (src c.value) d.value ≡ w.ending = inside (test_ending file (compiled_tables c.value) (src c.value) d.value) w.ending d.ends in
+    let c = came_from files (program_work source) (λ pictured. and_then (script_work (src pictured.program).dictionary keys) (λ entries. Give (test_ending file (file_from pictured).bytes (src pictured.program) entries))) w.ending (w.name, w.bytes) w.is w.file in
+    let d = came_from files (script_work (src c.value.program).dictionary keys) (λ entries. Give (test_ending file (file_from c.value).bytes (src c.value.program) entries)) w.ending (w.name, w.bytes) c.ends w.file in
+    let e : test_ending file (file_from c.value).bytes (src c.value.program) d.value ≡ w.ending = inside (test_ending file (file_from c.value).bytes (src c.value.program) d.value) w.ending d.ends in
     source_means files (folders.files after) source file c.value w.ending w.name w.bytes c.is (sym (ap (λ (x : Ending). x.file) e)) w.file w.stands
 
 worked_all : (wanted : List Ask) (end : Option Ending) (before after : FolderState) (ending : Ending) → end ≡ Some ending → HasWorked wanted ending before after → AsksAll (wanted ++ writes end) before.calls after.calls

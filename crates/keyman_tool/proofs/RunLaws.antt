@@ -15,8 +15,8 @@ use Rattle.keyman_tool.specs.Run.{Written, HasRead, HasBegunToRead, HasFailedToR
 use Rattle.keyman_tool.specs.Seen.{FolderView, SinkView, FolderState, SinkState, seen_folder, seen_sink}
 use Rattle.keyman_tool.specs.Steps.{StopCounts, GivesBy, Gives, SinkCounts, PrintsBy, Tells, TellsStop, write_status}
 use Rattle.keyman_tool.specs.Work.{Work, and_then, reads, comes_to}
-use Rattle.keyman_tool.specs.Work.Work.{Give}
-use Rattle.keyman_tool.proofs.AskedLaws.{first_front, until_front, joined, first_behind, until_behind, all_behind}
+use Rattle.keyman_tool.specs.Work.Work.{Give, Refuse}
+use Rattle.keyman_tool.proofs.AskedLaws.{first_front, until_front, joined, first_behind, until_behind, all_behind, first_none}
 use Rattle.keyman_tool.proofs.WorkLaws.{reads_behind, reads_and_then, reads_on, comes_on, reads_refused, comes_refused}
 
 module _ (wanted more : List Ask) (before middle after : FolderState) (h : HasRead wanted before middle) where
@@ -142,6 +142,27 @@ gives_value seen folders folder value = record {
   told = refl;
   gives = λ told. (refl, record { asked = sym (append-nil (folders.calls folder)); files = λ name. refl });
 }
+
+-- work that is refused
+pub gives_refused : {F A B : Type 0} (seen : A → B) (folders : FolderView F) (folder : F) (why : Reason) → Gives seen (Refuse why) folders folder folder (Err (stop.Refused why))
+gives_refused seen folders folder why = record {
+  counts = refl;
+  told = refl;
+  gives = λ told. (refl, record { asked = sym (append-nil (folders.calls folder)); files = λ name. refl });
+}
+
+-- work that wants memory before it reads anything
+pub gives_no_memory : {F A B : Type 0} (seen : A → B) (work : Work B) (folders : FolderView F) (folder : F) → Gives {A = A} seen work folders folder folder (Err stop.Memory)
+gives_no_memory seen work folders folder = record {
+  counts = refl;
+  told = refl;
+  gives = λ told. record { asked = first_none (reads (folders.files folder) work) (folders.calls folder) (folders.calls folder) refl; files = λ name. refl };
+}
+
+-- the same work in another form
+pub gives_as : {F A B : Type 0} (seen : A → B) (work other : Work B) (folders : FolderView F) (folder after : F) (result : Result A Stop)
+    → work ≡ other → Gives seen work folders folder after result → Gives seen other folders folder after result
+gives_as {F} {A} {B} seen work other folders folder after result same gives = subst (λ (w : Work B). Gives seen w folders folder after result) same gives
 
 -- work that only reads, behind some that came to a value
 pub gives_behind : {F A B C D : Type 0} (seen : A → B) (seen_more : C → D) (part : Work B) (more : B → Work D) (folders : FolderView F) (folder middle after : F) (value : A) (result : Result C Stop)

@@ -1,5 +1,5 @@
 -- Work in steps: what is asked and what comes of it where more work stands behind some.
-use Rattle.std.proofs.Common.{◌≡◌, ℕ, ◌+◌, ◌<◌, ◌≤◌, nat_lt, Bool, true, false, if◌then◌else◌, length, List, [], ◌∷◌, ◌++◌, Option, Some, None, Result, Ok, Err, refl, ◌∙◌, ap, append-nil, arith}
+use Rattle.std.proofs.Common.{◌≡◌, ℕ, ◌+◌, ◌<◌, ◌≤◌, nat_lt, Bool, true, false, if◌then◌else◌, length, List, [], ◌∷◌, ◌++◌, Option, Some, None, Result, Ok, Err, refl, ◌∙◌, ap, subst, append-nil, arith}
 use Rattle.std.specs.Prelude.{option_and_then}
 use Rattle.std.specs.Option.{option_map_or}
 use Rattle.std.proofs.lemmas.Bool.Decides.{nat_tests}
@@ -72,11 +72,43 @@ pub comes_given : {A : Type 0} (files : Files) (read : Result A Reason) → come
 comes_given files (Ok value) = refl
 comes_given files (Err why) = refl
 
--- work behind a value or a reason is the same where it is for the value
-pub same_behind_given : {A B : Type 0} (read : Result A Reason) (more other : A → Work B) → ((value : A) → read ≡ Ok value → more value ≡ other value)
-    → and_then (given read) more ≡ and_then (given read) other
-same_behind_given (Ok value) more other same = same value refl
-same_behind_given (Err why) more other same = refl
+-- what holds of every value that work can come to
+abbrev pub AllGive : {A : Type 0} → (A → Type 0) → Work A → Type 0
+AllGive holds (Give value) = holds value
+AllGive holds (Refuse why) = Unit {0}
+AllGive holds (Read name limit next) = (reading : Reading) → AllGive holds (next reading)
+
+pub all_given : {A : Type 0} (holds : A → Type 0) (read : Result A Reason) → ((value : A) → read ≡ Ok value → holds value) → AllGive holds (given read)
+all_given holds (Ok value) all = all value refl
+all_given holds (Err why) all = tt
+
+pub all_behind_all : {A B : Type 0} (holds : A → Type 0) (holds_more : B → Type 0) (part : Work A) (more : A → Work B) → AllGive holds part
+    → ((value : A) → holds value → AllGive holds_more (more value)) → AllGive holds_more (and_then part more)
+all_behind_all holds holds_more (Give value) more all then_all = then_all value all
+all_behind_all holds holds_more (Refuse why) more all then_all = tt
+all_behind_all holds holds_more (Read name limit next) more all then_all = λ reading. all_behind_all holds holds_more (next reading) more (all reading) then_all
+
+-- work behind some is the same where it is for each value that this can come to
+pub same_behind_all : {A B : Type 0} (holds : A → Type 0) (part : Work A) (more other : A → Work B) → AllGive holds part → ((value : A) → holds value → more value ≡ other value)
+    → and_then part more ≡ and_then part other
+same_behind_all holds (Give value) more other all same = same value all
+same_behind_all holds (Refuse why) more other all same = refl
+same_behind_all holds (Read name limit next) more other all same = λ i. Read name limit (λ reading. same_behind_all holds (next reading) more other (all reading) same i)
+
+found_holds : {A : Type 0} (holds : A → Type 0) (files : Files) (limit : ℕ) (next : Reading → Work A) (found : Option (List ℕ)) (value : A)
+    → ((reading : Reading) → comes_to files (next reading) ≡ Some (Ok value) → holds value)
+    → option_and_then (λ bytes. comes_to files (next (reading_of limit bytes))) found ≡ Some (Ok value) → holds value
+found_holds holds files limit next None value all is = absurd (cc)
+found_holds holds files limit next (Some bytes) value all is = all (reading_of limit bytes) is
+
+-- the value that work comes to is one of them
+pub comes_to_all : {A : Type 0} (holds : A → Type 0) (files : Files) (work : Work A) (value : A) → AllGive holds work → comes_to files work ≡ Some (Ok value) → holds value
+comes_to_all holds files (Give found) value all is =
+    let e : found ≡ value = cc in
+    subst holds e all
+comes_to_all holds files (Refuse why) value all is = absurd (cc)
+comes_to_all holds files (Read name limit next) value all is =
+    found_holds holds files limit next (files name) value (λ reading come. comes_to_all holds files (next reading) value (all reading) come) is
 
 -- a file is read whole where it keeps the limit
 pub reading_within : (limit : ℕ) (bytes : List ℕ) → length bytes ≤ limit → reading_of limit bytes ≡ Bytes bytes

@@ -4,12 +4,12 @@ use Rattle.std.specs.List.{concat}
 use Rattle.std.specs.Fmt.{decimal}
 use Rattle.kmn_base.specs.declared.codes.Code.{Code}
 use Rattle.kmn_outside.specs.Outside.{Files}
-use Rattle.kmx_format.specs.File.{file_of, all_rules}
+use Rattle.kmx_format.specs.File.{all_rules}
 use Rattle.rule_model.specs.Keyboard.{Keyboard}
 use Rattle.rule_model.specs.Trace.{Trace, trace}
 use Rattle.rule_model.specs.Transcript.{events_of, transcript}
 use Rattle.rule_model.specs.declared.script.Entry.{Entry}
-use Rattle.rule_model.specs.declared.tables.Tables.{Tables}
+use Rattle.kmn_compiler.specs.declared.compiling.Compiled.{Compiled}
 use Rattle.keyman_tool.specs.declared.reason.Reason.{Reason}
 use Rattle.keyman_tool.specs.declared.status.Status.{Status}
 use Rattle.keyman_tool.specs.declared.status.Status.TheVariants as status
@@ -33,17 +33,17 @@ abbrev pub words_ending : Ending
 words_ending = record { status = status.Words; file = None; printed = [] }
 
 -- what is printed of a compiled file: its counts and its size
-unfoldable pub compiled_line : Tables → List ℕ
-compiled_line tables = concat (
-    codes "compiled stores=" ∷ decimal (length tables.stores)
-    ∷ codes " groups=" ∷ decimal (length tables.groups)
-    ∷ codes " rules=" ∷ decimal (length (all_rules tables))
-    ∷ codes " bytes=" ∷ decimal (length (file_of tables []))
+unfoldable pub compiled_line : Compiled → List ℕ
+compiled_line compiled = concat (
+    codes "compiled stores=" ∷ decimal (length compiled.tables.stores)
+    ∷ codes " groups=" ∷ decimal (length compiled.tables.groups)
+    ∷ codes " rules=" ∷ decimal (length (all_rules compiled.tables))
+    ∷ codes " bytes=" ∷ decimal (length compiled.bytes)
     ∷ codes "\n" ∷ [])
 
--- a compilation writes the file of the tables and prints its line
-abbrev pub compile_ending : List ℕ → Tables → Ending
-compile_ending name tables = record { status = status.Done; file = Some (name, file_of tables []); printed = compiled_line tables }
+-- a compilation writes the file and prints its line
+abbrev pub compile_ending : List ℕ → Compiled → Ending
+compile_ending name compiled = record { status = status.Done; file = Some (name, compiled.bytes); printed = compiled_line compiled }
 
 -- a play ends with the refusal of an event, or with expected texts that differed, or well
 abbrev pub ended_status : Option (ℕ × Code) → ℕ → Status
@@ -54,17 +54,17 @@ ended_status None (suc failed) = status.ExpectFailed
 abbrev pub play_status : Trace → List Entry → Status
 play_status traced entries = ended_status traced.refused (failures traced entries)
 
--- tables and the script to play on them
+-- a compiled file and the script to play on it
 pub record Job : Type 0 where
-  pub keyboard : Tables
+  pub compiled : Compiled
   pub entries : List Entry
 
--- a test writes the file of the tables, and prints what a keyboard does with the script
-abbrev pub test_ending : List ℕ → Tables → Keyboard → List Entry → Ending
-test_ending name tables kb entries =
+-- a test writes a file, and prints what a keyboard does with the script
+abbrev pub test_ending : List ℕ → List ℕ → Keyboard → List Entry → Ending
+test_ending name bytes kb entries =
     record {
       status = play_status (trace kb (events_of entries)) entries;
-      file = Some (name, file_of tables []);
+      file = Some (name, bytes);
       printed = transcript kb entries;
     }
 

@@ -1,13 +1,15 @@
 -- What the inputs of a command state.
-use Rattle.std.specs.Prelude.{ℕ, List, [], Option, Some, None, Result, Ok, Err}
+use Rattle.std.specs.Prelude.{ℕ, List, Option, Some, None, Result, Ok, Err}
 use Rattle.kmn_base.specs.declared.codes.Code.{Code}
-use Rattle.kmn_base.specs.declared.codes.Code.TheVariants.{L05, P06}
+use Rattle.kmn_base.specs.declared.codes.Code.TheVariants.{C24, L05, P06}
 use Rattle.kmn_base.specs.declared.refusals.Refusal.{Refusal}
 use Rattle.rule_model.specs.declared.program.Program.{Program}
 use Rattle.rule_model.specs.declared.script.Entry.{Entry}
 use Rattle.compile_laws.specs.Ordered.{compiled_tables}
+use Rattle.kmx_format.specs.File.{file_of}
 use Rattle.kmx_writer.specs.Excess.{excess}
-use Rattle.kmn_compiler.specs.Source.{compiled_program}
+use Rattle.rule_checker.specs.Refused.{checked}
+use Rattle.kmn_compiler.specs.declared.compiling.Compiled.{Compiled}
 use Rattle.play_script.specs.Entries.{entries}
 use Rattle.keyman_tool.specs.declared.reason.Reason.{Reason}
 use Rattle.keyman_tool.specs.declared.reason.Reason.TheVariants as reason
@@ -19,20 +21,32 @@ abbrev pub by_line : {A : Type 0} → Result A Refusal → Result A Reason
 by_line (Ok value) = Ok value
 by_line (Err refusal) = Err (reason.Line refusal)
 
--- a program, unless its file would pass a limit
-abbrev pub unless_large : Program → Option (Code × ℕ) → Result Program Reason
-unless_large program None = Ok program
-unless_large program (Some passed) = Err (reason.Size passed.0 passed.1)
-
--- the program that was read, unless its file would be too large
-abbrev pub program_read : Result Program Refusal → Result Program Reason
-program_read (Err refusal) = Err (reason.Line refusal)
-program_read (Ok program) = unless_large program (excess (compiled_tables program) [])
-
--- the program of a source, or the first reason against compiling it
+-- the program of a source, or its first refusal
 abbrev pub program_of : Reading → Result Program Reason
-program_of (Bytes source) = program_read (compiled_program source)
+program_of (Bytes source) = by_line (checked source)
 program_of (Over size) = Err (reason.Line (record { line = 1; code = L05 }))
+
+-- a picture, or the size that passes its limit
+abbrev pub picture_of : Reading → Result (List ℕ) Reason
+picture_of (Bytes picture) = Ok picture
+picture_of (Over size) = Err (reason.Size C24 size)
+
+-- a program with the picture that its file has
+pub record Pictured : Type 0 where
+  pub program : Program
+  pub picture : List ℕ
+
+-- the file that it compiles to
+abbrev pub file_from : Pictured → Compiled
+file_from pictured = record { bytes = file_of (compiled_tables pictured.program) pictured.picture; tables = compiled_tables pictured.program }
+
+-- a program with its picture, unless its file would pass a limit
+abbrev pub unless_large : Pictured → Option (Code × ℕ) → Result Pictured Reason
+unless_large pictured None = Ok pictured
+unless_large pictured (Some passed) = Err (reason.Size passed.0 passed.1)
+
+abbrev pub pictured_within : Program → List ℕ → Result Pictured Reason
+pictured_within program picture = unless_large (record { program = program; picture = picture }) (excess (compiled_tables program) picture)
 
 -- the entries of a script for a keyboard with this dictionary of keys, or the first rule that the script breaks
 abbrev pub script_of : List (List ℕ) → Reading → Result (List Entry) Reason

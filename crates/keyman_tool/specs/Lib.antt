@@ -1,4 +1,5 @@
 pub mod Asked
+pub mod Beside
 pub mod Command
 pub mod Endings
 pub mod Failures

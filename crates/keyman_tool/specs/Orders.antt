@@ -1,47 +1,67 @@
 -- The order of work of each command.
-use Rattle.std.specs.Prelude.{ℕ, List, Option, Some, None}
-use Rattle.kmn_base.specs.declared.limits.TheConstants.{TEXT_BYTES}
-use Rattle.compile_laws.specs.Ordered.{compiled_tables}
+use Rattle.std.specs.Prelude.{ℕ, List, [], Option, Some, None}
+use Rattle.kmn_base.specs.declared.limits.TheConstants.{PICTURE_BYTES, TEXT_BYTES}
 use Rattle.rule_model.specs.Src.{src}
-use Rattle.rule_model.specs.Tab.{tab}
 use Rattle.rule_model.specs.declared.program.Program.{Program}
 use Rattle.rule_model.specs.declared.script.Entry.{Entry}
-use Rattle.rule_model.specs.declared.tables.Tables.{Tables}
+use Rattle.kmn_compiler.specs.Picture.{picture_name}
+use Rattle.kmn_compiler.specs.declared.compiling.Compiled.{Compiled}
+use Rattle.keyman_tool.specs.Beside.{beside}
 use Rattle.keyman_tool.specs.Command.{Request}
 use Rattle.keyman_tool.specs.Command.Request.{Compile, Test}
 use Rattle.keyman_tool.specs.Endings.{Ending, Job, compile_ending, test_ending, words_ending}
-use Rattle.keyman_tool.specs.Inputs.{program_of, script_of}
+use Rattle.keyman_tool.specs.Inputs.{Pictured, file_from, picture_of, pictured_within, program_of, script_of}
 use Rattle.keyman_tool.specs.Work.{Work, given, and_then}
 use Rattle.keyman_tool.specs.Work.Work.{Give, Read}
 
--- read a source and compile it
-abbrev pub program_work : (source : List ℕ) → Work Program
-program_work source = Read source TEXT_BYTES (λ reading. given (program_of reading))
+-- read a source and check it
+abbrev pub source_work : (source : List ℕ) → Work Program
+source_work source = Read source TEXT_BYTES (λ reading. given (program_of reading))
 
-abbrev pub tables_work : (source : List ℕ) → Work Tables
-tables_work source = and_then (program_work source) (λ program. Give (compiled_tables program))
+-- read the picture of this name, which stands beside the source; where there is no name nothing is read
+abbrev pub picture_work : (source : List ℕ) → Option (List ℕ) → Work (List ℕ)
+picture_work source None = Give []
+picture_work source (Some name) = Read (beside source name) PICTURE_BYTES (λ reading. given (picture_of reading))
+
+-- read the picture of a source's program, and see that the file keeps the limits
+abbrev pub pictured_work : (source : List ℕ) → Program → Work Pictured
+pictured_work source program = and_then (picture_work source (picture_name program)) (λ picture. given (pictured_within program picture))
+
+-- read a source, check it, read its picture, and see that the file keeps the limits
+abbrev pub program_work : (source : List ℕ) → Work Pictured
+program_work source = and_then (source_work source) (pictured_work source)
+
+-- compile a source's program with its picture
+abbrev pub file_work : (source : List ℕ) → Program → Work Compiled
+file_work source program = and_then (pictured_work source program) (λ pictured. Give (file_from pictured))
+
+-- read and compile a source with its picture
+abbrev pub compiled_work : (source : List ℕ) → Work Compiled
+compiled_work source = and_then (source_work source) (file_work source)
 
 -- read a script for a keyboard with this dictionary of keys
 abbrev pub script_work : (dictionary : List (List ℕ)) → (keys : List ℕ) → Work (List Entry)
 script_work dictionary keys = Read keys TEXT_BYTES (λ reading. given (script_of dictionary reading))
 
--- read and compile a source, then read a script
+-- read and compile a source with its picture, then read a script
 abbrev pub job_work : (source keys : List ℕ) → Work Job
 job_work source keys =
-    and_then (tables_work source) (λ tables.
-    and_then (script_work (tab tables).dictionary keys) (λ entries.
-    Give (record { keyboard = tables; entries = entries })))
+    and_then (source_work source) (λ program.
+    and_then (file_work source program) (λ compiled.
+    and_then (script_work (src program).dictionary keys) (λ entries.
+    Give (record { compiled = compiled; entries = entries }))))
 
--- `compile SOURCE FILE`: read and compile the source, write the file, print its counts
+-- `compile SOURCE FILE`: read and compile the source with its picture, write the file, print its counts
 abbrev pub compile_work : (source file : List ℕ) → Work Ending
-compile_work source file = and_then (program_work source) (λ program. Give (compile_ending file (compiled_tables program)))
+compile_work source file = and_then (program_work source) (λ pictured. Give (compile_ending file (file_from pictured)))
 
--- `test SOURCE FILE KEYS`: read and compile the source, read the script, write the file, print what the source means for it
+-- `test SOURCE FILE KEYS`: read and compile the source with its picture, read the script, write the file, print what the
+-- source means for the script
 abbrev pub test_work : (source file keys : List ℕ) → Work Ending
 test_work source file keys =
-    and_then (program_work source) (λ program.
-    and_then (script_work (src program).dictionary keys) (λ entries.
-    Give (test_ending file (compiled_tables program) (src program) entries)))
+    and_then (program_work source) (λ pictured.
+    and_then (script_work (src pictured.program).dictionary keys) (λ entries.
+    Give (test_ending file (file_from pictured).bytes (src pictured.program) entries)))
 
 -- the work that words ask for
 abbrev pub work_of : Option Request → Work Ending

@@ -2,13 +2,13 @@
 use Rattle.std.specs.Prelude.{◌≡◌, ◌≢◌, ◌⊎◌, ℕ, false, IsTrue, List, [], ◌∷◌, ◌++◌, map, Option, Some, None, IsSomeAnd, Ok}
 use Rattle.kmn_outside.specs.Outside.{Files, Rose, SameFiles, SameOthers}
 use Rattle.compile_laws.specs.Means.{Means}
-use Rattle.rule_model.specs.declared.program.Program.{Program}
 use Rattle.keyman_tool.specs.declared.status.Status.{Status}
 use Rattle.keyman_tool.specs.declared.status.Status.TheVariants as status
 use Rattle.keyman_tool.specs.Asked.{Ask, write_of, answered, failed, AsksAll, AsksFirst, AsksUntil, HasWritten}
 use Rattle.keyman_tool.specs.Command.{Request}
 use Rattle.keyman_tool.specs.Command.Request.{Compile, Test}
 use Rattle.keyman_tool.specs.Endings.{Ending, ends, file_asks}
+use Rattle.keyman_tool.specs.Inputs.{Pictured}
 use Rattle.keyman_tool.specs.Orders.{program_work}
 use Rattle.keyman_tool.specs.Printing.{IsBegun}
 use Rattle.keyman_tool.specs.Seen.{FolderView, SinkView, FolderState, SinkState, seen_folder, seen_sink}
@@ -104,9 +104,9 @@ pub record Does {F S : Type 0} (work : Work Ending) (folders : FolderView F) (fo
 
 -- the source has a program, and the file means it
 pub record SourceMeans (before after : Files) (source file : List ℕ) : Type 0 where
-  pub program : Program
-  pub is : comes_to before (program_work source) ≡ Some (Ok program)
-  pub means : IsSomeAnd (after file) (λ bytes. Means bytes program)
+  pub pictured : Pictured
+  pub is : comes_to before (program_work source) ≡ Some (Ok pictured)
+  pub means : IsSomeAnd (after file) (λ bytes. Means bytes pictured.program)
 
 -- where a request's file was written, it means the source
 abbrev pub FileMeans : FolderState → FolderState → Option Request → Type 0

@@ -1,5 +1,5 @@
 -- What the steps of a run answer.
-use Rattle.std.specs.Prelude.{◌≡◌, IsTrue, ℕ, List, [], ◌++◌, Option, Some, Result, Ok, Err}
+use Rattle.std.specs.Prelude.{◌≡◌, IsTrue, ℕ, List, ◌++◌, Option, Some, Result, Ok, Err}
 use Rattle.kmn_base.specs.declared.refusals.CompileError.{CompileError}
 use Rattle.kmn_base.specs.declared.refusals.CompileError.TheVariants as compile
 use Rattle.kmn_base.specs.declared.codes.Code.{Code}
@@ -9,8 +9,6 @@ use Rattle.kmn_outside.specs.declared.traits.WriteError.TheVariants as write
 use Rattle.kmn_outside.specs.declared.traits.ReadError.{ReadError}
 use Rattle.kmn_outside.specs.declared.traits.ReadError.TheVariants as read
 use Rattle.rule_model.specs.declared.script.Entry.{Entry}
-use Rattle.rule_model.specs.declared.tables.Tables.{Tables}
-use Rattle.kmx_format.specs.File.{file_of}
 use Rattle.rule_model.specs.Tab.{tab}
 use Rattle.kmx_format.specs.TablesOf.{tables_of}
 use Rattle.kmx_format.specs.Writable.{IsFile, IsWritable}
@@ -43,11 +41,15 @@ abbrev pub script_stop : ScriptError → Stop
 script_stop (script.Refused refusal) = stop.Refused (reason.Line refusal)
 script_stop script.Memory = stop.Memory
 
--- why a run stops where an input wasn't read: a longer one is refused by its code at line 1
-abbrev pub read_stop : Code → ReadError → Stop
-read_stop code read.Failed = stop.ReadFault
-read_stop code (read.Over size) = stop.Refused (reason.Line (record { line = 1; code = code }))
-read_stop code read.Memory = stop.Memory
+-- a refusal at line 1
+abbrev pub first_line : Code → Reason
+first_line code = reason.Line (record { line = 1; code = code })
+
+-- why a run stops where an input wasn't read: a longer one than its limit is refused for this reason
+abbrev pub read_stop : Reason → ReadError → Stop
+read_stop long read.Failed = stop.ReadFault
+read_stop long (read.Over size) = stop.Refused long
+read_stop long read.Memory = stop.Memory
 
 -- the folder's count of faults rises where a read failed, and stays where not
 abbrev pub StopCounts : {A : Type 0} → ℕ → ℕ → Result A Stop → Type 0
@@ -67,25 +69,19 @@ pub record Gives {F A B : Type 0} (seen : A → B) (work : Work B) (folders : Fo
   pub told : folders.told folder_after ≡ folders.told folder
   pub gives : IsTrue (folders.told folder) → GivesBy seen (reads (folders.files folder) work) (comes_to (folders.files folder) work) (seen_folder folders folder) (seen_folder folders folder_after) result
 
--- bytes with the tables that they are the file of; the keyboard of the bytes is that of the tables, and has no store
+-- the bytes of a file whose keyboard is that of the tables
 pub record IsCompiled (compiled : Compiled) : Type 0 where
   pub writable : IsWritable compiled.tables
-  pub is : compiled.bytes ≡ file_of compiled.tables []
   pub file : IsFile compiled.bytes
   pub keyboard : tab (tables_of compiled.bytes) ≡ tab compiled.tables
-  pub no_store : (tables_of compiled.bytes).stores ≡ []
 
--- the tables of what was compiled
-abbrev pub tables_in : Compiled → Tables
-tables_in compiled = compiled.tables
-
--- the entries that were read
-abbrev pub entries_in : List Entry → List Entry
-entries_in entries = entries
+-- what a step answers is the value that its work gives
+abbrev pub itself : {A : Type 0} → A → A
+itself value = value
 
 -- what is prepared, as a job
 abbrev pub prepared_job : Prepared → Job
-prepared_job prepared = record { keyboard = prepared.compiled.tables; entries = prepared.entries }
+prepared_job prepared = record { compiled = prepared.compiled; entries = prepared.entries }
 
 -- the count of faults of a sink that something is printed to before a run ends well with a status
 abbrev pub SinkCounts : Status → ℕ → ℕ → Status → Type 0

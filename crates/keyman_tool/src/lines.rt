@@ -1,16 +1,16 @@
 //! The lines of refusals and of a compiled file.
 
-ghost use Rattle.std.specs.Prelude.{◌≡◌, ◌<◌, ◌^◌, [], length, IfOk};
+ghost use Rattle.std.specs.Prelude.{◌≡◌, ◌<◌, ◌^◌, length, IfOk};
 ghost use Rattle.std.specs.String.{string_bytes};
-ghost use Rattle.kmx_format.specs.File.{file_of, all_rules};
+ghost use Rattle.kmx_format.specs.File.{all_rules};
 ghost use Rattle.keyman_tool.specs.Reasons.{reason_line, size_line};
 ghost use Rattle.keyman_tool.specs.Endings.{compiled_line};
 ghost use Rattle.rule_model.specs.Lines.{refusal_line};
 
 use crate::reason::Reason;
 use kmn_base::{Code, Memory, Refusal, Seq, Text};
+use kmn_compiler::Compiled;
 use kmx_format::rule_count;
-use rule_model::Tables;
 use std::alloc::Global;
 
 /// The line of a refusal.
@@ -47,16 +47,16 @@ pub fn reason_line(alloc: Global, why: Reason) -> Result<Text, Memory>
     }
 }
 
-/// The line of a file that was compiled from tables and has so many bytes.
+/// The line of a compiled file: its counts and its size in bytes.
 #[tactic(auto, unfolding(crate::specs::Endings::compiled_line))]
-pub fn compiled_line(alloc: Global, tables: &Tables, bytes: usize) -> Result<Text, Memory>
-    requires few { length (all_rules tables.now) < 2 ^ 64 }
-    requires size { bytes ≡ length (file_of tables.now []) }
-    ensures { IfOk result (λ line. line ≡ compiled_line tables.now) }
+pub fn compiled_line(alloc: Global, compiled: &Compiled) -> Result<Text, Memory>
+    requires { length (all_rules compiled.now.tables) < 2 ^ 64 }
+    ensures { IfOk result (λ line. line ≡ compiled_line compiled.now) }
 {
-    let stores = tables.stores.len();
-    let groups = tables.groups.len();
-    let rules = rule_count(tables.groups.as_slice());
+    let stores = compiled.tables.stores.len();
+    let groups = compiled.tables.groups.len();
+    let rules = rule_count(compiled.tables.groups.as_slice());
+    let bytes = compiled.bytes.len();
     Ok(text_of(format!(in alloc;
         "compiled stores={stores} groups={groups} rules={rules} bytes={bytes}\n"
     )?))

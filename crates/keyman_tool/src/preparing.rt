@@ -1,17 +1,18 @@
-ghost use Rattle.std.specs.Prelude.{◌≡◌, [], IfOk};
-ghost use Rattle.keyman_tool.specs.Orders.{job_work, tables_work, script_work};
-ghost use Rattle.keyman_tool.specs.Steps.{Gives, IsCompiled, tables_in, entries_in, prepared_job, compile_stop, script_stop, read_stop};
-ghost use Rattle.play_script.specs.Answers.{Answers};
-ghost use Rattle.play_script.specs.Entries.{entries};
-ghost use Rattle.rule_model.specs.Tab.{tab};
+ghost use Rattle.std.specs.Prelude.{◌≡◌, Some, IfOk};
+ghost use Rattle.rule_model.specs.Src.{src};
+ghost use Rattle.kmn_compiler.specs.Picture.{picture_name};
+ghost use Rattle.keyman_tool.specs.Orders.{compiled_work, file_work, job_work, picture_work, script_work, source_work};
+ghost use Rattle.keyman_tool.specs.Steps.{Gives, IsCompiled, itself, prepared_job, compile_stop, script_stop, first_line, read_stop};
 
+use crate::file_names::beside;
 use crate::reason::Reason;
-use kmn_base::limits::TEXT_BYTES;
-use kmn_base::{Code, CompileError, Refusal, Seq};
-use kmn_compiler::{Compiled, compile};
+use kmn_base::limits::{PICTURE_BYTES, TEXT_BYTES};
+use kmn_base::{Code, CompileError, Memory, Refusal, Seq};
+use kmn_compiler::{Compiled, back, front, picture_name};
 use kmn_outside::{Folder, ReadError};
 use play_script::{ScriptError, read_script};
-use rule_model::{Entry, Tables};
+use rule_checker::Checked;
+use rule_model::Entry;
 use std::alloc::Global;
 use virtual_keys::KeyDictionary;
 
@@ -30,8 +31,13 @@ pub struct Prepared {
     pub entries: Seq<Entry>,
 }
 
-/// Reads and compiles the source, then reads the script.
-#[tactic(auto, using(crate::proofs::MeaningLaws::compiled_names))]
+/// Why a picture that passes its limit is refused: of its size no more is known.
+const LONG_PICTURE: Reason = Reason::Size {
+    code: Code::C24,
+    size: PICTURE_BYTES as u64 + 1,
+};
+
+/// Reads and compiles the source with its picture, then reads the script.
 pub fn prepare<F: Folder>(
     alloc: Global,
     source: &[u8],
@@ -41,60 +47,134 @@ pub fn prepare<F: Folder>(
     ensures compiled { IfOk result (λ prepared. IsCompiled prepared.compiled) }
     ensures gives { Gives prepared_job (job_work source.now keys.now) F.Folder folder.old folder.new result }
 {
-    let compiled = match read_and_compile(alloc, source, folder) {
+    let checked = match read_source(alloc, source, folder) {
+        Ok(checked) => checked,
+        Err(stop) => return Err(stop),
+    };
+    let compiled = match compile_beside(alloc, source, &checked, folder) {
         Ok(compiled) => compiled,
         Err(stop) => return Err(stop),
     };
-    match read_entries(alloc, keys, &compiled.tables, folder) {
+    match read_entries(alloc, keys, key_names(&checked), folder) {
         Ok(entries) => Ok(Prepared { compiled, entries }),
         Err(stop) => Err(stop),
     }
 }
 
-/// Reads and compiles the source of a name.
+/// Reads and compiles the source of a name, with the picture that it names.
 pub fn read_and_compile<F: Folder>(
     alloc: Global,
     name: &[u8],
     folder: &mut F,
 ) -> Result<Compiled, Stop>
     ensures compiled { IfOk result IsCompiled }
-    ensures gives { Gives tables_in (tables_work name.now) F.Folder folder.old folder.new result }
+    ensures gives { Gives itself (compiled_work name.now) F.Folder folder.old folder.new result }
 {
-    match folder.read(alloc, name, TEXT_BYTES) {
-        Ok(source) => match compile(alloc, source.as_slice(), &[]) {
-            Ok(compiled) => Ok(compiled),
-            Err(error) => Err(compile_stop(error)),
-        },
-        Err(error) => Err(read_stop(error, Code::L05)),
+    match read_source(alloc, name, folder) {
+        Ok(checked) => compile_beside(alloc, name, &checked, folder),
+        Err(stop) => Err(stop),
     }
 }
 
-/// Reads the script of a name for the keyboard of tables.
+/// Reads and checks the source of a name.
+fn read_source<F: Folder>(alloc: Global, name: &[u8], folder: &mut F) -> Result<Checked, Stop>
+    ensures { Gives itself (source_work name.now) F.Folder folder.old folder.new result }
+{
+    match folder.read(alloc, name, TEXT_BYTES) {
+        Ok(source) => match front(alloc, source.as_slice()) {
+            Ok(checked) => Ok(checked),
+            Err(error) => Err(compile_stop(error)),
+        },
+        Err(error) => Err(read_stop(error, first_line(Code::L05))),
+    }
+}
+
+/// Reads the picture of the program of a source, and compiles both.
+fn compile_beside<F: Folder>(
+    alloc: Global,
+    source: &[u8],
+    checked: &Checked,
+    folder: &mut F,
+) -> Result<Compiled, Stop>
+    ensures compiled { IfOk result IsCompiled }
+    ensures gives { Gives itself (file_work source.now checked.now) F.Folder folder.old folder.new result }
+{
+    let picture = match read_picture(alloc, source, checked, folder) {
+        Ok(picture) => picture,
+        Err(stop) => return Err(stop),
+    };
+    match back(alloc, checked, picture.as_slice()) {
+        Ok(compiled) => Ok(compiled),
+        Err(error) => Err(compile_stop(error)),
+    }
+}
+
+/// Reads the picture that a program names, which stands beside its source; no bytes where it names none.
+fn read_picture<F: Folder>(
+    alloc: Global,
+    source: &[u8],
+    checked: &Checked,
+    folder: &mut F,
+) -> Result<Seq<u8>, Stop>
+    ensures { Gives itself (picture_work source.now (picture_name checked.now)) F.Folder folder.old folder.new result }
+{
+    match picture_name(alloc, checked) {
+        Ok(Some(name)) => read_named_picture(alloc, source, name.as_slice(), folder),
+        Ok(None) => Ok(Seq::new(alloc)),
+        Err(Memory) => Err(Stop::Memory),
+    }
+}
+
+/// Reads the picture of this name, which stands beside a source.
+fn read_named_picture<F: Folder>(
+    alloc: Global,
+    source: &[u8],
+    picture: &[u8],
+    folder: &mut F,
+) -> Result<Seq<u8>, Stop>
+    ensures { Gives itself (picture_work source.now (Some picture.now)) F.Folder folder.old folder.new result }
+{
+    let Ok(name) = beside(alloc, source, picture) else {
+        return Err(Stop::Memory);
+    };
+    match folder.read(alloc, name.as_slice(), PICTURE_BYTES) {
+        Ok(picture) => Ok(picture),
+        Err(error) => Err(read_stop(error, LONG_PICTURE)),
+    }
+}
+
+/// The names of a program's own keys.
+#[tactic(auto, using(crate::proofs::MeaningLaws::names_of_keys))]
+fn key_names(checked: &Checked) -> &KeyDictionary
+    ensures { result.now ≡ (src checked.now).dictionary }
+{
+    let _program = checked.program();
+    checked.names().keys()
+}
+
+/// Reads the script of a name for a keyboard with these names of keys.
 fn read_entries<F: Folder>(
     alloc: Global,
     keys: &[u8],
-    tables: &Tables,
+    names: &KeyDictionary,
     folder: &mut F,
 ) -> Result<Seq<Entry>, Stop>
-    requires { (tab tables.now).dictionary ≡ [] }
-    ensures { Gives entries_in (script_work (tab tables.now).dictionary keys.now) F.Folder folder.old folder.new result }
+    ensures { Gives itself (script_work names.now keys.now) F.Folder folder.old folder.new result }
 {
     match folder.read(alloc, keys, TEXT_BYTES) {
-        Ok(script) => match entries_of(alloc, script.as_slice(), tables) {
+        Ok(script) => match read_script(alloc, script.as_slice(), names) {
             Ok(entries) => Ok(entries),
             Err(error) => Err(script_stop(error)),
         },
-        Err(error) => Err(read_stop(error, Code::P06)),
+        Err(error) => Err(read_stop(error, first_line(Code::P06))),
     }
 }
 
-/// The entries of a script for the keyboard of tables, which has no key names of its own so far.
-fn entries_of(alloc: Global, script: &[u8], tables: &Tables) -> Result<Seq<Entry>, ScriptError>
-    requires { (tab tables.now).dictionary ≡ [] }
-    ensures { Answers (entries (tab tables.now).dictionary script.now) result }
+/// A refusal at line 1.
+fn first_line(code: Code) -> Reason
+    ensures { result ≡ first_line code }
 {
-    let names = KeyDictionary::new(alloc);
-    read_script(alloc, script, &names)
+    Reason::Line(Refusal { line: 1, code })
 }
 
 /// Why a run stops where a source was not compiled.
@@ -118,13 +198,13 @@ fn script_stop(error: ScriptError) -> Stop
     }
 }
 
-/// Why a run stops where an input was not read. A longer file than the limit is refused by this code at line 1.
-fn read_stop(error: ReadError, code: Code) -> Stop
-    ensures { result ≡ read_stop code error }
+/// Why a run stops where an input was not read. A longer one than its limit is refused for this reason.
+fn read_stop(error: ReadError, long: Reason) -> Stop
+    ensures { result ≡ read_stop long error }
 {
     match error {
         ReadError::Failed => Stop::ReadFault,
-        ReadError::Over(_) => Stop::Refused(Reason::Line(Refusal { line: 1, code })),
+        ReadError::Over(_) => Stop::Refused(long),
         ReadError::Memory => Stop::Memory,
     }
 }

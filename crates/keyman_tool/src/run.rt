@@ -105,9 +105,9 @@ fn tell_stop<S: Sink>(alloc: Global, stop: Stop, out: &mut S) -> Status
 #[tactic(auto, using(crate::proofs::PrintingLaws::none_begun))]
 fn tell_compiled<S: Sink>(alloc: Global, compiled: &Compiled, out: &mut S) -> Status
     requires { IsCompiled compiled.now }
-    ensures { Tells Status.Done (compiled_line compiled.now.tables) S.Sink out.old out.new result }
+    ensures { Tells Status.Done (compiled_line compiled.now) S.Sink out.old out.new result }
 {
-    let Ok(line) = compiled_line(alloc, &compiled.tables, compiled.bytes.len()) else {
+    let Ok(line) = compiled_line(alloc, compiled) else {
         return Status::Memory;
     };
     match put_all(out, line.as_slice()) {

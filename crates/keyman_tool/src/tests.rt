@@ -82,12 +82,57 @@ test a.kmn a.kmx a.keys
 
 [K_A]
 0 1 0
-refused N01 line 1~
+refused C01 line 1~
+compile a.kmn a.kmx
+@+ 'a' > call(d)~any(q) + 'b' > 'c'~
+
+0 1 0
+refused C05 line 4~
 test a.kmn a.kmx a.keys
-@+ 'a' > 'b'~+ 'c' > beep~
+@+ 'a' > call(d)~
 [K_A]
 0 1 0
-refused N01 line 4~
+refused C11 line 3~
+compile a.kmn a.kmx
+@store(&version) '5.0'~
+
+0 1 0
+refused C12 line 3~
+compile a.kmn a.kmx
+store(v) 'a' \\~'e' \\~'i' c vowels \\~@+ any(v) > 'x'~
+
+0 0 194
+compiled stores=1 groups=1 rules=3 bytes=194~
+test a.kmn a.kmx a.keys
+@+ 'a' > 'x'~+ [K_A] > 'y'~
+[K_A]
+0 0 146
+1 del=0 ins=0078 pass=0 beep=0 ent=1 ctx=0078~text 0078|-~end events=1 failed=0~
+test a.kmn a.kmx a.keys
+@store(v) \"aea\"~store(w) \"xyz\"~any(v) + '1' > index(w,1)~
+[K_A] [K_1]
+0 0 184
+1 del=0 ins=0061 pass=0 beep=0 ent=1 ctx=0061~2 del=1 ins=0078 pass=0 beep=0 ent=1 ctx=0078~text 0078|-~end events=2 failed=0~
+test a.kmn a.kmx a.keys
+store(k) [K_A] [SHIFT K_A]~store(o) 'xy'~@+ any(k) > index(o,1)~
+[K_A] [SHIFT K_A]
+0 0 206
+1 del=0 ins=0078 pass=0 beep=0 ent=1 ctx=0078~2 del=0 ins=0079 pass=0 beep=0 ent=1 ctx=0078.0079~text 0078.0079|-~end events=2 failed=0~
+compile a.kmn a.kmx
+store(&bitmap) 'p.ico'~@+ 'a' > 'b'~
+
+0 0 150
+compiled stores=1 groups=1 rules=1 bytes=150~
+compile d/a.kmn a.kmx
+store(&bitmap) 'p.ico'~@+ 'a' > 'b'~
+
+0 0 154
+compiled stores=1 groups=1 rules=1 bytes=154~
+compile a.kmn a.kmx
+store(&bitmap) 'q.ico'~@+ 'a' > 'b'~
+
+0 3 0
+
 test a.kmn a.kmx a.keys
 @+ 'a' > 'b'~
 [K_A]~[K_QQ]~
@@ -205,11 +250,18 @@ fn written_out(alloc: Global, text: &str) -> Result<String, Fail> {
     Ok(out)
 }
 
-/// A folder with a source `a.kmn` and a script `a.keys`.
+/// A folder with a script `a.keys`, and the source as `a.kmn` beside a picture of four bytes, and as `d/a.kmn` beside one of
+/// eight.
 fn folder(alloc: Global, source: &[u8], script: &[u8]) -> Result<MemoryFolder, Fail> {
     let mut files = Vec::new(alloc);
     files.push((seq(alloc, b"a.kmn")?, seq(alloc, source)?))?;
     files.push((seq(alloc, b"a.keys")?, seq(alloc, script)?))?;
+    files.push((seq(alloc, b"p.ico")?, seq(alloc, &[0, 1, 2, 3])?))?;
+    files.push((seq(alloc, b"d/a.kmn")?, seq(alloc, source)?))?;
+    files.push((
+        seq(alloc, b"d/p.ico")?,
+        seq(alloc, &[0, 1, 2, 3, 4, 5, 6, 7])?,
+    ))?;
     Ok(MemoryFolder::new(alloc, Seq::from_vec(files), Seq::new(alloc)))
 }
 
@@ -257,7 +309,7 @@ fn runs(rt: HostRuntime) -> Result<(), Fail> {
         assert_eq!(rt; written, size, "{line}: {source}");
         count = u32::saturating_add(count, 1);
     }
-    assert_eq!(rt; count, 30);
+    assert_eq!(rt; count, 39);
     Ok(())
 }
 
@@ -315,4 +367,26 @@ fn long_texts(rt: HostRuntime) -> Result<(), Fail> {
     edit.push_str("'\n")?;
     refused_after(&rt, alloc, edit.as_str(), 243, "[K_A]\n", 244)?;
     refused_after(&rt, alloc, edit.as_str(), 245, "", 245)
+}
+
+/// A picture that passes its limit by one byte.
+#[test]
+fn long_picture(rt: HostRuntime) -> Result<(), Fail> {
+    let alloc = rt.alloc();
+    let source = written_out(alloc, "store(&bitmap) 'p.ico'~@+ 'a' > 'b'~")?;
+    let mut picture = Vec::new(alloc);
+    for _ in 0..1_048_577 {
+        picture.push(0)?;
+    }
+    let mut files = Vec::new(alloc);
+    files.push((seq(alloc, b"a.kmn")?, seq(alloc, source.as_bytes())?))?;
+    files.push((seq(alloc, b"p.ico")?, Seq::from_vec(picture)))?;
+    let mut folder = MemoryFolder::new(alloc, Seq::from_vec(files), Seq::new(alloc));
+    let mut sink = MemorySink::new(alloc, Seq::new(alloc));
+    let words = words(alloc, "compile a.kmn a.kmx")?;
+    let status = run(alloc, words.as_slice(), &mut folder, &mut sink);
+    assert_eq!(rt; status, Status::Refused);
+    assert_eq!(rt; sink.written(), b"refused C24 size 1048577\n".as_slice());
+    assert!(rt; folder.file(b"a.kmx").is_none());
+    Ok(())
 }

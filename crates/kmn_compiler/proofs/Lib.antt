@@ -1,8 +1,6 @@
-pub mod FormParts
-pub mod Records
-pub mod ProgramTables
-pub mod Writing
-pub mod NoPlaces
-pub mod Meaning
-pub mod FormTables
 pub mod Accepted
+pub mod Checks
+pub mod Expanded
+pub mod Meaning
+pub mod NoPlaces
+pub mod PictureNames

@@ -1,4 +1,2 @@
-pub mod CharacterForm
+pub mod Picture
 pub mod Source
-pub mod InOrder
-pub mod Records

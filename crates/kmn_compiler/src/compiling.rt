@@ -1,13 +1,16 @@
-ghost use Rattle.std.specs.Prelude.{◌≡◌, [], Ok};
-ghost use Rattle.kmn_compiler.specs.CharacterForm.{IsCharacterForm, IsSoundProgram};
-ghost use Rattle.kmn_compiler.specs.Source.{CompilesTo, compiled_program};
+ghost use Rattle.std.specs.Prelude.{◌≡◌, None, Ok, IfOk};
+ghost use Rattle.kmn_base.specs.Answers.{Answers};
+ghost use Rattle.compile_laws.specs.Compiles.{Compiles};
+ghost use Rattle.rule_checker.specs.Refused.{IsRead, checked, refused};
+ghost use Rattle.kmn_compiler.specs.Source.{CompilesTo};
 
-use crate::form::outside_form;
-use crate::tables::tables_of;
-use kmn_base::{Code, CompileError, Refusal, Seq};
+use kmn_base::{CompileError, Memory, Seq};
 use kmn_parser::parse;
 use kmx_writer::write;
-use rule_model::{Program, Tables};
+use rule_checker::{Checked, check};
+use rule_expand::expand;
+use rule_model::Tables;
+use rule_order::order;
 use std::alloc::Global;
 
 /// The bytes of a compiled file, and the tables that they were made of.
@@ -17,34 +20,45 @@ pub struct Compiled {
     pub tables: Tables,
 }
 
-/// The compiled file of a program of the form that is built, and for now without a picture. Nothing of the program is
-/// refused, and C23 comes where the file would pass its limit, with its size in bytes.
-pub fn back(alloc: Global, program: &Program, picture: &[u8]) -> Result<Compiled, CompileError>
-    requires form { IsCharacterForm program.now }
-    requires sound { IsSoundProgram program.now }
-    requires no_picture { picture.now ≡ [] }
-    ensures { CompilesTo (Ok program.now) result }
+/// Reads a source and checks it. It is refused by the first rule that it breaks, of its language and of what a keyboard may
+/// have.
+pub fn front(alloc: Global, source: &[u8]) -> Result<Checked, CompileError>
+    ensures { Answers (checked source.now) result }
 {
-    let tables = tables_of(alloc, program)?;
+    match parse(alloc, source) {
+        Ok(program) => check(alloc, program),
+        Err(error) => Err(error),
+    }
+}
+
+/// The tables of a checked program, their records in order.
+fn tables_of(alloc: Global, checked: &Checked) -> Result<Tables, Memory>
+    ensures compiles { IfOk result (λ tables. Compiles checked.now tables) }
+    ensures read { IsRead checked.now }
+    ensures unrefused { refused checked.now ≡ None }
+{
+    let _program = checked.program();
+    let mut tables = expand(alloc, checked)?;
+    order(&mut tables);
+    Ok(tables)
+}
+
+/// The compiled file of a checked program, with any picture. C24 comes where the picture passes its limit, else C23 where
+/// the file would, with the size in bytes.
+pub fn back(alloc: Global, checked: &Checked, picture: &[u8]) -> Result<Compiled, CompileError>
+    ensures { CompilesTo (Ok checked.now) picture.now result }
+{
+    let tables = tables_of(alloc, checked)?;
     let bytes = write(alloc, &tables, picture)?;
     Ok(Compiled { bytes, tables })
 }
 
-/// The compiled file of a source, for now without a picture. The source is refused by the rules of its language, then by N01
-/// at the line of the first statement outside the form that is built; C23 comes where the file would pass its limit.
+/// The compiled file of a source, with any picture: `front` and `back`.
 pub fn compile(alloc: Global, source: &[u8], picture: &[u8]) -> Result<Compiled, CompileError>
-    requires { picture.now ≡ [] }
-    ensures { CompilesTo (compiled_program source.now) result }
+    ensures { CompilesTo (checked source.now) picture.now result }
 {
-    let program = match parse(alloc, source) {
-        Ok(program) => program,
-        Err(error) => return Err(error),
-    };
-    match outside_form(&program) {
-        Some(line) => Err(CompileError::Refused(Refusal {
-            line,
-            code: Code::N01,
-        })),
-        None => back(alloc, &program, picture),
+    match front(alloc, source) {
+        Ok(checked) => back(alloc, &checked, picture),
+        Err(error) => Err(error),
     }
 }

@@ -1,19 +1,18 @@
-//! The compiler: the file of a source, and so far of programs of one form, from characters to characters.
+//! The compiler: the file of a source.
 //!
-//! It stands on `kmn_parser` for the program of a source, `compile_laws` for what a program compiles to, and `kmx_writer` for
-//! the bytes, and owns the form that is compiled (`specs/CharacterForm`). The layer above calls `compile`: its bytes are the
-//! file of the tables that the source's program compiles to, and mean the program, so that both take the same steps whatever
-//! events come; a refusal is the source's first (`specs/Source`). `back` is the part of it behind the reading.
+//! It stands on `kmn_parser` and `rule_checker`, which read a source and refuse what a keyboard may not have, on
+//! `rule_expand` and `rule_order`, which make tables of a checked program, on `kmx_writer` for the bytes, and on
+//! `compile_laws` and `checker_laws` for what holds of such tables. The layer above calls `front`, `picture_name` and
+//! `back`, or `compile`, which is all of it for a picture that is at hand. Its bytes are the file of the tables that the
+//! source's program compiles to, and mean the program, so that both take the same steps whatever events come (`CompilesTo`
+//! of `specs/Source`); a refusal is the source's first.
 #![tactic(auto)]
 
 mod compiling;
-mod expanding;
-mod form;
-mod ordering;
-mod tables;
+mod picture;
 
-pub use compiling::{Compiled, back, compile};
-pub use form::outside_form;
+pub use compiling::{Compiled, back, compile, front};
+pub use picture::picture_name;
 
 #[cfg(test)]
 mod tests;

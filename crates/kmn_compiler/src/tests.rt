@@ -1,4 +1,4 @@
-use crate::{Compiled, compile};
+use crate::{Compiled, compile, front, picture_name};
 use kmn_base::{Code, CompileError, Memory};
 use std::alloc::Global;
 use std::test::Fail;
@@ -19,10 +19,10 @@ fn writes_the_worked_file(rt: HostRuntime) -> Result<(), Fail> {
     Ok(())
 }
 
-/// What a source compiles to: the lines of its records in their order, as digits, or where it is refused.
+/// What a source compiles to: the lines of its records in their order, as digits, and its size; or where it is refused.
 #[derive(Debug, Drop, PartialEq)]
 enum Answer {
-    Records(u64),
+    File(u64, usize),
     Refused(u32, Code),
 }
 
@@ -37,12 +37,12 @@ fn record_lines(compiled: &Compiled) -> u64 {
     lines
 }
 
-/// The answer for a source.
-fn answered(alloc: Global, source: &str) -> Result<Answer, Memory> {
-    match compile(alloc, source.as_bytes(), &[]) {
-        Ok(compiled) => Ok(Answer::Records(record_lines(&compiled))),
+/// The answer for a source with a picture.
+fn answered(alloc: Global, source: &str, picture: &[u8]) -> Result<Answer, Memory> {
+    match compile(alloc, source.as_bytes(), picture) {
+        Ok(compiled) => Ok(Answer::File(record_lines(&compiled), compiled.bytes.len())),
         Err(CompileError::Refused(refusal)) => Ok(Answer::Refused(refusal.line, refusal.code)),
-        Err(CompileError::TooLarge { .. }) => Ok(Answer::Records(0)),
+        Err(CompileError::TooLarge { .. }) => Ok(Answer::File(0, 0)),
         Err(CompileError::Memory) => Err(Memory),
     }
 }
@@ -51,48 +51,69 @@ fn answered(alloc: Global, source: &str) -> Result<Answer, Memory> {
 fn compiles_or_refuses(rt: HostRuntime) -> Result<(), Fail> {
     for (source, expected) in [
         (
-            "begin Unicode>use(g)\ngroup(g) using keys\n+ 'c' > 'x'\n'a' + 'c' > 'y'\n'b' + 'c' > 'z'",
-            Answer::Records(453),
+            "store(v) 'a' \\\n'e' \\\n'i' c vowels \\\nbegin Unicode > use(main)\ngroup(main) using keys\n+ any(v) > 'x'",
+            Answer::File(666, 194),
         ),
         (
-            "begin Unicode>use(G)\ngroup(g) using keys\n'a' + 'b' > U+1F600 'c'",
-            Answer::Records(3),
+            "begin Unicode>use(main)\ngroup(main) using keys\n+ 'c' > 'x'\n'a' + 'c' > 'y'",
+            Answer::File(43, 150),
         ),
         (
-            "begin Unicode>use(g)\ngroup(g) using keys\n+ 'a' > ",
+            "begin Unicode>use(main)\ngroup(main) using keys\n+ 'a' > 'x'\n+ [K_A] > 'y'",
+            Answer::File(34, 146),
+        ),
+        (
+            "store(k) [K_A] [SHIFT K_A]\nstore(o) 'xy'\nbegin Unicode>use(main)\ngroup(main) using keys\n+ any(k) > index(o,1)",
+            Answer::File(55, 206),
+        ),
+        ("", Answer::Refused(1, Code::C01)),
+        (
+            "begin Unicode>use(main)\ngroup(main) using keys\n+ 'a' > ",
             Answer::Refused(3, Code::S06),
         ),
-        ("", Answer::Refused(1, Code::N01)),
         (
-            "begin ANSI>use(g)\ngroup(g) using keys",
-            Answer::Refused(1, Code::N01),
+            "begin Unicode>use(main)\ngroup(main) using keys\n+ 'a' > call(d)\nany(q) + 'b' > 'c'",
+            Answer::Refused(4, Code::C05),
         ),
         (
-            "begin Unicode>use(h)\ngroup(g) using keys",
-            Answer::Refused(1, Code::N01),
+            "begin Unicode>use(main)\ngroup(main) using keys\n+ 'a' > call(d)",
+            Answer::Refused(3, Code::C11),
         ),
         (
-            "begin Unicode>use(g)\ngroup(g)",
-            Answer::Refused(2, Code::N01),
-        ),
-        (
-            "begin Unicode>use(g)\ngroup(g) using keys\n+ 'a' > 'b'\nmatch > 'c'\nstore(v) 'd'",
-            Answer::Refused(4, Code::N01),
-        ),
-        (
-            "begin Unicode>use(g)\ngroup(g) using keys\n+ [K_A] > 'b'",
-            Answer::Refused(3, Code::N01),
-        ),
-        (
-            "begin Unicode>use(g)\ngroup(g) using keys\n+ U+10000 > 'b'",
-            Answer::Refused(3, Code::N01),
-        ),
-        (
-            "begin Unicode>use(g)\ngroup(g) using keys\ndk(a) + 'a' > 'b'",
-            Answer::Refused(3, Code::N01),
+            "begin Unicode>use(main)\ngroup(main) using keys\nstore(&version) '5.0'",
+            Answer::Refused(3, Code::C12),
         ),
     ] {
-        assert_eq!(rt; answered(rt.alloc(), source)?, expected, "{source}");
+        assert_eq!(rt; answered(rt.alloc(), source, &[])?, expected, "{source}");
+    }
+    Ok(())
+}
+
+#[test]
+fn names_its_picture(rt: HostRuntime) -> Result<(), Fail> {
+    let alloc = rt.alloc();
+    for (statements, name, size) in [
+        ("store(&bitmap) 'p.ico'", "p.ico", 150),
+        (
+            "store(n) 'p'\nstore(&bitmap) $n '.ico'\nstore(&bitmap) 'q'",
+            "p.ico",
+            186,
+        ),
+        ("store(&bitmap) ''", "", 138),
+        ("", "", 126),
+    ] {
+        let source = format!(in alloc;
+            "{statements}\nbegin Unicode>use(main)\ngroup(main) using keys\n+ 'a' > 'b'"
+        )?;
+        let checked = front(alloc, source.as_bytes())?;
+        let named = picture_name(alloc, &checked)?;
+        assert_eq!(rt; named.is_some(), !name.is_empty(), "{statements}");
+        if let Some(text) = named {
+            assert_eq!(rt; text.as_slice(), name.as_bytes(), "{statements}");
+        }
+        let answer = answered(alloc, source.as_str(), &[0, 1, 2, 3])?;
+        let line = source.lines().count() as u64;
+        assert_eq!(rt; answer, Answer::File(line, size), "{statements}");
     }
     Ok(())
 }

@@ -1,5 +1,4 @@
-use Rattle.std.proofs.Common.{◌∙◌, List, [], ℕ}
-use Rattle.kmx_format.specs.File.{file_of}
+use Rattle.std.proofs.Common.{List, ℕ}
 use Rattle.rule_model.specs.Tab.{tab}
 use Rattle.rule_model.specs.Trace.{trace}
 use Rattle.rule_model.specs.Transcript.{events_of, transcript}
@@ -16,18 +15,18 @@ pub returns-in-Ok-write : goal.returns-in-Ok-write
 returns-in-Ok-write g c =
     let good : Status = play_status (trace (tab c.in-Ok.prepared.compiled.tables) (events_of c.in-Ok.prepared.entries)) c.in-Ok.prepared.entries in
     let lines : List ℕ = transcript (tab c.in-Ok.prepared.compiled.tables) c.in-Ok.prepared.entries in
-    let bytes : List ℕ = file_of c.in-Ok.prepared.compiled.tables [] in
+    let bytes : List ℕ = c.in-Ok.prepared.compiled.bytes in
     does_as (and_then (job_work c.args.source.now c.args.keys.now) (play_job c.args.file.now)) (test_work c.args.source.now c.args.file.now c.args.keys.now) g.F.Folder _ _ g.S.Sink _ _ c.play_file.result
     (as_meant c.args.source.now c.args.file.now c.args.keys.now)
     (does_behind prepared_job (job_work c.args.source.now c.args.keys.now) (play_job c.args.file.now) g.F.Folder _ _ _ c.in-Ok.prepared g.S.Sink _ _ c.play_file.result c.in-Ok.ensures.gives
     (does_written good lines c.args.file.now bytes c.as_slice.result.now g.F.Folder _ _ g.S.Sink _ _ c.play_file.result _
-    (c.as_slice.ensures ∙ c.in-Ok.ensures.compiled.is) c.in-Ok-write.ensures.counts c.in-Ok-write.ensures.told c.in-Ok-write.ensures.writes c.play_file.ensures))
+    c.as_slice.ensures c.in-Ok-write.ensures.counts c.in-Ok-write.ensures.told c.in-Ok-write.ensures.writes c.play_file.ensures))
 
 pub returns-in-Ok : goal.returns-in-Ok
 returns-in-Ok g c =
     let good : Status = play_status (trace (tab c.in-Ok.prepared.compiled.tables) (events_of c.in-Ok.prepared.entries)) c.in-Ok.prepared.entries in
     let lines : List ℕ = transcript (tab c.in-Ok.prepared.compiled.tables) c.in-Ok.prepared.entries in
-    let bytes : List ℕ = file_of c.in-Ok.prepared.compiled.tables [] in
+    let bytes : List ℕ = c.in-Ok.prepared.compiled.bytes in
     rw c.write_status.ensures
     (does_as (and_then (job_work c.args.source.now c.args.keys.now) (play_job c.args.file.now)) (test_work c.args.source.now c.args.file.now c.args.keys.now) g.F.Folder _ _ g.S.Sink _ _ (write_status c.in-Err-write.error)
     (as_meant c.args.source.now c.args.file.now c.args.keys.now)
