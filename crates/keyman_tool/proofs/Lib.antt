@@ -1,7 +1,10 @@
 pub mod AskedLaws
 pub mod BesideLaws
+pub mod FileRuns
+pub mod Hexadecimal
 pub mod InputLaws
 pub mod MeaningLaws
+pub mod OwnNames
 pub mod PlayingLaws
 pub mod PrintingLaws
 pub mod RunLaws

@@ -6,6 +6,8 @@ use Rattle.kmn_base.specs.declared.codes.Code.{Code}
 use Rattle.kmn_outside.specs.Outside.{Files}
 use Rattle.kmx_format.specs.File.{all_rules}
 use Rattle.rule_model.specs.Keyboard.{Keyboard}
+use Rattle.rule_model.specs.Lines.{hexadecimal}
+use Rattle.rule_model.specs.declared.tables.Tables.{Tables}
 use Rattle.rule_model.specs.Trace.{Trace, trace}
 use Rattle.rule_model.specs.Transcript.{events_of, transcript}
 use Rattle.rule_model.specs.declared.script.Entry.{Entry}
@@ -45,6 +47,19 @@ compiled_line compiled = concat (
 abbrev pub compile_ending : List ℕ → Compiled → Ending
 compile_ending name compiled = record { status = status.Done; file = Some (name, compiled.bytes); printed = compiled_line compiled }
 
+-- what is printed of a valid file: its version and its counts
+unfoldable pub valid_line : Tables → List ℕ
+valid_line tables = concat (
+    codes "valid version=" ∷ hexadecimal tables.version
+    ∷ codes " stores=" ∷ decimal (length tables.stores)
+    ∷ codes " groups=" ∷ decimal (length tables.groups)
+    ∷ codes " rules=" ∷ decimal (length (all_rules tables))
+    ∷ codes "\n" ∷ [])
+
+-- a verification prints the line of the file
+abbrev pub verify_ending : Tables → Ending
+verify_ending tables = record { status = status.Done; file = None; printed = valid_line tables }
+
 -- a play ends with the refusal of an event, or with expected texts that differed, or well
 abbrev pub ended_status : Option (ℕ × Code) → ℕ → Status
 ended_status (Some refused) failed = status.Refused
@@ -53,6 +68,10 @@ ended_status None (suc failed) = status.ExpectFailed
 
 abbrev pub play_status : Trace → List Entry → Status
 play_status traced entries = ended_status traced.refused (failures traced entries)
+
+-- a play prints what a keyboard does with the script, and writes no file
+abbrev pub play_ending : Keyboard → List Entry → Ending
+play_ending kb entries = record { status = play_status (trace kb (events_of entries)) entries; file = None; printed = transcript kb entries }
 
 -- a compiled file and the script to play on it
 pub record Job : Type 0 where

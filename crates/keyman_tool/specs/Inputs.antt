@@ -1,16 +1,20 @@
 -- What the inputs of a command state.
 use Rattle.std.specs.Prelude.{ℕ, List, Option, Some, None, Result, Ok, Err}
 use Rattle.kmn_base.specs.declared.codes.Code.{Code}
-use Rattle.kmn_base.specs.declared.codes.Code.TheVariants.{C24, L05, P06}
+use Rattle.kmn_base.specs.declared.codes.Code.TheVariants.{C24, L05, P06, V15}
 use Rattle.kmn_base.specs.declared.refusals.Refusal.{Refusal}
 use Rattle.rule_model.specs.declared.program.Program.{Program}
 use Rattle.rule_model.specs.declared.script.Entry.{Entry}
+use Rattle.rule_model.specs.declared.tables.Tables.{Tables}
 use Rattle.compile_laws.specs.Ordered.{compiled_tables}
 use Rattle.kmx_format.specs.File.{file_of}
 use Rattle.kmx_writer.specs.Excess.{excess}
 use Rattle.rule_checker.specs.Refused.{checked}
 use Rattle.kmn_compiler.specs.declared.compiling.Compiled.{Compiled}
 use Rattle.play_script.specs.Entries.{entries}
+use Rattle.kmx_format.specs.TablesOf.{tables_of}
+use Rattle.kmx_verifier.specs.declared.faults.Fault.{Fault}
+use Rattle.kmx_verifier.specs.FaultOf.{fault_of}
 use Rattle.keyman_tool.specs.declared.reason.Reason.{Reason}
 use Rattle.keyman_tool.specs.declared.reason.Reason.TheVariants as reason
 use Rattle.keyman_tool.specs.Work.{Reading}
@@ -52,3 +56,17 @@ pictured_within program picture = unless_large (record { program = program; pict
 abbrev pub script_of : List (List ℕ) → Reading → Result (List Entry) Reason
 script_of dictionary (Bytes script) = by_line (entries dictionary script)
 script_of dictionary (Over size) = Err (reason.Line (record { line = 1; code = P06 }))
+
+-- the bytes of a file, unless they are too many
+abbrev pub bytes_of : Reading → Result (List ℕ) Reason
+bytes_of (Bytes bytes) = Ok bytes
+bytes_of (Over size) = Err (reason.File (record { code = V15; at = 0; unit = 0 }))
+
+-- tables, unless their file has a fault
+abbrev pub unless_faulty : Tables → Option Fault → Result Tables Reason
+unless_faulty tables None = Ok tables
+unless_faulty tables (Some fault) = Err (reason.File fault)
+
+-- the tables of a valid file, or the first fault
+abbrev pub tables_of_file : List ℕ → Result Tables Reason
+tables_of_file bytes = unless_faulty (tables_of bytes) (fault_of bytes)

@@ -1,16 +1,18 @@
 -- The order of work of each command.
 use Rattle.std.specs.Prelude.{ℕ, List, [], Option, Some, None}
-use Rattle.kmn_base.specs.declared.limits.TheConstants.{PICTURE_BYTES, TEXT_BYTES}
+use Rattle.kmn_base.specs.declared.limits.TheConstants.{FILE_BYTES, PICTURE_BYTES, TEXT_BYTES}
 use Rattle.rule_model.specs.Src.{src}
+use Rattle.rule_model.specs.Tab.{tab}
 use Rattle.rule_model.specs.declared.program.Program.{Program}
 use Rattle.rule_model.specs.declared.script.Entry.{Entry}
+use Rattle.rule_model.specs.declared.tables.Tables.{Tables}
 use Rattle.kmn_compiler.specs.Picture.{picture_name}
 use Rattle.kmn_compiler.specs.declared.compiling.Compiled.{Compiled}
 use Rattle.keyman_tool.specs.Beside.{beside}
 use Rattle.keyman_tool.specs.Command.{Request}
-use Rattle.keyman_tool.specs.Command.Request.{Compile, Test}
-use Rattle.keyman_tool.specs.Endings.{Ending, Job, compile_ending, test_ending, words_ending}
-use Rattle.keyman_tool.specs.Inputs.{Pictured, file_from, picture_of, pictured_within, program_of, script_of}
+use Rattle.keyman_tool.specs.Command.Request.{Compile, Play, Test, Verify}
+use Rattle.keyman_tool.specs.Endings.{Ending, Job, compile_ending, play_ending, test_ending, verify_ending, words_ending}
+use Rattle.keyman_tool.specs.Inputs.{Pictured, file_from, picture_of, pictured_within, program_of, script_of, bytes_of, tables_of_file}
 use Rattle.keyman_tool.specs.Work.{Work, given, and_then}
 use Rattle.keyman_tool.specs.Work.Work.{Give, Read}
 
@@ -63,8 +65,35 @@ test_work source file keys =
     and_then (script_work (src pictured.program).dictionary keys) (λ entries.
     Give (test_ending file (file_from pictured).bytes (src pictured.program) entries)))
 
+-- read a compiled file
+abbrev pub bytes_work : (file : List ℕ) → Work (List ℕ)
+bytes_work file = Read file FILE_BYTES (λ reading. given (bytes_of reading))
+
+-- `verify FILE`: read the file, print its version and counts
+abbrev pub verify_work : (file : List ℕ) → Work Ending
+verify_work file =
+    and_then (bytes_work file) (λ bytes.
+    and_then (given (tables_of_file bytes)) (λ tables.
+    Give (verify_ending tables)))
+
+-- read a script for the keyboard of tables, print what the keyboard does with it
+abbrev pub tables_play_work : Tables → (keys : List ℕ) → Work Ending
+tables_play_work tables keys =
+    and_then (script_work (tab tables).dictionary keys) (λ entries.
+    Give (play_ending (tab tables) entries))
+
+-- see that bytes are a valid file, and play a script on it
+abbrev pub bytes_play_work : (bytes keys : List ℕ) → Work Ending
+bytes_play_work bytes keys = and_then (given (tables_of_file bytes)) (λ tables. tables_play_work tables keys)
+
+-- `play FILE KEYS`: read the file, read the script, print what the file's keyboard does with the script
+abbrev pub play_work : (file keys : List ℕ) → Work Ending
+play_work file keys = and_then (bytes_work file) (λ bytes. bytes_play_work bytes keys)
+
 -- the work that words ask for
 abbrev pub work_of : Option Request → Work Ending
 work_of None = Give words_ending
 work_of (Some (Compile source file)) = compile_work source file
 work_of (Some (Test source file keys)) = test_work source file keys
+work_of (Some (Verify file)) = verify_work file
+work_of (Some (Play file keys)) = play_work file keys

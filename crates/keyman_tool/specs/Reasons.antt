@@ -1,9 +1,10 @@
 -- The line that is printed of a reason.
-use Rattle.std.specs.Prelude.{ℕ, List, [], ◌∷◌, codes}
+use Rattle.std.specs.Prelude.{ℕ, ◌-◌, true, nat_eq, if◌then◌else◌, List, [], ◌∷◌, ◌++◌, length, replicate, codes}
 use Rattle.std.specs.List.{concat}
-use Rattle.std.specs.Fmt.{decimal}
+use Rattle.std.specs.Fmt.{decimal, digits}
 use Rattle.kmn_base.specs.CodeTexts.{code_text}
 use Rattle.kmn_base.specs.declared.codes.Code.{Code}
+use Rattle.kmx_verifier.specs.declared.faults.Fault.{Fault}
 use Rattle.rule_model.specs.Lines.{refusal_line}
 use Rattle.keyman_tool.specs.declared.reason.Reason.{Reason}
 use Rattle.keyman_tool.specs.declared.reason.Reason.TheVariants as reason
@@ -12,7 +13,16 @@ use Rattle.keyman_tool.specs.declared.reason.Reason.TheVariants as reason
 unfoldable pub size_line : Code → ℕ → List ℕ
 size_line code size = concat (codes "refused " ∷ code_text code ∷ codes " size " ∷ decimal size ∷ codes "\n" ∷ [])
 
+-- the code of an item that a fault names, in upper-case hexadecimal with at least two digits
+abbrev pub named_code : ℕ → List ℕ
+named_code unit = if nat_eq unit 0 then [] else codes " code " ++ (replicate (2 - length (digits 16 true unit)) 48 ++ digits 16 true unit)
+
+-- the rule that a file breaks, and the place in bytes
+unfoldable pub fault_line : Fault → List ℕ
+fault_line fault = concat (codes "refused " ∷ code_text fault.code ∷ codes " at " ∷ decimal fault.at ∷ named_code fault.unit ∷ codes "\n" ∷ [])
+
 -- a reason's line
 abbrev pub reason_line : Reason → List ℕ
 reason_line (reason.Line refusal) = refusal_line refusal
 reason_line (reason.Size code size) = size_line code size
+reason_line (reason.File fault) = fault_line fault

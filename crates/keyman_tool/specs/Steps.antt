@@ -8,8 +8,8 @@ use Rattle.kmn_outside.specs.declared.traits.WriteError.{WriteError}
 use Rattle.kmn_outside.specs.declared.traits.WriteError.TheVariants as write
 use Rattle.kmn_outside.specs.declared.traits.ReadError.{ReadError}
 use Rattle.kmn_outside.specs.declared.traits.ReadError.TheVariants as read
-use Rattle.rule_model.specs.declared.script.Entry.{Entry}
 use Rattle.rule_model.specs.Tab.{tab}
+use Rattle.rule_model.specs.declared.tables.Tables.{Tables}
 use Rattle.kmx_format.specs.TablesOf.{tables_of}
 use Rattle.kmx_format.specs.Writable.{IsFile, IsWritable}
 use Rattle.play_script.specs.declared.errors.ScriptError.{ScriptError}
@@ -23,7 +23,7 @@ use Rattle.keyman_tool.specs.declared.reason.Reason.TheVariants as reason
 use Rattle.keyman_tool.specs.declared.status.Status.{Status}
 use Rattle.keyman_tool.specs.declared.status.Status.TheVariants as status
 use Rattle.keyman_tool.specs.Asked.{Ask}
-use Rattle.keyman_tool.specs.Endings.{Job}
+use Rattle.keyman_tool.specs.Endings.{Job, valid_line}
 use Rattle.keyman_tool.specs.Printing.{IsBegun}
 use Rattle.keyman_tool.specs.Reasons.{reason_line}
 use Rattle.keyman_tool.specs.Run.{HasRead, HasBegunToRead, HasFailedToRead}
@@ -108,6 +108,11 @@ abbrev pub TellsStop : {S : Type 0} → Stop → SinkView S → S → S → Stat
 TellsStop (stop.Refused why) sinks out out_after s = Tells status.Refused (reason_line why) sinks out out_after s
 TellsStop stop.ReadFault sinks out out_after s = (s ≡ status.ReadFault) × (out_after ≡ out)
 TellsStop stop.Memory sinks out out_after s = (s ≡ status.Memory) × (out_after ≡ out)
+
+-- what is printed of a file: the line of its tables, or of its fault
+abbrev pub TellsFile : {S : Type 0} → Result Tables Reason → SinkView S → S → S → Status → Type 0
+TellsFile (Ok tables) sinks out out_after s = Tells status.Done (valid_line tables) sinks out out_after s
+TellsFile (Err why) sinks out out_after s = Tells status.Refused (reason_line why) sinks out out_after s
 
 -- the status of a run that ends with a write or a put that didn't succeed
 abbrev pub write_status : WriteError → Status

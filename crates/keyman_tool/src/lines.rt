@@ -7,6 +7,7 @@ ghost use Rattle.keyman_tool.specs.Reasons.{reason_line, size_line};
 ghost use Rattle.keyman_tool.specs.Endings.{compiled_line};
 ghost use Rattle.rule_model.specs.Lines.{refusal_line};
 
+use crate::file_lines::fault_line;
 use crate::reason::Reason;
 use kmn_base::{Code, Memory, Refusal, Seq, Text};
 use kmn_compiler::Compiled;
@@ -44,6 +45,7 @@ pub fn reason_line(alloc: Global, why: Reason) -> Result<Text, Memory>
     match why {
         Reason::Line(refusal) => refusal_line(alloc, refusal),
         Reason::Size { code, size } => size_line(alloc, code, size),
+        Reason::File(fault) => fault_line(alloc, fault),
     }
 }
 

@@ -1,12 +1,15 @@
-//! The program: it compiles keyboard sources and plays key presses on the compiled files.
+//! The program: it compiles keyboard sources, verifies compiled files and plays key presses on them.
 //!
 //! It stands on every other crate. `run` does one command over a folder and a sink. `specs/Orders` has the order of work of
 //! each command as a value: which file is read first, how it goes on by what came, and how it ends. `specs/Run` says once
 //! what a run of such work asks for, leaves and answers (`Does`); each command's contract is its row, and `run` says the
-//! whole by name. `main` calls it over the real files and standard output. Two commands are built, `compile` and `test`.
+//! whole by name. `main` calls it over the real files and standard output. Four commands are built: `compile`, `verify`,
+//! `play` and `test`.
 #![tactic(auto)]
 
 mod command;
+mod file_keys;
+mod file_lines;
 mod file_names;
 mod lines;
 mod playing;

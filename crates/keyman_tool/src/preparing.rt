@@ -1,15 +1,19 @@
 ghost use Rattle.std.specs.Prelude.{◌≡◌, Some, IfOk};
+ghost use Rattle.kmx_format.specs.TablesOf.{tables_of};
 ghost use Rattle.rule_model.specs.Src.{src};
+ghost use Rattle.rule_model.specs.Tab.{tab};
 ghost use Rattle.kmn_compiler.specs.Picture.{picture_name};
-ghost use Rattle.keyman_tool.specs.Orders.{compiled_work, file_work, job_work, picture_work, script_work, source_work};
+ghost use Rattle.keyman_tool.specs.Orders.{bytes_work, compiled_work, file_work, job_work, picture_work, script_work, source_work};
 ghost use Rattle.keyman_tool.specs.Steps.{Gives, IsCompiled, itself, prepared_job, compile_stop, script_stop, first_line, read_stop};
 
+use crate::file_keys::own_keys;
 use crate::file_names::beside;
 use crate::reason::Reason;
-use kmn_base::limits::{PICTURE_BYTES, TEXT_BYTES};
+use kmn_base::limits::{FILE_BYTES, PICTURE_BYTES, TEXT_BYTES};
 use kmn_base::{Code, CompileError, Memory, Refusal, Seq};
 use kmn_compiler::{Compiled, back, front, picture_name};
 use kmn_outside::{Folder, ReadError};
+use kmx_verifier::{Fault, Verified};
 use play_script::{ScriptError, read_script};
 use rule_checker::Checked;
 use rule_model::Entry;
@@ -168,6 +172,38 @@ fn read_entries<F: Folder>(
         },
         Err(error) => Err(read_stop(error, first_line(Code::P06))),
     }
+}
+
+/// Why a compiled file that passes its limit is refused.
+const LONG_FILE: Reason = Reason::File(Fault {
+    code: Code::V15,
+    at: 0,
+    unit: 0,
+});
+
+/// Reads the compiled file of a name.
+pub fn read_file<F: Folder>(alloc: Global, name: &[u8], folder: &mut F) -> Result<Seq<u8>, Stop>
+    ensures { Gives itself (bytes_work name.now) F.Folder folder.old folder.new result }
+{
+    match folder.read(alloc, name, FILE_BYTES) {
+        Ok(bytes) => Ok(bytes),
+        Err(error) => Err(read_stop(error, LONG_FILE)),
+    }
+}
+
+/// Reads the script of a name for the keyboard of a valid file.
+pub fn read_own_entries<F: Folder>(
+    alloc: Global,
+    file: &Verified<'_>,
+    keys: &[u8],
+    folder: &mut F,
+) -> Result<Seq<Entry>, Stop>
+    ensures { Gives itself (script_work (tab (tables_of file.now)).dictionary keys.now) F.Folder folder.old folder.new result }
+{
+    let Ok(names) = own_keys(alloc, file) else {
+        return Err(Stop::Memory);
+    };
+    read_entries(alloc, keys, &names, folder)
 }
 
 /// A refusal at line 1.

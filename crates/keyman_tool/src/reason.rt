@@ -1,10 +1,13 @@
 use kmn_base::{Code, Refusal};
+use kmx_verifier::Fault;
 
-/// Why a source or a script is refused before anything is written.
+/// Why a source, a script or a file is refused before anything is written.
 #[derive(Clone, Copy, Debug, PartialEq, Eq)]
 pub enum Reason {
     /// A rule is broken in a line.
     Line(Refusal),
     /// The file would pass a limit; the size is in bytes.
     Size { code: Code, size: u64 },
+    /// A compiled file breaks a rule at a place.
+    File(Fault),
 }

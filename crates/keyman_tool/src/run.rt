@@ -1,28 +1,32 @@
 ghost use Rattle.std.specs.Prelude.{◌≡◌, ◌⊎◌, ◌↔◌, false, IsTrue, IsSomeAnd};
 ghost use Rattle.kmn_outside.specs.Outside.{Rose};
+ghost use Rattle.kmx_format.specs.TablesOf.{tables_of};
 ghost use Rattle.rule_model.specs.Tab.{tab};
 ghost use Rattle.rule_model.specs.Trace.{trace};
 ghost use Rattle.rule_model.specs.Transcript.{events_of, transcript};
 ghost use Rattle.keyman_tool.specs.Asked.{AsksBy};
 ghost use Rattle.keyman_tool.specs.Command.{is_form, request_of};
-ghost use Rattle.keyman_tool.specs.Endings.{asked, ends, compiled_line, play_status};
-ghost use Rattle.keyman_tool.specs.Orders.{compile_work, test_work, work_of};
+ghost use Rattle.keyman_tool.specs.Endings.{asked, ends, compiled_line, valid_line, play_status};
+ghost use Rattle.keyman_tool.specs.Orders.{bytes_play_work, compile_work, play_work, tables_play_work, test_work, verify_work, work_of};
+ghost use Rattle.keyman_tool.specs.Inputs.{tables_of_file};
 ghost use Rattle.keyman_tool.specs.Reasons.{reason_line};
 ghost use Rattle.keyman_tool.specs.Run.{Does, FaultCounts, FileMeans, Leaves};
 ghost use Rattle.keyman_tool.specs.Seen.{seen_folder, seen_sink};
-ghost use Rattle.keyman_tool.specs.Steps.{IsCompiled, Tells, TellsStop, write_status};
+ghost use Rattle.keyman_tool.specs.Steps.{IsCompiled, Tells, TellsFile, TellsStop, write_status};
 
 use crate::command::{Command, command_of};
+use crate::file_lines::valid_line;
 use crate::lines::{compiled_line, reason_line};
 use crate::playing::play;
-use crate::preparing::{Prepared, Stop, prepare, read_and_compile};
+use crate::preparing::{Prepared, Stop, prepare, read_and_compile, read_file, read_own_entries};
 use crate::printing::put_all;
 use crate::reason::Reason;
 use crate::status::Status;
-use kmn_base::{Memory, Text};
+use kmn_base::Text;
 use kmn_compiler::Compiled;
 use kmn_outside::{Folder, Sink, WriteError};
-use kmx_verifier::adopt;
+use kmx_verifier::{Verified, VerifyError, verify};
+use rule_model::Entry;
 use std::alloc::Global;
 
 /// Runs the command that the words are, over a folder and a sink. The order of its work is `work_of` of the words.
@@ -47,6 +51,8 @@ pub fn run<F: Folder, S: Sink>(alloc: Global, words: &[Text], folder: &mut F, ou
     match command_of(words) {
         Some(Command::Compile { source, file }) => compile(alloc, source, file, folder, out),
         Some(Command::Test { source, file, keys }) => test(alloc, source, file, keys, folder, out),
+        Some(Command::Verify { file }) => verify_file(alloc, file, folder, out),
+        Some(Command::Play { file, keys }) => play_on_file(alloc, file, keys, folder, out),
         None => Status::Words,
     }
 }
@@ -90,6 +96,114 @@ fn test<F: Folder, S: Sink>(
     }
 }
 
+/// Verifies a file, and prints its version and counts or its first fault.
+fn verify_file<F: Folder, S: Sink>(
+    alloc: Global,
+    file: &[u8],
+    folder: &mut F,
+    out: &mut S,
+) -> Status
+    ensures { Does (verify_work file.now) F.Folder folder.old folder.new S.Sink out.old out.new result }
+{
+    match read_file(alloc, file, folder) {
+        Ok(bytes) => tell_file(alloc, bytes.as_slice(), out),
+        Err(stop) => tell_stop(alloc, stop, out),
+    }
+}
+
+/// Prints the version and counts of a file, or its first fault.
+#[tactic(auto, using(crate::proofs::FileRuns::tells_valid, crate::proofs::FileRuns::tells_faulty, crate::proofs::FileRuns::tells_nothing))]
+fn tell_file<S: Sink>(alloc: Global, bytes: &[u8], out: &mut S) -> Status
+    ensures { TellsFile (tables_of_file bytes.now) S.Sink out.old out.new result }
+{
+    match verify(alloc, bytes) {
+        Ok(file) => tell_valid(alloc, &file, out),
+        Err(VerifyError::Refused(fault)) => refuse(alloc, Reason::File(fault), out),
+        Err(VerifyError::Memory) => Status::Memory,
+    }
+}
+
+/// Prints the version and the counts of a valid file.
+#[tactic(auto, using(crate::proofs::PrintingLaws::none_begun))]
+fn tell_valid<S: Sink>(alloc: Global, file: &Verified<'_>, out: &mut S) -> Status
+    ensures { Tells Status.Done (valid_line (tables_of file.now)) S.Sink out.old out.new result }
+{
+    let Ok(line) = valid_line(alloc, file) else {
+        return Status::Memory;
+    };
+    match put_all(out, line.as_slice()) {
+        Ok(()) => Status::Done,
+        Err(error) => write_status(error),
+    }
+}
+
+/// Plays a script on a compiled file, whoever made it.
+fn play_on_file<F: Folder, S: Sink>(
+    alloc: Global,
+    file: &[u8],
+    keys: &[u8],
+    folder: &mut F,
+    out: &mut S,
+) -> Status
+    ensures { Does (play_work file.now keys.now) F.Folder folder.old folder.new S.Sink out.old out.new result }
+{
+    match read_file(alloc, file, folder) {
+        Ok(bytes) => play_on_bytes(alloc, bytes.as_slice(), keys, folder, out),
+        Err(stop) => tell_stop(alloc, stop, out),
+    }
+}
+
+/// Plays a script on the bytes of a file, or prints the file's first fault.
+#[tactic(auto, using(crate::proofs::FileRuns::plays_valid, crate::proofs::FileRuns::plays_faulty, crate::proofs::FileRuns::does_no_memory))]
+fn play_on_bytes<F: Folder, S: Sink>(
+    alloc: Global,
+    bytes: &[u8],
+    keys: &[u8],
+    folder: &mut F,
+    out: &mut S,
+) -> Status
+    ensures { Does (bytes_play_work bytes.now keys.now) F.Folder folder.old folder.new S.Sink out.old out.new result }
+{
+    match verify(alloc, bytes) {
+        Ok(file) => play_on_valid(alloc, &file, keys, folder, out),
+        Err(VerifyError::Refused(fault)) => refuse(alloc, Reason::File(fault), out),
+        Err(VerifyError::Memory) => Status::Memory,
+    }
+}
+
+/// Reads a script for the keyboard of a valid file, and plays it.
+fn play_on_valid<'a, F: Folder, S: Sink>(
+    alloc: Global,
+    file: &'a Verified<'a>,
+    keys: &[u8],
+    folder: &mut F,
+    out: &mut S,
+) -> Status
+    ensures { Does (tables_play_work (tables_of file.now) keys.now) F.Folder folder.old folder.new S.Sink out.old out.new result }
+{
+    match read_own_entries(alloc, file, keys, folder) {
+        Ok(entries) => tell_played(alloc, file, entries.as_slice(), out),
+        Err(stop) => tell_stop(alloc, stop, out),
+    }
+}
+
+/// Prints what the keyboard of a valid file does with a script.
+#[tactic(auto, using(crate::proofs::PrintingLaws::none_begun))]
+fn tell_played<'a, S: Sink>(
+    alloc: Global,
+    file: &'a Verified<'a>,
+    entries: &[Entry],
+    out: &mut S,
+) -> Status
+    ensures { Tells (play_status (trace (tab (tables_of file.now)) (events_of entries.now)) entries.now)
+        (transcript (tab (tables_of file.now)) entries.now) S.Sink out.old out.new result }
+{
+    match play(alloc, file, entries, out) {
+        Ok(status) => status,
+        Err(error) => write_status(error),
+    }
+}
+
 /// Ends a run that stops before it writes: prints the line of a reason, and nothing after a fault.
 fn tell_stop<S: Sink>(alloc: Global, stop: Stop, out: &mut S) -> Status
     ensures { TellsStop stop S.Sink out.old out.new result }
@@ -123,9 +237,10 @@ fn play_file<S: Sink>(alloc: Global, prepared: &Prepared, out: &mut S) -> Status
     ensures { Tells (play_status (trace (tab prepared.now.compiled.tables) (events_of prepared.now.entries)) prepared.now.entries)
         (transcript (tab prepared.now.compiled.tables) prepared.now.entries) S.Sink out.old out.new result }
 {
-    let file = match adopt(alloc, prepared.compiled.bytes.as_slice()) {
+    let file = match verify(alloc, prepared.compiled.bytes.as_slice()) {
         Ok(file) => file,
-        Err(Memory) => return Status::Memory,
+        Err(VerifyError::Refused(_)) => unreachable!(),
+        Err(VerifyError::Memory) => return Status::Memory,
     };
     match play(alloc, &file, prepared.entries.as_slice(), out) {
         Ok(status) => status,

@@ -209,6 +209,119 @@ compile a.kmn a.kmx
 1 4 122
 ";
 
+/// Runs on a compiled file, each in six lines: the words, the source of the file, the pieces of it that stand in `a.kmx`, the
+/// script, the exit status, and what is printed. `FROM-TO` is a part of the file, and four hexadecimal digits are a unit.
+const FILE_RUNS: &str = "\
+verify a.kmx
+@+ 'a' > 'b'~
+0-122
+
+0
+valid version=0A00 stores=0 groups=1 rules=1~
+verify a.kmx
+@+ 'a' > 'b'~
+0-63
+
+1
+refused V01 at 63~
+verify a.kmx
+@+ 'a' > 'b'~
+0-120
+
+1
+refused V10 at 100~
+verify a.kmx
+@+ 'a' > 'b'~
+0-118 FFFF 000F 0001 0000
+
+1
+refused V14 at 118 code 0F~
+verify a.kmx
+@+ 'a' > 'b'~
+0-118 FFFF 0013 0001 0001 0000
+
+1
+refused V12 at 118~
+verify a.kmx
+@+ 'a' > 'b'~
+0-118 FFFF 0005 0000
+
+1
+refused V11 at 118~
+verify a.kmx
+@+ 'c' > 'x'~'a' + 'c' > 'y'~
+0-88 108-128 88-108 128-150
+
+0
+valid version=0A00 stores=0 groups=1 rules=2~
+verify a.kmx
+store(k) [K_A] [SHIFT K_A]~store(o) 'xy'~@+ any(k) > index(o,1)~
+0-68 0000 0000 72-80 0000 0000 84-88 0000 0000 92-206
+
+0
+valid version=0A00 stores=2 groups=1 rules=2~
+verify b.kmx
+@+ 'a' > 'b'~
+0-122
+
+3
+
+verify a.kmx a.keys
+@+ 'a' > 'b'~
+0-122
+
+2
+
+play a.kmx a.keys
+@+ 'c' > 'x'~'a' + 'c' > 'y'~
+0-88 108-128 88-108 128-150
+[K_A] [K_C]
+0
+1 del=0 ins=0061 pass=0 beep=0 ent=1 ctx=0061~2 del=0 ins=0078 pass=0 beep=0 ent=1 ctx=0061.0078~text 0061.0078|-~end events=2 failed=0~
+play a.kmx a.keys
+store(k) [K_A] [SHIFT K_A]~store(o) 'xy'~@+ any(k) > index(o,1)~
+0-68 0000 0000 72-80 0000 0000 84-88 0000 0000 92-206
+[K_A] [SHIFT K_A]
+0
+1 del=0 ins=0078 pass=0 beep=0 ent=1 ctx=0078~2 del=0 ins=0079 pass=0 beep=0 ent=1 ctx=0078.0079~text 0078.0079|-~end events=2 failed=0~
+play a.kmx a.keys
+@+ [T_one] > 'x'~+ [T_two] > 'y'~
+0-9999
+[t_TWO]~expect 'x'
+6
+1 del=0 ins=0079 pass=0 beep=0 ent=1 ctx=0079~expect failed line=2~text 0079|-~end events=1 failed=1~
+play a.kmx a.keys
+@+ 'a' > 'b'~
+0-122
+[T_one]
+1
+refused P03 line 1~
+play a.kmx a.keys
+@+ 'a' > 'b'~
+0-122
+caret 5
+1
+refused E1 event 1~
+play a.kmx a.keys
+@+ 'a' > 'b'~
+0-63
+[T_one]
+1
+refused V01 at 63~
+play a.kmx b.keys
+@+ 'a' > 'b'~
+0-122
+
+3
+
+play a.kmx
+@+ 'a' > 'b'~
+0-122
+
+2
+
+";
+
 /// The file of `SOURCE`.
 const FILE: [u8; 122] = [
     0x4B, 0x58, 0x54, 0x53, 0x00, 0x0A, 0x00, 0x00, 0x00, 0x00, 0x00, 0x00, 0x00, 0x00, 0x00, 0x00,
@@ -310,6 +423,77 @@ fn runs(rt: HostRuntime) -> Result<(), Fail> {
         count = u32::saturating_add(count, 1);
     }
     assert_eq!(rt; count, 39);
+    Ok(())
+}
+
+/// The bytes that pieces make of a file.
+fn pieced(alloc: Global, file: &[u8], pieces: &str) -> Result<Seq<u8>, Fail> {
+    let mut bytes = Vec::new(alloc);
+    for piece in pieces.split(' ') {
+        if let Some((from, to)) = piece.split_once('-') {
+            let from = from.parse::<usize>().unwrap_or(0);
+            let to = to.parse::<usize>().unwrap_or(0).min(file.len());
+            bytes.extend_from_slice(file.get(from..to).unwrap_or(&[]))?;
+        } else {
+            let unit = u16::from_str_radix(piece, 16).unwrap_or(0);
+            bytes.extend_from_slice(&unit.to_le_bytes())?;
+        }
+    }
+    Ok(Seq::from_vec(bytes))
+}
+
+/// The file that a source is compiled to.
+fn compiled(alloc: Global, source: &[u8]) -> Result<Seq<u8>, Fail> {
+    let mut folder = folder(alloc, source, b"")?;
+    let mut sink = MemorySink::new(alloc, Seq::new(alloc));
+    let words = words(alloc, "compile a.kmn a.kmx")?;
+    run(alloc, words.as_slice(), &mut folder, &mut sink);
+    seq(alloc, folder.file(b"a.kmx").unwrap_or(&[]))
+}
+
+#[test]
+fn runs_on_files(rt: HostRuntime) -> Result<(), Fail> {
+    let alloc = rt.alloc();
+    let mut lines = FILE_RUNS.split('\n');
+    let mut count = 0;
+    while let (
+        Some(line),
+        Some(source),
+        Some(pieces),
+        Some(script),
+        Some(status),
+        Some(printed),
+    ) = (
+        lines.next(),
+        lines.next(),
+        lines.next(),
+        lines.next(),
+        lines.next(),
+        lines.next(),
+    ) {
+        let source = written_out(alloc, source)?;
+        let script = written_out(alloc, script)?;
+        let printed = written_out(alloc, printed)?;
+        let file = compiled(alloc, source.as_bytes())?;
+        let mut files = Vec::new(alloc);
+        files.push((
+            seq(alloc, b"a.kmx")?,
+            pieced(alloc, file.as_slice(), pieces)?,
+        ))?;
+        files.push((seq(alloc, b"a.keys")?, seq(alloc, script.as_bytes())?))?;
+        let mut folder = MemoryFolder::new(alloc, Seq::from_vec(files), Seq::new(alloc));
+        let mut sink = MemorySink::new(alloc, Seq::new(alloc));
+        let words = words(alloc, line)?;
+        let ended = run(alloc, words.as_slice(), &mut folder, &mut sink);
+        assert_eq!(rt;
+            ended.number(),
+            status.parse::<u8>().unwrap_or(u8::MAX),
+            "{line} {pieces}"
+        );
+        assert_eq!(rt; sink.written(), printed.as_bytes(), "{line} {pieces}");
+        count = u32::saturating_add(count, 1);
+    }
+    assert_eq!(rt; count, 18);
     Ok(())
 }
 

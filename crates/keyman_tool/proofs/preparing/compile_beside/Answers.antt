@@ -1,10 +1,9 @@
 use Rattle.std.proofs.Common.{List, ℕ, sym, subst, Ok, Err}
 use Rattle.kmn_compiler.specs.Picture.{picture_name}
 use Rattle.kmn_compiler.specs.Source.{CompilesTo}
-use Rattle.kmn_compiler.specs.declared.compiling.Compiled.{Compiled}
 use Rattle.keyman_tool.specs.Orders.{picture_work, file_work}
 use Rattle.keyman_tool.specs.Steps.{itself}
-use Rattle.keyman_tool.specs.Work.{Work, and_then}
+use Rattle.keyman_tool.specs.Work.{and_then}
 use Rattle.keyman_tool.proofs.InputLaws.{compile_behind, file_in_steps, compiled_gives, uncompiled_gives}
 use Rattle.keyman_tool.proofs.RunLaws.{gives_as, gives_behind, gives_stopped}
 use Rattle.keyman_tool.proofs.preparing.compile_beside.Goals as goal

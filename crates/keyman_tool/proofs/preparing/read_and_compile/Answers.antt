@@ -1,4 +1,3 @@
-use Rattle.std.proofs.Common.{List, ℕ}
 use Rattle.keyman_tool.specs.Orders.{source_work, file_work}
 use Rattle.keyman_tool.specs.Steps.{itself}
 use Rattle.keyman_tool.proofs.RunLaws.{gives_behind, gives_stopped}

@@ -1,4 +1,4 @@
-use Rattle.std.proofs.Common.{◌≡◌, List, ℕ, [], Option, Some, None, ap, sym, rules}
+use Rattle.std.proofs.Common.{◌≡◌, [], Some, None, ap, sym, rules}
 use Rattle.kmn_compiler.specs.Picture.{picture_name}
 use Rattle.keyman_tool.specs.Orders.{picture_work}
 use Rattle.keyman_tool.specs.Steps.{itself}

@@ -1,6 +1,6 @@
 use Rattle.std.proofs.Common.{◌≡◌, Option, Some, rules}
 use Rattle.keyman_tool.specs.Command.{Request, request_of}
-use Rattle.keyman_tool.specs.Command.Request.{Compile, Test}
+use Rattle.keyman_tool.specs.Command.Request.{Compile, Play, Test, Verify}
 use Rattle.keyman_tool.proofs.MeaningLaws.{run_asks, run_means}
 use Rattle.keyman_tool.proofs.run.run.Goals as goal
 
@@ -27,3 +27,27 @@ returns-in-Some-Test-clause-means g c =
     let request : Option Request = Some (Test c.in-Some-Test.source.now c.in-Some-Test.file.now c.in-Some-Test.keys.now) in
     let is : request ≡ request_of c.args.words.now = search rules in
     run_means request (request_of c.args.words.now) g.F.Folder _ _ g.S.Sink _ _ c.test.result is c.test.ensures
+
+pub returns-in-Some-Verify-clause-asked : goal.returns-in-Some-Verify-clause-asked
+returns-in-Some-Verify-clause-asked g c =
+    let request : Option Request = Some (Verify c.in-Some-Verify.file.now) in
+    let is : request ≡ request_of c.args.words.now = search rules in
+    run_asks request (request_of c.args.words.now) g.F.Folder _ _ g.S.Sink _ _ c.verify_file.result is c.verify_file.ensures
+
+pub returns-in-Some-Verify-clause-means : goal.returns-in-Some-Verify-clause-means
+returns-in-Some-Verify-clause-means g c =
+    let request : Option Request = Some (Verify c.in-Some-Verify.file.now) in
+    let is : request ≡ request_of c.args.words.now = search rules in
+    run_means request (request_of c.args.words.now) g.F.Folder _ _ g.S.Sink _ _ c.verify_file.result is c.verify_file.ensures
+
+pub returns-in-Some-Play-clause-asked : goal.returns-in-Some-Play-clause-asked
+returns-in-Some-Play-clause-asked g c =
+    let request : Option Request = Some (Play c.in-Some-Play.file.now c.in-Some-Play.keys.now) in
+    let is : request ≡ request_of c.args.words.now = search rules in
+    run_asks request (request_of c.args.words.now) g.F.Folder _ _ g.S.Sink _ _ c.play_on_file.result is c.play_on_file.ensures
+
+pub returns-in-Some-Play-clause-means : goal.returns-in-Some-Play-clause-means
+returns-in-Some-Play-clause-means g c =
+    let request : Option Request = Some (Play c.in-Some-Play.file.now c.in-Some-Play.keys.now) in
+    let is : request ≡ request_of c.args.words.now = search rules in
+    run_means request (request_of c.args.words.now) g.F.Folder _ _ g.S.Sink _ _ c.play_on_file.result is c.play_on_file.ensures
