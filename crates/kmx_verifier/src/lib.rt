@@ -20,7 +20,7 @@ mod verified;
 mod whole;
 
 pub use faults::{Fault, VerifyError};
-pub use verified::{Verified, adopt, verify};
+pub use verified::{Verified, verify};
 
 #[cfg(test)]
 mod tests;

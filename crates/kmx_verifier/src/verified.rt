@@ -1,5 +1,4 @@
-ghost use Rattle.std.specs.Prelude.{◌≡◌, length, IfOk, MatchResult, None, Some};
-ghost use Rattle.kmx_format.specs.Writable.{IsFile};
+ghost use Rattle.std.specs.Prelude.{◌≡◌, length, MatchResult, None, Some};
 ghost use Rattle.kmx_verifier.specs.FaultOf.{fault_of, IsRefusal};
 
 use crate::faults::VerifyError;
@@ -88,15 +87,6 @@ impl<'a> Verified<'a> {
     {
         is_option(&self.tables, store)
     }
-}
-
-/// Opens a file that was written here, without looking for faults.
-pub fn adopt<'a>(alloc: Global, bytes: &'a [u8]) -> Result<Verified<'a>, Memory>
-    requires { IsFile bytes.now }
-    ensures { IfOk result (λ file. file ≡ bytes.now) }
-{
-    let tables = tables_of(alloc, bytes)?;
-    Ok(Verified { bytes, tables })
 }
 
 /// Opens a file of a stranger. The fault is the first one of the file.

@@ -1,6 +1,6 @@
 use crate::{Session, StepError};
 use kmn_base::{Element, Event, Item, KeyPress, Memory, RuleKey, Seq};
-use kmx_verifier::adopt;
+use kmx_verifier::verify;
 use rule_engine::Engine;
 use rule_model::{Group, Out, Pat, Rule, Store, Tables};
 use std::alloc::Global;
@@ -176,7 +176,7 @@ fn events_of_every_kind(rt: HostRuntime) -> Result<(), Fail> {
 #[test]
 fn one_press(rt: HostRuntime) -> Result<(), Fail> {
     let alloc = rt.alloc();
-    let file = adopt(alloc, &ONE_RULE)?;
+    let file = verify(alloc, &ONE_RULE)?;
     let mut session = Session::start(alloc, &file)?;
     let step = session.step(alloc, &Event::Key(KeyPress { code: 65, mods: 0 }))?;
     assert_eq!(rt; step.number, 1);
