@@ -86,8 +86,6 @@ pub enum Code {
     G1,
     E1,
     E2,
-    N01,
-    N02,
 }
 
 /// The name of a code's variant.
@@ -116,7 +114,7 @@ impl Code {
             C13 C14 C15 C16 C17 C18 C19 C20 C21 C22 C23 C24
             V01 V02 V03 V04 V05 V06 V07 V08 V09 V10 V11 V12 V13 V14 V15 V16
             P01 P02 P03 P04 P05 P06 P07 P08
-            X1 X2 X3 T1 T2 T3 T4 T5 T6 T7 G1 E1 E2 N01 N02)
+            X1 X2 X3 T1 T2 T3 T4 T5 T6 T7 G1 E1 E2)
     }
 }
 
