@@ -1,8 +1,6 @@
 //! Runs of the commands over a folder and a sink in memory.
 ghost use Rattle.std.specs.Prelude.{◌≡◌, IfOk};
 
-mod worked;
-
 use crate::run::run;
 use crate::status::Status;
 use kmn_base::{Seq, Text};
