@@ -1,5 +1,5 @@
 -- The names of the key dictionary are read again from its store.
-use Rattle.std.proofs.Common.{◌≡◌, ℕ, Bool, true, false, not, ◌&&◌, List, [], ◌∷◌, ◌++◌, length, map, Some, None, refl, ap, sym, ◌∙◌, arith, if◌then◌else◌, cond, append_assoc, append-nil}
+use Rattle.std.proofs.Common.{◌≡◌, ℕ, Bool, true, false, not, ◌&&◌, List, [], ◌∷◌, ◌++◌, length, map, Some, None, refl, ap, sym, ◌∙◌, arith, cond}
 use Rattle.std.specs.Prelude.{nat_eq, find, filter, filter_map, flat_map, All, encode_utf8_all}
 use Rattle.std.specs.List.{list_all, list_any, slice_split, join_with_byte}
 use Rattle.std.specs.Option.{option_or}
@@ -17,47 +17,11 @@ use Rattle.rule_model.specs.declared.tables.Tables.{Tables}
 use Rattle.rule_model.specs.Naming.{names_of, key_names, source_items, stores_of}
 use Rattle.rule_model.specs.Tab.{tab, tab_dictionary, distinct_onto, words, element_char, is_dictionary, store_elements}
 use Rattle.rule_model.specs.Src.{src}
+use Rattle.rule_model.proofs.Distinct.{distinct_again}
 use Rattle.compile_laws.specs.Numbers.{values_of, value_store, dictionary_stores}
 use Rattle.compile_laws.specs.Compiles.{Compiles}
 use Rattle.compile_laws.specs.WellNamed.{IsWellNamed, is_word}
 use Rattle.compile_laws.proofs.Keyboards.{src_dictionary, tab_names}
-
--- each item is the same as none before it
-abbrev IsFresh : {X : Type 0} → (X → X → Bool) → List X → List X → Type 0
-IsFresh same seen [] = Unit {0}
-IsFresh same seen (x ∷ xs) = (list_any (λ y. same y x) seen ≡ false) × IsFresh same (seen ++ x ∷ []) xs
-
-module _ {X : Type 0} (same : X → X → Bool) where
-  fresh_stays : (seen xs : List X) → IsFresh same seen xs → distinct_onto same seen xs ≡ seen ++ xs
-  fresh_stays seen [] h = sym (append-nil seen)
-  fresh_stays seen (x ∷ xs) h =
-      (λ i. distinct_onto same (if h.0 i then seen else seen ++ x ∷ []) xs)
-      ∙ (fresh_stays (seen ++ x ∷ []) xs h.1 ∙ append_assoc seen (x ∷ []) xs)
-
-  -- the items that are put behind those seen
-  record Put (seen xs : List X) : Type 0 where
-    items : List X
-    fresh : IsFresh same seen items
-    is : distinct_onto same seen xs ≡ seen ++ items
-
-  put_next : (b : Bool) (seen : List X) (x : X) (xs : List X) → list_any (λ y. same y x) seen ≡ b → Put (if b then seen else seen ++ x ∷ []) xs → Put seen (x ∷ xs)
-  put_next true seen x xs e h = record { items = h.items; fresh = h.fresh; is = (λ i. distinct_onto same (if e i then seen else seen ++ x ∷ []) xs) ∙ h.is }
-  put_next false seen x xs e h =
-      record {
-        items = x ∷ h.items;
-        fresh = (e, h.fresh);
-        is = (λ i. distinct_onto same (if e i then seen else seen ++ x ∷ []) xs) ∙ (h.is ∙ append_assoc seen (x ∷ []) h.items);
-      }
-
-  put_behind : (seen xs : List X) → Put seen xs
-  put_behind seen [] = record { items = []; fresh = tt; is = sym (append-nil seen) }
-  put_behind seen (x ∷ xs) = put_next (list_any (λ y. same y x) seen) seen x xs refl (put_behind (if list_any (λ y. same y x) seen then seen else seen ++ x ∷ []) xs)
-
-  -- a list of distinct items is its own
-  distinct_again : (xs : List X) → distinct_onto same [] (distinct_onto same [] xs) ≡ distinct_onto same [] xs
-  distinct_again xs =
-      let h = put_behind [] xs in
-      ap (distinct_onto same []) h.is ∙ (fresh_stays [] h.items h.fresh ∙ sym h.is)
 
 passes_none : {X : Type 0} (q : X → Bool) (xs : List X) → list_any q xs ≡ false → All (λ x. q x ≡ false) xs
 passes_none q [] h = All-nil (λ x. q x ≡ false)

@@ -1,7 +1,6 @@
 -- The names of a key dictionary, put into another one name by name.
-use Rattle.std.proofs.Common.{◌≡◌, ℕ, zero, suc, ◌+◌, ◌-◌, ◌<◌, ◌≤◌, Bool, true, false, List, [], ◌∷◌, ◌++◌, append_assoc, append-nil, length, drop, Some, None, get_or, nat_lt, refl, sym, ap, ◌∙◌, arith, if◌then◌else◌}
+use Rattle.std.proofs.Common.{◌≡◌, ℕ, zero, suc, ◌+◌, ◌-◌, ◌<◌, ◌≤◌, Bool, true, false, List, [], ◌∷◌, length, drop, Some, None, get_or, nat_lt, refl, sym, ap, ◌∙◌, arith, if◌then◌else◌}
 use Rattle.std.specs.Prelude.{slice_get, filter_map, find, encode_utf8_all}
-use Rattle.std.specs.List.{list_any}
 use Rattle.std.proofs.lemmas.Bool.Decides.{nat_tests}
 use Rattle.std.proofs.lemmas.List.{drop_more}
 use Rattle.std.proofs.lemmas.Option.{slice_get_within, get_or_from_slice_get, none-some}
@@ -9,44 +8,8 @@ use Rattle.kmn_base.specs.Names.{same_name}
 use Rattle.virtual_keys.specs.Dictionary.{name_in, with_name}
 use Rattle.rule_model.specs.declared.tables.Tables.{Tables}
 use Rattle.rule_model.specs.Tab.{tab, tab_dictionary, distinct_onto, element_char, is_dictionary, store_elements, words}
+use Rattle.rule_model.proofs.Distinct.{distinct_again}
 use Rattle.store_table.proofs.Naming.{with_name_new}
-
--- each item is the same as none before it
-abbrev AreNew : {X : Type 0} → (X → X → Bool) → List X → List X → Type 0
-AreNew same seen [] = Unit {0}
-AreNew same seen (x ∷ xs) = (list_any (λ y. same y x) seen ≡ false) × AreNew same (seen ++ x ∷ []) xs
-
-module _ {X : Type 0} (same : X → X → Bool) where
-  new_stay : (seen xs : List X) → AreNew same seen xs → distinct_onto same seen xs ≡ seen ++ xs
-  new_stay seen [] h = sym (append-nil seen)
-  new_stay seen (x ∷ xs) h =
-      (λ i. distinct_onto same (if h.0 i then seen else seen ++ x ∷ []) xs)
-      ∙ (new_stay (seen ++ x ∷ []) xs h.1 ∙ append_assoc seen (x ∷ []) xs)
-
-  -- the items that are put behind those seen
-  record Put (seen xs : List X) : Type 0 where
-    items : List X
-    new : AreNew same seen items
-    is : distinct_onto same seen xs ≡ seen ++ items
-
-  put_next : (b : Bool) (seen : List X) (x : X) (xs : List X) → list_any (λ y. same y x) seen ≡ b → Put (if b then seen else seen ++ x ∷ []) xs → Put seen (x ∷ xs)
-  put_next true seen x xs e h = record { items = h.items; new = h.new; is = (λ i. distinct_onto same (if e i then seen else seen ++ x ∷ []) xs) ∙ h.is }
-  put_next false seen x xs e h =
-      record {
-        items = x ∷ h.items;
-        new = (e, h.new);
-        is = (λ i. distinct_onto same (if e i then seen else seen ++ x ∷ []) xs) ∙ (h.is ∙ append_assoc seen (x ∷ []) h.items);
-      }
-
-  put_behind : (seen xs : List X) → Put seen xs
-  put_behind seen [] = record { items = []; new = tt; is = sym (append-nil seen) }
-  put_behind seen (x ∷ xs) = put_next (list_any (λ y. same y x) seen) seen x xs refl (put_behind (if list_any (λ y. same y x) seen then seen else seen ++ x ∷ []) xs)
-
-  -- a list of distinct items is its own
-  distinct_again : (xs : List X) → distinct_onto same [] (distinct_onto same [] xs) ≡ distinct_onto same [] xs
-  distinct_again xs =
-      let h = put_behind [] xs in
-      ap (distinct_onto same []) h.is ∙ (new_stay [] h.items h.new ∙ sym h.is)
 
 -- the names of a dictionary are distinct
 pub own_names_distinct : (tables : Tables) → distinct_onto same_name [] (drop 0 (tab tables).dictionary) ≡ (tab tables).dictionary

@@ -1,6 +1,7 @@
 pub mod Lists
 pub mod ReadingAgain
 pub mod Rising
+pub mod SmallBytes
 pub mod UnitBytes
 pub mod Spelling
 pub mod Faults

@@ -4,8 +4,7 @@ ghost use Rattle.kmn_base.specs.CodeTexts.{code_text};
 use std::fmt;
 
 /// The named rules. L and S are faults of a source's form, C of its meaning, V of a compiled file, P of a script, X of
-/// a file that can't be decompiled, T of a touch layout, G of a made load, E of an event; N are forms that are not
-/// built yet.
+/// a file that can't be decompiled, T of a touch layout, G of a made load, E of an event.
 #[derive(Clone, Copy, Debug, PartialEq, Eq)]
 pub enum Code {
     L01,

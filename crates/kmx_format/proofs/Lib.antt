@@ -8,5 +8,6 @@ pub mod FileSize
 pub mod FileStands
 pub mod FileStrings
 pub mod FileWritable
+pub mod SmallNumbers
 pub mod WorkedFiles
 pub mod WritableParts

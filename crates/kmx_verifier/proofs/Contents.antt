@@ -24,7 +24,7 @@ use Rattle.kmx_view.specs.View.{store_count, group_count}
 use Rattle.kmx_verifier.specs.Items as target
 use Rattle.kmx_verifier.specs.Items.{target_at, may_stand, stores_named, groups_named, target_of, points_right}
 use Rattle.kmx_verifier.specs.FaultOf.{walk_fault, context_fault}
-use Rattle.kmx_verifier.proofs.Numbers.{AreUnits, unit_bytes-small}
+use Rattle.kmn_base.proofs.SmallBytes.{AreUnits, unit_bytes-small}
 use Rattle.kmx_verifier.proofs.Sound.{walk_readable, walk_stands, context_readable, context_stands, ItemStands, ItemsStand, ContextStands, element_again, pattern_again, output_again}
 
 filter_map_some : {X Y : Type 0} (f : X → Option Y) (x : X) (xs : List X) (y : Y) → f x ≡ Some y → filter_map f (x ∷ xs) ≡ y ∷ filter_map f xs

@@ -13,7 +13,8 @@ use Rattle.kmx_verifier.specs.declared.faults.Target.{Target}
 use Rattle.kmx_verifier.specs.Items.{target_of, reached}
 use Rattle.kmx_verifier.specs.FaultOf.{or_else, item_fault, context_fault, IsRefusal}
 use Rattle.kmx_verifier.proofs.Reach.{reached-more, length-reached}
-use Rattle.kmx_verifier.proofs.Walking.{Results, sizes, sizes_within}
+use Rattle.item_codec.proofs.Sizes.{sizes, sizes_within}
+use Rattle.kmx_verifier.proofs.Walking.{Results}
 
 -- a walk from a place on, after some items, whose answer and targets are those of the whole walk
 pub record ContextWalksOn (bytes : List ℕ) (answer : Option Fault) (total : List Target) (end at : ℕ) (targets : List Target) (results : Results) : Type 0 where

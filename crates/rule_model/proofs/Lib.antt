@@ -1,6 +1,7 @@
 pub mod Bounds
 pub mod Budget
 pub mod Choosing
+pub mod Distinct
 pub mod Edits
 pub mod Examples
 pub mod Insertions

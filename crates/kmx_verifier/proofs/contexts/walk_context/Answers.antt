@@ -3,7 +3,7 @@ use Rattle.item_codec.specs.Walk.{items_given, results_of}
 use Rattle.kmx_verifier.specs.Items.{target_of}
 use Rattle.kmx_verifier.specs.FaultOf.{context_fault}
 use Rattle.kmn_base.specs.declared.limits.TheConstants.{FILE_BYTES}
-use Rattle.kmx_verifier.proofs.Walking.{bytes_small}
+use Rattle.kmn_base.proofs.SmallBytes.{bytes_small}
 use Rattle.kmx_verifier.proofs.ContextWalking.{context_starts, context_few, context_goes_on, context_stops}
 use Rattle.kmx_verifier.proofs.contexts.walk_context.Goals as goal
 

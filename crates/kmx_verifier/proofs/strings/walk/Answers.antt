@@ -1,6 +1,7 @@
 use Rattle.std.proofs.Common.{sym}
 use Rattle.kmn_base.specs.declared.limits.TheConstants.{FILE_BYTES}
-use Rattle.kmx_verifier.proofs.Walking.{walk_starts, walks_on, bytes_small}
+use Rattle.kmx_verifier.proofs.Walking.{walk_starts, walks_on}
+use Rattle.kmn_base.proofs.SmallBytes.{bytes_small}
 use Rattle.kmx_verifier.proofs.strings.walk.Goals as goal
 
 pub loop-read-init : goal.loop-read-init

@@ -1,7 +1,7 @@
 use Rattle.std.proofs.Common.{sym, subst}
 use Rattle.kmx_format.specs.Playable.{IsPlayable}
 use Rattle.kmx_verifier.proofs.Playing.{valid_playable}
-use Rattle.kmx_verifier.proofs.Walking.{bytes_small}
+use Rattle.kmn_base.proofs.SmallBytes.{bytes_small}
 use Rattle.kmx_verifier.proofs.verified.verify.Goals as goal
 
 pub invariant_of-result : goal.invariant_of-result

@@ -1,20 +1,11 @@
--- Numbers and units of bytes are small.
-use Rattle.std.proofs.Common.{◌≡◌, ℕ, zero, suc, ◌+◌, ◌*◌, ◌/◌, ◌%◌, ◌^◌, ◌<◌, ◌≤◌, Bool, true, false, leb, List, [], ◌∷◌, length, take, drop, get_or, refl, sym, ap, ◌∙◌, arith, le-leb, lit<}
+-- Numbers and units that are read of bytes are small.
+use Rattle.std.proofs.Common.{◌≡◌, ℕ, ◌+◌, ◌^◌, ◌<◌, ◌≤◌, Bool, true, false, leb, List, [], ◌∷◌, length, take, drop, refl, sym, ap, ◌∙◌, arith, le-leb, lit<}
 use Rattle.std.specs.Prelude.{nat_eq, nat_le, if◌then◌else◌}
-use Rattle.std.specs.List.{All, AllByRecursion}
 use Rattle.std.specs.Int.{w16, w32, from_le_bytes}
 use Rattle.std.proofs.lemmas.List.Elements.{All-nil, All-cons, All-head, All-tail, All-take, All-drop, recursion_from_All}
-use Rattle.kmn_base.specs.Spelling.{unit_bytes, whole_units}
+use Rattle.kmn_base.specs.Spelling.{whole_units}
+use Rattle.kmn_base.proofs.SmallBytes.{AreBytes, AreUnits, byte_small, whole_units-small}
 use Rattle.kmx_format.specs.TablesOf.{half_at, word_at, before_zero, string_at}
-
--- all of them are bytes
-abbrev pub AreBytes : List ℕ → Type 0
-AreBytes = All (λ byte. byte < 256)
-
-byte_small : (bytes : List ℕ) → AreBytes bytes → (i : ℕ) → get_or bytes i 0 < 256
-byte_small [] h i = lit< tt
-byte_small (byte ∷ bytes) h zero = All-head (λ b. b < 256) byte bytes h
-byte_small (byte ∷ bytes) h (suc i) = byte_small bytes (All-tail (λ b. b < 256) byte bytes h) i
 
 word_of_small : (bytes : List ℕ) → AreBytes bytes → from_le_bytes w32 bytes < 2 ^ 32
 word_of_small bytes h = omega (arith, byte_small bytes h 0, byte_small bytes h 1, byte_small bytes h 2, byte_small bytes h 3)
@@ -56,15 +47,6 @@ half_at-word bytes place h within small =
     ap (λ b. if b then from_le_bytes w16 (take 2 (drop place bytes)) else 0) half_inside
     ∙ low_half (drop place bytes) (All-drop (λ b. b < 256) place bytes h) (omega (arith, is, small)) ∙ sym is
 
--- all of them are UTF-16 units
-abbrev pub AreUnits : List ℕ → Type 0
-AreUnits = All (λ unit. unit < 65536)
-
-whole_units-small : (bytes : List ℕ) → AllByRecursion (λ byte. byte < 256) bytes → AreUnits (whole_units bytes)
-whole_units-small [] h = All-nil (λ unit. unit < 65536)
-whole_units-small (low ∷ []) h = All-nil (λ unit. unit < 65536)
-whole_units-small (low ∷ high ∷ bytes) h = All-cons (λ unit. unit < 65536) (low + 256 * high) (whole_units bytes) (omega (arith, h.0, h.1.0)) (whole_units-small bytes h.1.1)
-
 unit_more : (b : Bool) (unit : ℕ) (units : List ℕ) → unit < 65536 → AreUnits units → AreUnits (if b then [] else unit ∷ units)
 unit_more true unit units h others = All-nil (λ u. u < 65536)
 unit_more false unit units h others = All-cons (λ u. u < 65536) unit units h others
@@ -83,10 +65,3 @@ unfolding string_at
 string_at-small bytes offset h =
     no_units (nat_eq offset 0) (before_zero (whole_units (drop offset bytes)))
     (before_zero-small (whole_units (drop offset bytes)) (whole_units-small (drop offset bytes) (recursion_from_All (λ b. b < 256) (drop offset bytes) (All-drop (λ b. b < 256) offset bytes h))))
-
-pub unit_bytes-small : (units : List ℕ) → AreUnits units → AreBytes (unit_bytes units)
-unit_bytes-small [] h = All-nil (λ b. b < 256)
-unit_bytes-small (unit ∷ units) h =
-    let small : unit < 65536 = All-head (λ u. u < 65536) unit units h in
-    All-cons (λ b. b < 256) (unit % 256) (unit / 256 ∷ unit_bytes units) (omega arith)
-    (All-cons (λ b. b < 256) (unit / 256) (unit_bytes units) (omega (arith, small)) (unit_bytes-small units (All-tail (λ u. u < 65536) unit units h)))
