@@ -4,6 +4,7 @@ use crate::{
     KeyDictionary, char_of, fits, is_plain, key_named, modifier_named, name_of, named_chars,
 };
 use kmn_base::{KeyPress, RuleKey};
+use std::alloc::Global;
 use std::test::Fail;
 
 /// A key's name and code, the modifiers of a press of it, the character that the press gives, and whether a rule with
@@ -21,19 +22,37 @@ const PRESSES: [(&str, u16, u16, Option<char>, u32, bool); 10] = [
     ("K_A", 65, 12, None, 0x4008, false),
 ];
 
+/// Whether the tables say of a key what a row does.
+fn is_right(row: (&str, u16, u16, Option<char>, u32, bool)) -> bool {
+    let (name, code, mods, given, flags, fit) = row;
+    let press = KeyPress { code, mods };
+    key_named(name.as_bytes()) == Some(code)
+        && name_of(code) == Some(name.as_bytes())
+        && char_of(press) == given
+        && is_plain(press) == (mods % 16 == 0)
+        && fits(RuleKey::Virtual { flags, code }, press) == fit
+}
+
+/// Whether own names get the codes that they should.
+fn are_numbered(alloc: Global) -> Result<bool, Fail> {
+    let mut names = KeyDictionary::new(alloc);
+    let codes = [
+        names.add(b"T_flip")?,
+        names.add(b"U_00E1")?,
+        names.add(b"t_FLIP")?,
+    ];
+    Ok(
+        codes == [256, 257, 256]
+            && names.code_of(b"u_00e1") == Some(257)
+            && names.name_at(256) == Some(b"T_flip".as_slice())
+            && names.name_at(258).is_none(),
+    )
+}
+
 #[test]
 fn keys_by_name_and_press(rt: HostRuntime) -> Result<(), Fail> {
-    for (name, code, mods, given, flags, fit) in PRESSES {
-        let press = KeyPress { code, mods };
-        assert_eq!(rt; key_named(name.as_bytes()), Some(code), "{name}");
-        assert_eq!(rt; name_of(code), Some(name.as_bytes()), "{name}");
-        assert_eq!(rt; char_of(press), given, "{name} {mods}");
-        assert_eq!(rt; is_plain(press), mods % 16 == 0, "{name} {mods}");
-        assert_eq!(rt;
-            fits(RuleKey::Virtual { flags, code }, press),
-            fit,
-            "{name} {mods} {flags}"
-        );
+    for row in PRESSES {
+        assert!(rt; is_right(row), "{}", row.0);
     }
     assert_eq!(rt; modifier_named(b"ncaps"), Some(0x0200));
     assert!(rt;
@@ -41,12 +60,6 @@ fn keys_by_name_and_press(rt: HostRuntime) -> Result<(), Fail> {
             == ['\u{1F600}', 'A'].as_slice())
     );
     assert!(rt; named_chars(b"U_D800").is_none());
-    let mut names = KeyDictionary::new(rt.alloc());
-    assert_eq!(rt; names.add(b"T_flip")?, 256);
-    assert_eq!(rt; names.add(b"U_00E1")?, 257);
-    assert_eq!(rt; names.add(b"t_FLIP")?, 256);
-    assert_eq!(rt; names.code_of(b"u_00e1"), Some(257));
-    assert_eq!(rt; names.name_at(256), Some(b"T_flip".as_slice()));
-    assert_eq!(rt; names.name_at(258), None);
+    assert!(rt; are_numbered(rt.alloc())?);
     Ok(())
 }
