@@ -21,6 +21,7 @@ use Rattle.kmx_verifier.specs.declared.faults.StringKind.TheVariants as of
 use Rattle.kmx_verifier.specs.declared.faults.Target.{Target}
 use Rattle.kmx_verifier.specs.Items.{target_of, points_right}
 use Rattle.kmx_verifier.specs.FaultOf.{walk_fault, context_fault, item_count, read_at, read_fault, string_fault, read_context_fault, context_string_fault, context_targets, too_many_elements, store_fault, stores_fault, elements_in, flags_fault, record_fault, records_fault, records_place_fault, group_strings_fault, group_fault, groups_fault, no_group, size_fault, header_fault, arrays_fault, fault_of, IsValid}
+use Rattle.kmn_base.proofs.SmallBytes.{AreBytes}
 use Rattle.kmx_format.proofs.SmallNumbers.{word_at-small, half_at-small, half_at-word, string_at-small}
 use Rattle.kmx_verifier.proofs.Sound.{or_else-none, broken-none, broken_by-none, unnot, ItemStands}
 use Rattle.kmx_verifier.proofs.Contents.{Contents, elements_read, outputs_read, match_outputs_read, acts_alone, outputs_stores, outputs_groups, targets_of, ContextRead, context_read, points_into}

@@ -1,0 +1,11 @@
+# Of a transcript of presses, each behind two caret moves: a line for each press up to the first that sets an option, with what
+# stands before the caret, whether the key was passed on, and the beeps.
+/^(opt|save) / { if (pressed) exit }
+/^[0-9]+ del=/ {
+    pressed = $1 > 1 && $1 % 3 == 1
+    if (pressed) print value($7), value($4), value($5)
+}
+
+function value(word) {
+    return substr(word, index(word, "=") + 1)
+}

@@ -1,0 +1,118 @@
+# Draws keys (place, width and name, row by row, a blank line between rows) with what they give: lines of modifiers, key, what
+# stands before the caret, whether the key is passed on, and beeps. The four cells of a key are plain below left, SHIFT above
+# left, RALT below right, and both above right.
+BEGIN {
+    unit = 64; gap = 4; top = 44
+    column["-"] = 0; row["-"] = 1
+    column["SHIFT"] = 0; row["SHIFT"] = 0
+    column["RALT"] = 1; row["RALT"] = 1
+    column["SHIFT+RALT"] = 1; row["SHIFT+RALT"] = 0
+    print "<svg xmlns=\"http://www.w3.org/2000/svg\" viewBox=\"0 0 " 14.5 * unit + 16 " " 5 * unit + top + 44 "\" font-family=\"sans-serif\" text-anchor=\"middle\">"
+    print "<rect width=\"100%\" height=\"100%\" fill=\"#ffffff\"/>"
+    print "<text x=\"10\" y=\"28\" font-size=\"18\" text-anchor=\"start\" fill=\"#222222\">" escaped(title) "</text>"
+}
+
+/^#/ { next }
+FNR == NR && NF == 0 { line++; next }
+FNR == NR { place[$3] = 8 + $1 * unit; height[$3] = top + line * unit; width[$3] = $2 * unit - gap; frame($3); next }
+{ cell($2, $1, $3, $4, $5) }
+
+END {
+    y = top + 5 * unit + 22
+    print "<g font-size=\"13\" text-anchor=\"start\" fill=\"#444444\">"
+    print "<text x=\"10\" y=\"" y "\">in each key: SHIFT above, RALT right</text>"
+    print "<circle cx=\"284\" cy=\"" y - 5 "\" r=\"9\" fill=\"none\" stroke=\"#b04a00\" stroke-width=\"1.5\"/><text x=\"300\" y=\"" y "\">deadkey by its number</text>"
+    bell(484, y - 5); print "<text x=\"500\" y=\"" y "\">beep</text>"
+    print "<rect x=\"560\" y=\"" y - 14 "\" width=\"18\" height=\"18\" fill=\"#dddddd\"/><text x=\"586\" y=\"" y "\">passed on to the application</text>"
+    print "</g>"
+    print "</svg>"
+}
+
+# The frame of a key.
+function frame(key) {
+    print "<rect x=\"" place[key] "\" y=\"" height[key] "\" width=\"" width[key] "\" height=\"" unit - gap "\" rx=\"6\" fill=\"#ffffff\" stroke=\"#888888\"/>"
+}
+
+# What a key gives with some modifiers.
+function cell(key, mods, given, passed, beeps,    x, y, wide, high) {
+    wide = (width[key] - 4) / 2; high = (unit - gap - 4) / 2
+    x = place[key] + 2 + column[mods] * wide; y = height[key] + 2 + row[mods] * high
+    if (passed) print "<rect x=\"" x "\" y=\"" y "\" width=\"" wide "\" height=\"" high "\" rx=\"4\" fill=\"#dddddd\"/>"
+    if (beeps > 0) bell(x + wide / 2, y + high / 2)
+    if (given != "-") items(given, x + wide / 2, y + high / 2, wide)
+}
+
+# A mark for a beep.
+function bell(x, y) {
+    print "<path d=\"M" x - 6 " " y + 4 "h12l-2 -3v-3a4 4 0 0 0 -8 0v3z\" fill=\"#7a1fa2\"/>"
+}
+
+# Deadkeys and the texts between them, in their order. Of a long one the first four are shown.
+function items(given, x, y, wide,    item, count, shown, step, size, i, first, text) {
+    count = split(given, item, ".")
+    shown = count > 4 ? 4 : count
+    size = shown == 1 ? 18 : shown == 2 ? 14 : 10
+    step = shown == 1 ? 0 : wide / (shown + (count > 4))
+    x -= step * (shown - 1 + (count > 4)) / 2
+    print "<g font-size=\"" size "\" fill=\"#111111\"><title>" told(item, count) "</title>"
+    for (i = 1; i <= shown; i++) {
+        if (item[i] ~ /^d/) { ring(substr(item[i], 2), x + step * (i - 1), y, shown == 1 ? 11 : step / 2); continue }
+        text = item[i]; first = i
+        while (i < shown && item[i + 1] !~ /^d/) text = text " " item[++i]
+        run(text, x + step * (first + i - 2) / 2, y, size)
+    }
+    if (count > 4) run("2026", x + step * shown, y, size)
+    print "</g>"
+}
+
+# A deadkey by its number.
+function ring(number, x, y, radius) {
+    print "<circle cx=\"" x "\" cy=\"" y "\" r=\"" radius "\" fill=\"none\" stroke=\"#b04a00\" stroke-width=\"1.5\"/>"
+    print "<text x=\"" x "\" y=\"" y + radius * 0.35 "\" font-size=\"" radius "\" fill=\"#b04a00\">" number "</text>"
+}
+
+# Characters side by side, by their codes. One alone that can't be seen is written as its code, and a blank as an open box.
+function run(codes, x, y, size,    code, count, i, text) {
+    count = split(codes, code, " ")
+    if (count == 1 && code[1] != "0020" && is_hidden(code[1])) {
+        print "<text x=\"" x "\" y=\"" y + size * 0.15 "\" font-size=\"" size * 0.45 "\" fill=\"#666666\">" code[1] "</text>"
+        return
+    }
+    for (i = 1; i <= count; i++) text = text drawn(code[i])
+    print "<text x=\"" x "\" y=\"" y + size * 0.35 "\">" (is_combining(code[1]) ? "&#x25CC;" : "") text "</text>"
+}
+
+# A character as XML can have it.
+function drawn(code) {
+    if (code == "0020") code = "2423"
+    if (is_within(code, "0000", "001F") || code == "FFFE" || code == "FFFF") code = "FFFD"
+    return "&#x" code ";"
+}
+
+# What is given, by code points, for whoever points at it.
+function told(item, count,    i, text) {
+    for (i = 1; i <= count; i++) text = text (i > 1 ? " " : "") (item[i] ~ /^d/ ? "deadkey " substr(item[i], 2) : "U+" item[i])
+    return text
+}
+
+function is_within(code, low, high) {
+    return length(code) == length(low) && code >= low && code <= high
+}
+
+function is_hidden(code) {
+    return is_within(code, "0000", "0020") || is_within(code, "007F", "00A0") || code == "00AD" || is_within(code, "2000", "200F") \
+        || is_within(code, "2028", "202F") || is_within(code, "205F", "206F") || code == "3000" || code == "FEFF" \
+        || code == "FFFE" || code == "FFFF" || is_within(code, "FE00", "FE0F") || is_within(code, "E0000", "E0FFF")
+}
+
+function is_combining(code) {
+    return is_within(code, "0300", "036F") || is_within(code, "0483", "0489") || is_within(code, "0591", "05BD") \
+        || is_within(code, "064B", "065F") || is_within(code, "0900", "0903") || is_within(code, "093A", "094F") \
+        || is_within(code, "1AB0", "1AFF") || is_within(code, "1DC0", "1DFF") || is_within(code, "20D0", "20FF") \
+        || is_within(code, "FE20", "FE2F")
+}
+
+function escaped(text) {
+    gsub("&", "\\&amp;", text); gsub("<", "\\&lt;", text); gsub(">", "\\&gt;", text)
+    return text
+}
