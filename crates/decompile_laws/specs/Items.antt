@@ -1,5 +1,5 @@
 -- The items that a decompiled text has for those of tables.
-use Rattle.std.specs.Prelude.{ℕ, nat_lt, bit_or, if◌then◌else◌, List, [], ◌∷◌, map, Option, Some, None, unwrap_or, slice_get}
+use Rattle.std.specs.Prelude.{ℕ, nat_lt, bit_or, if◌then◌else◌, List, [], ◌∷◌, Option, Some, None, unwrap_or, slice_get}
 use Rattle.std.specs.List.{filter_map}
 use Rattle.std.specs.Fmt.{decimal}
 use Rattle.kmn_base.specs.declared.items.Element.{Element}

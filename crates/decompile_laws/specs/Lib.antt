@@ -1,5 +1,7 @@
 pub mod Back
 pub mod Items
+pub mod Laws
 pub mod Marks
 pub mod Names
 pub mod SourceNames
+pub mod WrittenOut
