@@ -1,11 +1,11 @@
-//! Programs, each with its first refusal for names, or `ok`. A word is a statement, and its place is its line: `u:g`
+//! Programs, each with its first refusal for names, or the numbers of its names. A word is a statement, and its place is its line: `u:g`
 //! and `a:g` begin Unicode and begin ANSI at a group, `s:a=..` a store with its items, `y:` a system store, `d:` one
 //! that is dropped, `g:a` a group, and behind it `r:..`, `m:..` and `n:..` a rule, match and nomatch of it with the
 //! items of its context and output. Items are parted by commas: `?a` any(a), `$a` outs(a), `@a` use(a), `*a` dk(a),
 //! `^a` a key by its name, and anything else a character.
 
-use crate::number;
-use kmn_base::{CompileError, Memory, Seq, Text};
+use crate::{Names, number};
+use kmn_base::{Code, CompileError, Memory, Seq, Text};
 use rule_model::{BeginDef, GroupDef, KeyName, Program, RuleDef, RuleKind, SrcItem, StoreDef};
 use std::alloc::Global;
 use std::test::Fail;
@@ -155,73 +155,88 @@ fn program(alloc: Global, source: &str) -> Result<Program, Memory> {
     })
 }
 
-fn answer(alloc: Global, source: &str) -> Result<String, Fail> {
+/// Programs, each with its first refusal for names, and its line.
+const REFUSALS: [(&str, Option<(Code, u32)>); 22] = [
+    ("g:m u:m a:m u:m", Some((Code::C02, 4))),
+    ("g:m u:m u:x", Some((Code::C02, 3))),
+    ("u:x u:x g:m", Some((Code::C06, 1))),
+    ("g:m a:x", Some((Code::C06, 2))),
+    ("s:a s:b s:A", Some((Code::C03, 3))),
+    ("s:a s:a=$z", Some((Code::C03, 2))),
+    ("y: y: d: d: s:a", None),
+    ("g:m g:n g:M", Some((Code::C04, 3))),
+    ("g:m r:?a>$b", Some((Code::C05, 2))),
+    ("g:m r:x>@z,?a", Some((Code::C06, 2))),
+    ("g:m r:x>?a,@z", Some((Code::C05, 2))),
+    ("s:a=$b s:b", Some((Code::C07, 1))),
+    ("s:a=$a", Some((Code::C07, 1))),
+    ("s:a=$z", Some((Code::C05, 1))),
+    ("s:a=$b,$z s:b", Some((Code::C07, 1))),
+    ("s:a=$z,$b s:b", Some((Code::C05, 1))),
+    ("g:m m:x n:x m:x", Some((Code::C15, 4))),
+    ("g:m n:x n:$z", Some((Code::C15, 3))),
+    ("g:m m:x g:n m:x", None),
+    ("g:m r:x>@z s:a s:a", Some((Code::C06, 2))),
+    ("s:a s:a g:m r:x>@z", Some((Code::C03, 2))),
+    ("u:M s:a=x s:b=$A g:m r:?B>$a,@m", None),
+];
+
+/// What appears in a store and in a rule is numbered by its line.
+const NUMBERED: &str = "y: d: s:a=*q,^U_1 g:m r:*p>*Q,^u_2 s:b=*r,^u_1 g:n";
+
+/// A name of the program, and its number as a store, a group, a mark and an own key.
+type NumberRow = (
+    &'static str,
+    Option<u32>,
+    Option<u32>,
+    Option<u16>,
+    Option<u16>,
+);
+
+const NUMBERS: [NumberRow; 9] = [
+    ("A", Some(1), None, None, None),
+    ("b", Some(2), None, None, None),
+    ("m", None, Some(0), None, None),
+    ("N", None, Some(1), None, None),
+    ("q", None, None, Some(1), None),
+    ("P", None, None, Some(2), None),
+    ("r", None, None, Some(3), None),
+    ("u_1", None, None, None, Some(256)),
+    ("U_2", None, None, None, Some(257)),
+];
+
+/// Whether a program has this first refusal.
+fn is_refused(alloc: Global, source: &str, wanted: Option<(Code, u32)>) -> Result<bool, Fail> {
     let program = program(alloc, source)?;
     Ok(match number(alloc, &program) {
-        Ok(_) => format!(in alloc; "ok")?,
-        Err(CompileError::Refused(refusal)) => format!(in alloc;
-            "{} {}",
-            refusal.code, refusal.line
-        )?,
-        Err(_) => format!(in alloc; "none")?,
+        Ok(_) => wanted.is_none(),
+        Err(CompileError::Refused(refusal)) => wanted == Some((refusal.code, refusal.line)),
+        Err(_) => false,
     })
 }
 
-#[test]
-fn refusals(rt: HostRuntime) -> Result<(), Fail> {
-    for (source, wanted) in [
-        ("g:m u:m a:m u:m", "C02 4"),
-        ("g:m u:m u:x", "C02 3"),
-        ("u:x u:x g:m", "C06 1"),
-        ("g:m a:x", "C06 2"),
-        ("s:a s:b s:A", "C03 3"),
-        ("s:a s:a=$z", "C03 2"),
-        ("y: y: d: d: s:a", "ok"),
-        ("g:m g:n g:M", "C04 3"),
-        ("g:m r:?a>$b", "C05 2"),
-        ("g:m r:x>@z,?a", "C06 2"),
-        ("g:m r:x>?a,@z", "C05 2"),
-        ("s:a=$b s:b", "C07 1"),
-        ("s:a=$a", "C07 1"),
-        ("s:a=$z", "C05 1"),
-        ("s:a=$b,$z s:b", "C07 1"),
-        ("s:a=$z,$b s:b", "C05 1"),
-        ("g:m m:x n:x m:x", "C15 4"),
-        ("g:m n:x n:$z", "C15 3"),
-        ("g:m m:x g:n m:x", "ok"),
-        ("g:m r:x>@z s:a s:a", "C06 2"),
-        ("s:a s:a g:m r:x>@z", "C03 2"),
-        ("u:M s:a=x s:b=$A g:m r:?B>$a,@m", "ok"),
-    ] {
-        let given = answer(rt.alloc(), source)?;
-        assert_eq!(rt; given.as_str(), wanted, "{source}");
-    }
-    Ok(())
+/// Whether a name has its numbers.
+fn has_numbers(names: &Names, row: NumberRow) -> bool {
+    let (name, store, group, mark, key) = row;
+    let name = name.as_bytes();
+    names.store(name) == store
+        && names.group(name) == group
+        && names.mark(name) == mark
+        && names.keys().code_of(name) == key
 }
 
-/// What appears in a store and in a rule is numbered by its line.
+/// Whether each name has its numbers.
+fn are_numbered(alloc: Global) -> Result<bool, Fail> {
+    let program = program(alloc, NUMBERED)?;
+    let names = number(alloc, &program)?;
+    Ok(NUMBERS.iter().all(|row| has_numbers(&names, *row)))
+}
+
 #[test]
-fn numbers(rt: HostRuntime) -> Result<(), Fail> {
-    let source = "y: d: s:a=*q,^U_1 g:m r:*p>*Q,^u_2 s:b=*r,^u_1 g:n";
-    let program = program(rt.alloc(), source)?;
-    let names = number(rt.alloc(), &program)?;
-    let rows: [(&str, Option<u32>, Option<u32>, Option<u16>, Option<u16>); 9] = [
-        ("A", Some(1), None, None, None),
-        ("b", Some(2), None, None, None),
-        ("m", None, Some(0), None, None),
-        ("N", None, Some(1), None, None),
-        ("q", None, None, Some(1), None),
-        ("P", None, None, Some(2), None),
-        ("r", None, None, Some(3), None),
-        ("u_1", None, None, None, Some(256)),
-        ("U_2", None, None, None, Some(257)),
-    ];
-    for (name, store, group, mark, key) in rows {
-        let name = name.as_bytes();
-        assert_eq!(rt; names.store(name), store);
-        assert_eq!(rt; names.group(name), group);
-        assert_eq!(rt; names.mark(name), mark);
-        assert_eq!(rt; names.keys().code_of(name), key);
+fn names_of_programs(rt: HostRuntime) -> Result<(), Fail> {
+    for (source, wanted) in REFUSALS {
+        assert!(rt; is_refused(rt.alloc(), source, wanted)?, "{source}");
     }
+    assert!(rt; are_numbered(rt.alloc())?);
     Ok(())
 }
