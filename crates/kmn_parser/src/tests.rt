@@ -6,10 +6,9 @@
 
 use crate::parse;
 use kmn_base::{Code, CompileError, Refusal, Seq};
-use rule_model::{GroupDef, KeyName, Program, RuleDef, RuleKind, SrcItem, StoreDef};
-use std::alloc::{Alloc, AllocError, Global};
+use rule_model::{BeginDef, GroupDef, KeyName, Program, RuleDef, RuleKind, SrcItem, StoreDef};
+use std::alloc::{AllocError, Global};
 use std::fmt::Write;
-use std::process::Abort;
 use std::str;
 use std::test::Fail;
 
@@ -470,21 +469,41 @@ fn name(bytes: &Seq<u8>) -> &str {
     str::from_utf8(bytes.as_slice()).unwrap_or("?")
 }
 
+fn write_number(out: &mut String, number: u32) -> Result<(), AllocError> {
+    write!(out, "{number}")
+}
+
+fn write_hex(out: &mut String, number: u32) -> Result<(), AllocError> {
+    write!(out, "{number:X}")
+}
+
+/// Writes what begins a statement: its line and a blank.
+fn write_line(out: &mut String, line: u32) -> Result<(), AllocError> {
+    out.push_str("; ")?;
+    write_number(out, line)?;
+    out.push(' ')
+}
+
 fn write_chars(out: &mut String, chars: &Seq<char>) -> Result<(), AllocError> {
     let mut parting = "";
     for c in chars.as_slice() {
-        write!(out, "{parting}{:X}", *c as u32)?;
+        out.push_str(parting)?;
+        write_hex(out, *c as u32)?;
         parting = " ";
     }
     Ok(())
 }
 
 fn write_key(out: &mut String, key: &KeyName) -> Result<(), AllocError> {
-    write!(out, "[{:X} {}", key.flags, key.code)?;
+    out.push('[')?;
+    write_hex(out, u32::from(key.flags))?;
+    out.push(' ')?;
+    write_number(out, u32::from(key.code))?;
     if key.code == 0 {
-        write!(out, " {}", name(&key.name))?;
+        out.push(' ')?;
+        out.push_str(name(&key.name))?;
     }
-    write!(out, "]")
+    out.push(']')
 }
 
 fn write_value(
@@ -494,82 +513,117 @@ fn write_value(
     sign: &str,
     value: &Seq<char>,
 ) -> Result<(), AllocError> {
-    write!(out, "{word}({}{sign}", name(store))?;
+    out.push_str(word)?;
+    out.push_str(name(store))?;
+    out.push_str(sign)?;
     write_chars(out, value)?;
-    write!(out, ")")
+    out.push(')')
 }
 
-/// Writes an item that has a name or a value.
+fn write_index(out: &mut String, store: &Seq<u8>, offset: u32) -> Result<(), AllocError> {
+    out.push_str("index(")?;
+    out.push_str(name(store))?;
+    out.push(',')?;
+    write_number(out, offset)?;
+    out.push(')')
+}
+
+fn write_context(out: &mut String, offset: u32) -> Result<(), AllocError> {
+    out.push_str("context(")?;
+    write_number(out, offset)?;
+    out.push(')')
+}
+
+/// Writes an item that has a number or a value.
 fn write_item(out: &mut String, item: &SrcItem) -> Result<(), AllocError> {
     match item {
-        SrcItem::Char(c) => write!(out, "{:X}", *c as u32),
+        SrcItem::Char(c) => write_hex(out, *c as u32),
         SrcItem::Key(key) => write_key(out, key),
-        SrcItem::Index(store, offset) => write!(out, "index({},{offset})", name(store)),
-        SrcItem::ContextAt(offset) => write!(out, "context({offset})"),
-        SrcItem::Equal(store, value) => write_value(out, "if", store, "=", value),
-        SrcItem::Unequal(store, value) => write_value(out, "if", store, "!=", value),
-        SrcItem::Set(store, value) => write_value(out, "set", store, "=", value),
+        SrcItem::Index(store, offset) => write_index(out, store, *offset),
+        SrcItem::ContextAt(offset) => write_context(out, *offset),
+        SrcItem::Equal(store, value) => write_value(out, "if(", store, "=", value),
+        SrcItem::Unequal(store, value) => write_value(out, "if(", store, "!=", value),
+        SrcItem::Set(store, value) => write_value(out, "set(", store, "=", value),
         other => write_named(out, other),
     }
+}
+
+fn write_call(out: &mut String, word: &str, argument: &Seq<u8>) -> Result<(), AllocError> {
+    out.push_str(word)?;
+    out.push('(')?;
+    out.push_str(name(argument))?;
+    out.push(')')
 }
 
 /// Writes an item that has at most a name.
 fn write_named(out: &mut String, item: &SrcItem) -> Result<(), AllocError> {
     match item {
-        SrcItem::Dead(mark) => write!(out, "dk({})", name(mark)),
-        SrcItem::Any(store) => write!(out, "any({})", name(store)),
-        SrcItem::NotAny(store) => write!(out, "notany({})", name(store)),
-        SrcItem::Outs(store) => write!(out, "outs({})", name(store)),
-        SrcItem::Enter(group) => write!(out, "use({})", name(group)),
-        SrcItem::Save(store) => write!(out, "save({})", name(store)),
-        SrcItem::Reset(store) => write!(out, "reset({})", name(store)),
-        SrcItem::Call(library) => write!(out, "call({})", name(library)),
-        SrcItem::Context => write!(out, "context"),
-        SrcItem::Nul => write!(out, "nul"),
-        SrcItem::Beep => write!(out, "beep"),
-        SrcItem::Stop => write!(out, "return"),
-        _ => write!(out, "-"),
+        SrcItem::Dead(mark) => write_call(out, "dk", mark),
+        SrcItem::Any(store) => write_call(out, "any", store),
+        SrcItem::NotAny(store) => write_call(out, "notany", store),
+        SrcItem::Outs(store) => write_call(out, "outs", store),
+        SrcItem::Enter(group) => write_call(out, "use", group),
+        SrcItem::Save(store) => write_call(out, "save", store),
+        SrcItem::Reset(store) => write_call(out, "reset", store),
+        SrcItem::Call(library) => write_call(out, "call", library),
+        other => out.push_str(word_of(other)),
+    }
+}
+
+/// The word of an item without a name.
+fn word_of(item: &SrcItem) -> &'static str {
+    match item {
+        SrcItem::Context => "context",
+        SrcItem::Nul => "nul",
+        SrcItem::Beep => "beep",
+        SrcItem::Stop => "return",
+        _ => "-",
     }
 }
 
 fn write_items(out: &mut String, items: &Seq<SrcItem>) -> Result<(), AllocError> {
     for item in items.as_slice() {
-        write!(out, " ")?;
+        out.push(' ')?;
         write_item(out, item)?;
     }
     Ok(())
 }
 
 fn write_store(out: &mut String, store: &StoreDef) -> Result<(), AllocError> {
-    write!(out, "; {} store ", store.line)?;
+    write_line(out, store.line)?;
+    out.push_str("store ")?;
     if store.system == 0 {
-        write!(out, "{}:", name(&store.name))?;
+        out.push_str(name(&store.name))?;
     } else {
-        write!(out, "{}:", store.system)?;
+        write_number(out, store.system)?;
     }
+    out.push(':')?;
     write_items(out, &store.items)
 }
 
 fn write_rule(out: &mut String, rule: &RuleDef) -> Result<(), AllocError> {
-    write!(out, "; {}", rule.line)?;
+    out.push_str("; ")?;
+    write_number(out, rule.line)?;
     match rule.kind {
         RuleKind::Plain => write_items(out, &rule.context)?,
-        RuleKind::OnMatch => write!(out, " match")?,
-        RuleKind::OnNoMatch => write!(out, " nomatch")?,
+        RuleKind::OnMatch => out.push_str(" match")?,
+        RuleKind::OnNoMatch => out.push_str(" nomatch")?,
     }
     if let Some(key) = &rule.key {
-        write!(out, " + ")?;
+        out.push_str(" + ")?;
         write_item(out, key)?;
     }
-    write!(out, " >")?;
+    out.push_str(" >")?;
     write_items(out, &rule.output)
 }
 
 /// Writes a group with its rules, but its own line only behind the opening.
 fn write_group(out: &mut String, opened: u32, group: &GroupDef) -> Result<(), AllocError> {
     if opened < group.line {
-        let keys = if group.using_keys { " keys" } else { "" };
-        write!(out, "; {} group {}{keys}", group.line, name(&group.name))?;
+        write_line(out, group.line)?;
+        out.push_str("group ")?;
+        out.push_str(name(&group.name))?;
+        out.push_str(if group.using_keys { " keys" } else { "" })?;
     }
     for rule in group.rules.as_slice() {
         write_rule(out, rule)?;
@@ -577,12 +631,17 @@ fn write_group(out: &mut String, opened: u32, group: &GroupDef) -> Result<(), Al
     Ok(())
 }
 
+fn write_begin(out: &mut String, begin: &BeginDef) -> Result<(), AllocError> {
+    write_line(out, begin.line)?;
+    out.push_str(if begin.unicode { "Unicode " } else { "ANSI " })?;
+    out.push_str(name(&begin.group))
+}
+
 /// Writes the begin statements and groups behind so many lines.
 fn write_groups(out: &mut String, opened: u32, program: &Program) -> Result<(), AllocError> {
     for begin in program.begins.as_slice() {
         if opened < begin.line {
-            let kind = if begin.unicode { "Unicode" } else { "ANSI" };
-            write!(out, "; {} {kind} {}", begin.line, name(&begin.group))?;
+            write_begin(out, begin)?;
         }
     }
     for group in program.groups.as_slice() {
@@ -599,13 +658,25 @@ fn write_program(out: &mut String, opened: u32, program: &Program) -> Result<(),
     write_groups(out, opened, program)
 }
 
+fn write_error(out: &mut String, error: &CompileError) -> Result<(), AllocError> {
+    match error {
+        CompileError::Refused(refusal) => {
+            write!(out, "{} ", refusal.code)?;
+            write_number(out, refusal.line)
+        }
+        _ => out.push_str("another error"),
+    }
+}
+
 /// What the parser answers of a source, behind its opening.
 fn answer(alloc: Global, opened: u32, source: &[u8]) -> Result<String, Fail> {
     let mut out = String::new(alloc);
     match parse(alloc, source) {
         Ok(program) => write_program(&mut out, opened, &program)?,
-        Err(CompileError::Refused(refusal)) => write!(out, "; {} {}", refusal.code, refusal.line)?,
-        Err(error) => write!(out, "; {error}")?,
+        Err(error) => {
+            out.push_str("; ")?;
+            write_error(&mut out, &error)?;
+        }
     }
     Ok(out)
 }
@@ -622,38 +693,53 @@ fn source_of(alloc: Global, row: &str) -> Result<(String, u32), Fail> {
     Ok((source, opened))
 }
 
-/// Compares the answer of each row of a table.
-fn check_rows(rt: &(impl Abort + Alloc<A = Global>), table: &str) -> Result<(), Fail> {
-    for row in table.lines() {
-        let (text, wanted) = row.split_once(" ⇒ ").ok_or("a row without an answer")?;
-        let (source, opened) = source_of(rt.alloc(), text)?;
-        let given = answer(rt.alloc(), opened, source.as_bytes())?;
-        let given = given.as_str().strip_prefix("; ").unwrap_or("nothing");
-        assert_eq!(rt; given, wanted, "{row}");
-    }
-    Ok(())
+/// Whether the parser answers as a row of a table says.
+fn is_answered(alloc: Global, row: &str) -> Result<bool, Fail> {
+    let (text, wanted) = row.split_once(" ⇒ ").ok_or("a row without an answer")?;
+    let (source, opened) = source_of(alloc, text)?;
+    let given = answer(alloc, opened, source.as_bytes())?;
+    Ok(given.as_str().strip_prefix("; ").unwrap_or("nothing") == wanted)
 }
 
-#[test]
-fn worked_rows(rt: HostRuntime) -> Result<(), Fail> {
-    check_rows(&rt, TOKENS)?;
-    check_rows(&rt, LINES)?;
-    check_rows(&rt, STATEMENTS)?;
-    check_rows(&rt, ITEMS)
-}
-
-#[test]
-fn sample(rt: HostRuntime) -> Result<(), Fail> {
-    let program = parse(rt.alloc(), SAMPLE.as_bytes())?;
-    assert_eq!(rt; program.stores.len(), 11);
-    let mut rules = String::new(rt.alloc());
+/// Whether the sample has its stores and rules.
+fn has_parsed_sample(alloc: Global) -> Result<bool, Fail> {
+    let program = parse(alloc, SAMPLE.as_bytes())?;
+    let mut rules = String::new(alloc);
     write_groups(&mut rules, 0, &program)?;
-    assert_eq!(rt; rules.as_str().strip_prefix("; "), Some(SAMPLE_RULES));
-    Ok(())
+    Ok(program.stores.len() == 11 && rules.as_str().strip_prefix("; ") == Some(SAMPLE_RULES))
 }
 
-/// The answer for a source that has a name of so many of one character between two texts.
-fn named(alloc: Global, before: &str, c: char, count: u32, after: &str) -> Result<String, Fail> {
+/// A name of so many of one character between two texts, and how many stores are stated or the refusal.
+type LimitRow = (&'static str, char, u32, &'static str, &'static str);
+
+const LIMITS: [LimitRow; 22] = [
+    ("store(", 'a', 80, ")", "1"),
+    ("store(", 'a', 81, ")", "S02 2"),
+    ("store(", 'é', 80, ")", "1"),
+    ("store(", 'é', 81, ")", "S02 2"),
+    ("store(&", 'a', 80, ")", "S12 2"),
+    ("store(&", 'a', 81, ")", "S02 2"),
+    ("group(&", 'a', 79, ")", "0"),
+    ("group(&", 'a', 80, ")", "S02 2"),
+    ("begin ANSI > use(&", 'a', 79, ")", "0"),
+    ("begin ANSI > use(&", 'a', 80, ")", "S02 2"),
+    ("> save(&", 'a', 79, ")", "0"),
+    ("> save(&", 'a', 80, ")", "S02 2"),
+    ("> $&", 'a', 79, "", "0"),
+    ("> $&", 'a', 80, "", "S02 2"),
+    ("> set(&", 'a', 80, " = '')", "0"),
+    ("> set(&", 'a', 81, " = '')", "S02 2"),
+    ("if(&", 'a', 80, " = '') > 'b'", "0"),
+    ("if(&", 'a', 81, " = '') > 'b'", "S02 2"),
+    ("> $", 'a', 80, "", "0"),
+    ("> $", 'a', 81, "", "S02 2"),
+    ("store(k) [T_", 'a', 78, "]", "1"),
+    ("store(k) [T_", 'a', 79, "]", "S11 2"),
+];
+
+/// Whether the parser answers as a row says of a source that has the row's name.
+fn is_limited(alloc: Global, row: LimitRow) -> Result<bool, Fail> {
+    let (before, c, count, after, wanted) = row;
     let mut source = String::new(alloc);
     source.push_str(WITHOUT_KEYS)?;
     source.push_str(before)?;
@@ -664,59 +750,37 @@ fn named(alloc: Global, before: &str, c: char, count: u32, after: &str) -> Resul
     let mut out = String::new(alloc);
     match parse(alloc, source.as_bytes()) {
         Ok(program) => write!(out, "{}", program.stores.len())?,
-        Err(error) => write!(out, "{error}")?,
+        Err(error) => write_error(&mut out, &error)?,
     }
-    Ok(out)
+    Ok(out.as_str() == wanted)
+}
+
+/// Whether bytes are refused in their first line by this code.
+fn is_refused(alloc: Global, source: &[u8], code: Code) -> bool {
+    match parse(alloc, source) {
+        Err(CompileError::Refused(refusal)) => refusal == Refusal { line: 1, code },
+        _ => false,
+    }
+}
+
+#[test]
+fn worked_rows(rt: HostRuntime) -> Result<(), Fail> {
+    for table in [TOKENS, LINES, STATEMENTS, ITEMS] {
+        for row in table.lines() {
+            assert!(rt; is_answered(rt.alloc(), row)?, "{row}");
+        }
+    }
+    assert!(rt; has_parsed_sample(rt.alloc())?);
+    Ok(())
 }
 
 #[test]
 fn limits(rt: HostRuntime) -> Result<(), Fail> {
-    for (before, c, count, after, wanted) in [
-        ("store(", 'a', 80, ")", "1"),
-        ("store(", 'a', 81, ")", "refused S02 line 2"),
-        ("store(", 'é', 80, ")", "1"),
-        ("store(", 'é', 81, ")", "refused S02 line 2"),
-        ("store(&", 'a', 80, ")", "refused S12 line 2"),
-        ("store(&", 'a', 81, ")", "refused S02 line 2"),
-        ("group(&", 'a', 79, ")", "0"),
-        ("group(&", 'a', 80, ")", "refused S02 line 2"),
-        ("begin ANSI > use(&", 'a', 79, ")", "0"),
-        ("begin ANSI > use(&", 'a', 80, ")", "refused S02 line 2"),
-        ("> save(&", 'a', 79, ")", "0"),
-        ("> save(&", 'a', 80, ")", "refused S02 line 2"),
-        ("> $&", 'a', 79, "", "0"),
-        ("> $&", 'a', 80, "", "refused S02 line 2"),
-        ("> set(&", 'a', 80, " = '')", "0"),
-        ("> set(&", 'a', 81, " = '')", "refused S02 line 2"),
-        ("if(&", 'a', 80, " = '') > 'b'", "0"),
-        ("if(&", 'a', 81, " = '') > 'b'", "refused S02 line 2"),
-        ("> $", 'a', 80, "", "0"),
-        ("> $", 'a', 81, "", "refused S02 line 2"),
-        ("store(k) [T_", 'a', 78, "]", "1"),
-        ("store(k) [T_", 'a', 79, "]", "refused S11 line 2"),
-    ] {
-        let given = named(rt.alloc(), before, c, count, after)?;
-        assert_eq!(rt; given.as_str(), wanted, "{before} {count}");
+    for row in LIMITS {
+        assert!(rt; is_limited(rt.alloc(), row)?, "{} {}", row.0, row.2);
     }
-    let bytes = [b'\n', 0xFF, b'\''];
-    assert!(rt;
-        matches!(
-            parse(rt.alloc(), &bytes),
-            Err(CompileError::Refused(Refusal {
-                line: 1,
-                code: Code::L01
-            }))
-        )
-    );
+    assert!(rt; is_refused(rt.alloc(), &[b'\n', 0xFF, b'\''], Code::L01));
     let long = vec![in rt.alloc(); 0xFFu8; 4_194_305]?;
-    assert!(rt;
-        matches!(
-            parse(rt.alloc(), &long),
-            Err(CompileError::Refused(Refusal {
-                line: 1,
-                code: Code::L05
-            }))
-        )
-    );
+    assert!(rt; is_refused(rt.alloc(), &long, Code::L05));
     Ok(())
 }
