@@ -5,7 +5,6 @@ use super::*;
 use kmn_base::Seq;
 use std::alloc::Global;
 use std::fs;
-use std::process::Abort;
 use std::test::Fail;
 
 /// A read: the name, the limit, and what it comes to as text, which are the bytes or the words of the error.
@@ -17,39 +16,31 @@ fn seq(alloc: Global, bytes: &[u8]) -> Result<Seq<u8>, Fail>
     Ok(Seq::from_vec(Vec::from_slice(alloc, bytes)?))
 }
 
-fn expect_read<F: Folder>(
-    rt: &impl Abort,
-    alloc: Global,
-    folder: &mut F,
-    row: ReadRow,
-) -> Result<(), Fail> {
+/// Whether a read comes to what it should.
+fn is_read<F: Folder>(alloc: Global, folder: &mut F, row: ReadRow) -> Result<bool, Fail> {
     let (name, limit, want) = row;
-    let told = match folder.read(alloc, name, limit) {
-        Ok(bytes) => bytes.as_slice().to_vec(alloc)?,
-        Err(error) => format!(in alloc; "{error}")?.into_bytes(),
-    };
-    assert_eq!(rt; told.as_slice(), want.as_bytes());
-    Ok(())
+    Ok(match folder.read(alloc, name, limit) {
+        Ok(bytes) => bytes.as_slice() == want.as_bytes(),
+        Err(error) => format!(in alloc; "{error}")?.as_str() == want,
+    })
 }
 
-/// Writes `12345`, which comes to `written` or the words of the error.
-fn expect_write<F: Folder>(
-    rt: &impl Abort,
+/// Whether a write of `12345` comes to `written` or the words of the error.
+fn is_written<F: Folder>(
     alloc: Global,
     folder: &mut F,
     name: &[u8],
     want: &str,
-) -> Result<(), Fail> {
-    let told = match folder.write(alloc, name, b"12345") {
-        Ok(()) => b"written".to_vec(alloc)?,
-        Err(error) => format!(in alloc; "{error}")?.into_bytes(),
-    };
-    assert_eq!(rt; told.as_slice(), want.as_bytes());
-    Ok(())
+) -> Result<bool, Fail> {
+    Ok(match folder.write(alloc, name, b"12345") {
+        Ok(()) => want == "written",
+        Err(error) => format!(in alloc; "{error}")?.as_str() == want,
+    })
 }
 
-fn expect_put<S: Sink>(rt: &impl Abort, sink: &mut S, want: usize) {
-    assert_eq!(rt; sink.put(b"ab"), Ok(want));
+/// Whether a sink takes two bytes whole.
+fn takes_two<S: Sink>(sink: &mut S) -> bool {
+    sink.put(b"ab") == Ok(2)
 }
 
 /// A folder with the files `a` of two bytes and `ab` of none, whose third call fails.
@@ -61,45 +52,44 @@ fn small_folder(alloc: Global) -> Result<MemoryFolder, Fail> {
     Ok(MemoryFolder::new(alloc, Seq::from_vec(files), fails))
 }
 
+const READS_IN_MEMORY: [ReadRow; 4] = [
+    (b"a", 2, "xy"),
+    (b"a", 1, "the file has 2 bytes or more"),
+    (b"a", 2, "the file can't be read"),
+    (b"b", 2, "the file can't be read"),
+];
+
+const READS_ON_DISK: [ReadRow; 6] = [
+    (b"disk.tmp", 5, "12345"),
+    (b"disk.tmp", usize::MAX, "12345"),
+    (b"disk.tmp", 4, "the file has 5 bytes or more"),
+    (b"missing", 4, "the file can't be read"),
+    (b"\xFF", 4, "the file can't be read"),
+    (b"disk.tmp\0", 9, "the file can't be read"),
+];
+
 #[test]
 fn calls_in_memory(rt: HostRuntime) -> Result<(), Fail> {
-    let rows: [ReadRow; 4] = [
-        (b"a", 2, "xy"),
-        (b"a", 1, "the file has 2 bytes or more"),
-        (b"a", 2, "the file can't be read"),
-        (b"b", 2, "the file can't be read"),
-    ];
     let mut folder = small_folder(rt.alloc())?;
-    for row in rows {
-        expect_read(&rt, rt.alloc(), &mut folder, row)?;
+    for row in READS_IN_MEMORY {
+        assert!(rt; is_read(rt.alloc(), &mut folder, row)?, "{}", row.2);
     }
-    expect_write(&rt, rt.alloc(), &mut folder, b"b", "written")?;
-    expect_put(
-        &rt,
-        &mut MemorySink::new(rt.alloc(), Seq::new(rt.alloc())),
-        2,
-    );
+    assert!(rt; is_written(rt.alloc(), &mut folder, b"b", "written")?);
+    let mut sink = MemorySink::new(rt.alloc(), Seq::new(rt.alloc()));
+    assert!(rt; takes_two(&mut sink));
     Ok(())
 }
 
 #[test]
 fn real_files(rt: HostRuntime) -> Result<(), Fail> {
-    let rows: [ReadRow; 6] = [
-        (b"disk.tmp", 5, "12345"),
-        (b"disk.tmp", usize::MAX, "12345"),
-        (b"disk.tmp", 4, "the file has 5 bytes or more"),
-        (b"missing", 4, "the file can't be read"),
-        (b"\xFF", 4, "the file can't be read"),
-        (b"disk.tmp\0", 9, "the file can't be read"),
-    ];
     let mut folder = DiskFolder::new(&rt);
-    expect_write(&rt, rt.alloc(), &mut folder, b"disk.tmp", "written")?;
-    for row in rows {
-        expect_read(&rt, rt.alloc(), &mut folder, row)?;
+    assert!(rt; is_written(rt.alloc(), &mut folder, b"disk.tmp", "written")?);
+    for row in READS_ON_DISK {
+        assert!(rt; is_read(rt.alloc(), &mut folder, row)?, "{}", row.2);
     }
     let unwritten = "the bytes can't be written";
-    expect_write(&rt, rt.alloc(), &mut folder, b"missing/file", unwritten)?;
-    expect_put(&rt, &mut StreamSink::new(fs::create(&rt, "disk.tmp")?), 2);
+    assert!(rt; is_written(rt.alloc(), &mut folder, b"missing/file", unwritten)?);
+    assert!(rt; takes_two(&mut StreamSink::new(fs::create(&rt, "disk.tmp")?)));
     fs::remove_file(&rt, "disk.tmp")?;
     Ok(())
 }
