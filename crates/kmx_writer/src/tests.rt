@@ -1,6 +1,5 @@
 ghost use Rattle.std.specs.Prelude.{◌≡◌, ◌∷◌, [], IfOk};
 ghost use Rattle.kmx_format.specs.WorkedFiles.{plain_rule, main_tables, one_rule, two_keys};
-ghost use Rattle.kmx_format.specs.Writable.{IsWritable};
 
 use crate::write;
 use kmn_base::{Code, CompileError, Element, Memory, RuleKey, Seq, Text};
@@ -115,36 +114,43 @@ fn two_keys(alloc: Global) -> Result<Tables, Memory>
     )
 }
 
-/// Why a file with a picture of so many bytes isn't written.
-fn fault(alloc: Global, tables: &Tables, size: usize) -> Result<Option<CompileError>, Memory>
-    requires { IsWritable tables.now }
-{
-    let picture = vec![in alloc; 0u8; size]?;
-    match write(alloc, tables, &picture) {
-        Ok(_) => Ok(None),
-        Err(error) => Ok(Some(error)),
+fn write_one_rule(alloc: Global, picture: &[u8]) -> Result<Seq<u8>, CompileError> {
+    let tables = one_rule(alloc)?;
+    write(alloc, &tables, picture)
+}
+
+fn write_two_keys(alloc: Global) -> Result<Seq<u8>, CompileError> {
+    let tables = two_keys(alloc)?;
+    write(alloc, &tables, &[])
+}
+
+fn is_file(written: Result<Seq<u8>, CompileError>, wanted: &[u8]) -> bool {
+    match written {
+        Ok(file) => file.as_slice() == wanted,
+        Err(_) => false,
     }
+}
+
+/// Whether the file of one rule has its size with a picture of four bytes, and isn't written with one past the limit.
+fn pictures_are_right(alloc: Global) -> Result<bool, Fail> {
+    let file = write_one_rule(alloc, &[0, 1, 2, 3])?;
+    let large = vec![in alloc; 0u8; 1_048_577]?;
+    Ok(
+        file.len() == 126
+            && matches!(
+                write_one_rule(alloc, &large),
+                Err(CompileError::TooLarge {
+                    code: Code::C24,
+                    size: 1_048_577
+                })
+            ),
+    )
 }
 
 #[test]
 fn worked_files(rt: HostRuntime) -> Result<(), Fail> {
-    let first = one_rule(rt.alloc())?;
-    let file = write(rt.alloc(), &first, &[])?;
-    assert_eq!(rt; file.as_slice(), ONE_RULE.as_slice());
-    let second = two_keys(rt.alloc())?;
-    let file = write(rt.alloc(), &second, &[])?;
-    assert_eq!(rt; file.as_slice(), TWO_KEYS.as_slice());
-    let picture = write(rt.alloc(), &first, &[0, 1, 2, 3])?;
-    assert_eq!(rt; picture.len(), 126);
-    let large = fault(rt.alloc(), &first, 1_048_577)?;
-    assert!(rt;
-        matches!(
-            large,
-            Some(CompileError::TooLarge {
-                code: Code::C24,
-                size: 1_048_577
-            })
-        )
-    );
+    assert!(rt; is_file(write_one_rule(rt.alloc(), &[]), &ONE_RULE));
+    assert!(rt; is_file(write_two_keys(rt.alloc()), &TWO_KEYS));
+    assert!(rt; pictures_are_right(rt.alloc())?);
     Ok(())
 }
