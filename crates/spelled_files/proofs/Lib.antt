@@ -1,0 +1,4 @@
+pub mod CalledNames
+pub mod Sayable
+pub mod TameNames
+pub mod WrittenOut

@@ -1,0 +1,5 @@
+pub mod Causes
+pub mod Excess
+pub mod Laws
+pub mod Places
+pub mod Unspelled
