@@ -225,15 +225,18 @@ fn has_numbers(names: &Names, row: NumberRow) -> bool {
         && names.keys().code_of(name) == key
 }
 
+/// Whether each name has its numbers.
+fn are_numbered(alloc: Global) -> Result<bool, Fail> {
+    let program = program(alloc, NUMBERED)?;
+    let names = number(alloc, &program)?;
+    Ok(NUMBERS.iter().all(|row| has_numbers(&names, *row)))
+}
+
 #[test]
 fn names_of_programs(rt: HostRuntime) -> Result<(), Fail> {
     for (source, wanted) in REFUSALS {
         assert!(rt; is_refused(rt.alloc(), source, wanted)?, "{source}");
     }
-    let program = program(rt.alloc(), NUMBERED)?;
-    let names = number(rt.alloc(), &program)?;
-    for row in NUMBERS {
-        assert!(rt; has_numbers(&names, row), "{}", row.0);
-    }
+    assert!(rt; are_numbered(rt.alloc())?);
     Ok(())
 }
