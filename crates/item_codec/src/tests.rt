@@ -1,32 +1,105 @@
 //! Bytes and what they give, and each item as its bytes.
 
-ghost use Rattle.std.specs.Prelude.{◌≤◌, length};
-ghost use Rattle.kmn_base.specs.declared.limits.TheConstants.{FILE_BYTES};
-
-use crate::{UnitItem, items_of, spell};
+use crate::{BadKind, BadUnits, UnitItem, items_of, spell};
 use kmn_base::{Memory, Seq};
 use std::alloc::{AllocError, Global};
 use std::test::Fail;
 
-/// Bytes, and what a walk over them gives. The first are the items of `every_kind`.
-const WALKS: [(&str, &str); 8] = [
-    (
-        "3d d8 00 de ff ff 01 00 02 00 ff ff 02 00 03 00 04 00 ff ff 03 00 ff ff 04 00 ff ff 05 00 01 00 \
+/// Bytes, and what a walk over them gives.
+type WalkRow = (&'static str, &'static [Result<UnitItem, BadUnits>]);
+
+/// Bytes that give the items of `every_kind`.
+const EVERY_KIND: WalkRow = (
+    "3d d8 00 de ff ff 01 00 02 00 ff ff 02 00 03 00 04 00 ff ff 03 00 ff ff 04 00 ff ff 05 00 01 00 \
 ff ff 06 00 ff ff 07 00 ff ff 08 00 09 01 ff ff 0a 00 10 40 41 00 10 00 ff ff 11 00 02 00 ff ff 12 00 05 00 \
 ff ff 13 00 06 00 07 00 ff ff 14 00 06 00 02 00 07 00 ff ff 15 00 fe ff ff ff 16 00 08 00",
-        "Char('\u{1F600}'), Any(2), Index(3, 4), Context, Nul, Enter(1), Stop, Beep, Dead(265), \
-Key(16400, 65), ContextAt(2), NotAny(5), Set(6, 7), Test(6, 2, 7), Save(65534), Reset(8)",
-    ),
+    &[
+        Ok(UnitItem::Char('\u{1F600}')),
+        Ok(UnitItem::Any(2)),
+        Ok(UnitItem::Index(3, 4)),
+        Ok(UnitItem::Context),
+        Ok(UnitItem::Nul),
+        Ok(UnitItem::Enter(1)),
+        Ok(UnitItem::Stop),
+        Ok(UnitItem::Beep),
+        Ok(UnitItem::Dead(265)),
+        Ok(UnitItem::Key(0x4010, 65)),
+        Ok(UnitItem::ContextAt(2)),
+        Ok(UnitItem::NotAny(5)),
+        Ok(UnitItem::Set(6, 7)),
+        Ok(UnitItem::Test(6, 2, 7)),
+        Ok(UnitItem::Save(0xFFFE)),
+        Ok(UnitItem::Reset(8)),
+    ],
+);
+
+const FAULTS: [WalkRow; 7] = [
     (
         "ff ff 03 00 61 00 ff ff 14 00 01 00 03 00 02 00 61 00",
-        "Context, Char('a'), bad U5 at 6 code 0",
+        &[
+            Ok(UnitItem::Context),
+            Ok(UnitItem::Char('a')),
+            Err(BadUnits {
+                kind: BadKind::U5,
+                at: 6,
+                code: 0,
+            }),
+        ],
     ),
-    ("ff ff 0a 00 00 40 41 00 11 00", "bad U4 at 0 code 0"),
-    ("61 00 ff ff 09 00", "Char('a'), bad U2 at 2 code 9"),
-    ("3d d8 61 00", "bad U1 at 0 code 0"),
-    ("62 00 61", "Char('b'), bad U6 at 2 code 0"),
-    ("00 00 61 00", "bad U3 at 0 code 0"),
-    ("ff ff 14 00 00 00 03 00 02", "bad U6 at 0 code 0"),
+    (
+        "ff ff 0a 00 00 40 41 00 11 00",
+        &[Err(BadUnits {
+            kind: BadKind::U4,
+            at: 0,
+            code: 0,
+        })],
+    ),
+    (
+        "61 00 ff ff 09 00",
+        &[
+            Ok(UnitItem::Char('a')),
+            Err(BadUnits {
+                kind: BadKind::U2,
+                at: 2,
+                code: 9,
+            }),
+        ],
+    ),
+    (
+        "3d d8 61 00",
+        &[Err(BadUnits {
+            kind: BadKind::U1,
+            at: 0,
+            code: 0,
+        })],
+    ),
+    (
+        "62 00 61",
+        &[
+            Ok(UnitItem::Char('b')),
+            Err(BadUnits {
+                kind: BadKind::U6,
+                at: 2,
+                code: 0,
+            }),
+        ],
+    ),
+    (
+        "00 00 61 00",
+        &[Err(BadUnits {
+            kind: BadKind::U3,
+            at: 0,
+            code: 0,
+        })],
+    ),
+    (
+        "ff ff 14 00 00 00 03 00 02",
+        &[Err(BadUnits {
+            kind: BadKind::U6,
+            at: 0,
+            code: 0,
+        })],
+    ),
 ];
 
 /// The bytes of a text of hexadecimal numbers.
@@ -40,22 +113,14 @@ fn bytes_of(alloc: Global, text: &str) -> Result<Vec<u8>, AllocError> {
     Ok(bytes)
 }
 
-/// What a walk over bytes gives, as text.
-fn given(alloc: Global, bytes: &[u8]) -> Result<String, Fail>
-    requires { length bytes.now ≤ FILE_BYTES }
-{
-    let mut text = String::new(alloc);
-    for result in items_of(bytes) {
-        if !text.is_empty() {
-            text.push_str(", ")?;
-        }
-        let word = match result {
-            Ok(item) => format!(in alloc; "{item:?}")?,
-            Err(bad) => format!(in alloc; "bad {:?} at {} code {}", bad.kind, bad.at, bad.code)?,
-        };
-        text.push_str(word.as_str())?;
+/// Whether a walk over bytes gives what it should.
+fn is_walked(alloc: Global, row: WalkRow) -> Result<bool, Fail> {
+    let bytes = bytes_of(alloc, row.0)?;
+    let mut given = Vec::new(alloc);
+    for result in items_of(&bytes[..bytes.len().min(256)]) {
+        given.push(result)?;
     }
-    Ok(text)
+    Ok(given.as_slice() == row.1)
 }
 
 /// Spells an item of each kind.
@@ -78,17 +143,20 @@ fn every_kind(out: &mut Seq<u8>) -> Result<(), Memory> {
     spell(out, UnitItem::Reset(8))
 }
 
+/// Whether the items of each kind are spelled as they should.
+fn are_spelled(alloc: Global) -> Result<bool, Fail> {
+    let mut spelled = Seq::new(alloc);
+    every_kind(&mut spelled)?;
+    let wanted = bytes_of(alloc, EVERY_KIND.0)?;
+    Ok(spelled.as_slice() == wanted.as_slice())
+}
+
 #[test]
 fn bytes_and_their_items(rt: HostRuntime) -> Result<(), Fail> {
-    for (bytes, wanted) in WALKS {
-        let bytes = bytes_of(rt.alloc(), bytes)?;
-        let walked = &bytes[..bytes.len().min(256)];
-        let text = given(rt.alloc(), walked)?;
-        assert_eq!(rt; text.as_str(), wanted);
+    for row in FAULTS {
+        assert!(rt; is_walked(rt.alloc(), row)?, "{}", row.0);
     }
-    let mut spelled = Seq::new(rt.alloc());
-    every_kind(&mut spelled)?;
-    let wanted = bytes_of(rt.alloc(), WALKS[0].0)?;
-    assert_eq!(rt; spelled.as_slice(), wanted.as_slice());
+    assert!(rt; is_walked(rt.alloc(), EVERY_KIND)?);
+    assert!(rt; are_spelled(rt.alloc())?);
     Ok(())
 }
