@@ -9,8 +9,7 @@ use kmn_base::slices::{before, behind};
 use std::alloc::{AllocError, Global};
 use std::test::Fail;
 
-const SOURCES: &str = r#"
-a => [1 0..1|1:a]
+const SOURCES: &str = r#"a => [1 0..1|1:a]
 a¶ => [1 0..2|1:a]
 a¶¶b => [1 0..2|1:a][2 2..3|2:][3 3..4|3:b]
 a§¶b => [1 0..3|1:a][2 3..4|2:b]
@@ -55,8 +54,7 @@ $keymanweb: 'a => [1 0..14]
 \¶$keyman:a => [1 0..11|1:|2:a]
 \¶$kmfl:a => [1 0..9|1:]
 $keymanwebs a => [1 0..13|1:$keymanwebs a]
-a $keyman:b => [1 0..11|1:a $keyman:b]
-"#;
+a $keyman:b => [1 0..11|1:a $keyman:b]"#;
 
 /// The text that a text of the table stands for.
 fn source_of(alloc: Global, text: &str) -> Result<String, AllocError> {
@@ -97,16 +95,21 @@ fn shown(alloc: Global, source: &str) -> Result<Vec<u8>, AllocError>
     Ok(out)
 }
 
+/// Whether a row's source has its lines and parts.
+fn is_cut(alloc: Global, row: &str) -> Result<bool, Fail> {
+    let (text, wanted) = row.split_once(" => ").ok_or("a row without an answer")?;
+    let source = source_of(alloc, text)?;
+    let wanted = source_of(alloc, wanted)?;
+    if source.len() < 100 {
+        return Ok(shown(alloc, source.as_str())?.as_slice() == wanted.as_bytes());
+    }
+    Ok(false)
+}
+
 #[test]
 fn sources_are_cut_into_lines(rt: HostRuntime) -> Result<(), Fail> {
     for row in SOURCES.lines() {
-        if let Some((text, wanted)) = row.split_once(" => ") {
-            let source = source_of(rt.alloc(), text)?;
-            let wanted = source_of(rt.alloc(), wanted)?;
-            assert!(rt; source.len() < 100);
-            let found = shown(rt.alloc(), source.as_str())?;
-            assert_eq!(rt; found.as_slice(), wanted.as_bytes(), "{row}");
-        }
+        assert!(rt; is_cut(rt.alloc(), row)?, "{row}");
     }
     Ok(())
 }
