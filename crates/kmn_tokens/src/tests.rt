@@ -13,8 +13,7 @@ use kmn_lines::{Logical, lines};
 use std::alloc::{AllocError, Global};
 use std::test::Fail;
 
-const SOURCES: &str = r#"
-store(v) 'ab' => [Word 1 store|Open 1 (|Word 1 v|Close 1 )|Quoted 1 'ab'|]
+const SOURCES: &str = r#"store(v) 'ab' => [Word 1 store|Open 1 (|Word 1 v|Close 1 )|Quoted 1 'ab'|]
 [K_A] > U+0041 => [BracketOpen 1 [|Word 1 K_A|BracketClose 1 ]|Arrow 1 >|U 41 1 U+0041|]
 a+b=c,d!=e!f => [Word 1 a|Plus 1 +|Word 1 b|Equal 1 =|Word 1 c|Comma 1 ,|Word 1 d|Unequal 1 !=|Word 1 e!f|]
 ! !! !== a! !!= => [Word 1 !|Word 1 !!|Unequal 1 !=|Equal 1 =|Word 1 a!|Word 1 !|Unequal 1 !=|]
@@ -65,8 +64,7 @@ abc d => [Word 1 abc|Word 1 d|]
 + 'a' > \¶'b' c x \¶+ 'c' > 'd' => [Plus 1 +|Quoted 1 'a'|Arrow 1 >|Quoted 2 'b'|][Plus 3 +|Quoted 3 'c'|Arrow 3 >|Quoted 3 'd'|]
 + 'a' > \ 'b' => [Plus 1 +|Quoted 1 'a'|Arrow 1 >|Word 1 \|Quoted 1 'b'|]
 †U+0041 => [U 41 1 U+0041|]
-††a => [Word 1 †a|]
-"#;
+††a => [Word 1 †a|]"#;
 
 /// The text that a text of the table stands for.
 fn source_of(alloc: Global, text: &str) -> Result<String, AllocError> {
@@ -145,16 +143,21 @@ fn shown(alloc: Global, source: &str) -> Result<Vec<u8>, AllocError>
     Ok(out)
 }
 
+/// Whether a row's source has its tokens or refusals.
+fn is_right(alloc: Global, row: &str) -> Result<bool, Fail> {
+    let (text, wanted) = row.split_once(" => ").ok_or("a row without an answer")?;
+    let source = source_of(alloc, text)?;
+    let wanted = source_of(alloc, wanted)?;
+    if source.len() < 100 {
+        return Ok(shown(alloc, source.as_str())?.as_slice() == wanted.as_bytes());
+    }
+    Ok(false)
+}
+
 #[test]
 fn lines_have_tokens(rt: HostRuntime) -> Result<(), Fail> {
     for row in SOURCES.lines() {
-        if let Some((text, wanted)) = row.split_once(" => ") {
-            let source = source_of(rt.alloc(), text)?;
-            let wanted = source_of(rt.alloc(), wanted)?;
-            assert!(rt; source.len() < 100);
-            let found = shown(rt.alloc(), source.as_str())?;
-            assert_eq!(rt; found.as_slice(), wanted.as_bytes(), "{row}");
-        }
+        assert!(rt; is_right(rt.alloc(), row)?, "{row}");
     }
     Ok(())
 }
