@@ -10,43 +10,49 @@ const ONE_RULE: [u8; 122] = [
     0x61, 0, 0x69, 0, 0x6E, 0, 0, 0, 0x62, 0, 0, 0,
 ];
 
+const GROUP: GroupRef = GroupRef {
+    name: 108,
+    keys: 88,
+    on_match: 0,
+    on_nomatch: 0,
+    count: 1,
+    using_keys: 1,
+};
+
+const RULE: RuleRef = RuleRef {
+    key: 0x61,
+    line: 3,
+    flags: 0,
+    output: 118,
+    context: 0,
+};
+
+/// Whether the file has its words and strings, and none behind its end.
+fn has_words(view: KmxView<'_>) -> bool {
+    view.word(0) == Some(0x5354_584B)
+        && view.word(118) == Some(0x62)
+        && view.word(119).is_none()
+        && view.string(0) == Some([].as_slice())
+        && view.string(118) == Some([0x62, 0].as_slice())
+        && view.string(121).is_none()
+        && view.string(122).is_none()
+        && view.string(u32::MAX).is_none()
+}
+
+/// Whether the file has its one group and rule, and no other.
+fn has_records(view: KmxView<'_>) -> bool {
+    view.store(0).is_none()
+        && view.group(0) == Some(GROUP)
+        && view.group(1).is_none()
+        && view.rule(0, 0) == Some(RULE)
+        && view.rule(0, 1).is_none()
+        && view.rule(1, 0).is_none()
+}
+
 #[test]
 fn parts_of_one_rule(rt: HostRuntime) -> Result<(), Fail> {
     let view = KmxView::of(&ONE_RULE);
-    let group = GroupRef {
-        name: 108,
-        keys: 88,
-        on_match: 0,
-        on_nomatch: 0,
-        count: 1,
-        using_keys: 1,
-    };
-    let rule = RuleRef {
-        key: 0x61,
-        line: 3,
-        flags: 0,
-        output: 118,
-        context: 0,
-    };
-    assert_eq!(rt;
-        (view.word(0), view.word(118), view.word(119)),
-        (Some(0x5354_584B), Some(0x62), None)
-    );
-    assert_eq!(rt;
-        (view.store(0), view.group(0), view.group(1)),
-        (None, Some(group), None)
-    );
-    assert_eq!(rt;
-        (view.rule(0, 0), view.rule(0, 1), view.rule(1, 0)),
-        (Some(rule), None, None)
-    );
-    assert_eq!(rt;
-        (view.string(0), view.string(118)),
-        (Some([].as_slice()), Some([0x62, 0].as_slice()))
-    );
-    assert_eq!(rt;
-        (view.string(121), view.string(122), view.string(u32::MAX)),
-        (None, None, None)
-    );
+    assert!(rt; has_words(view));
+    assert!(rt; has_records(view));
     Ok(())
 }
