@@ -1,41 +1,193 @@
 //! Sources, and the tables that they have before records are put in order.
 
 use crate::expand;
-use kmn_base::{CompileError, Memory};
+use kmn_base::{CompileError, Element, RuleKey};
 use kmn_parser::laws::{programs_are_read, statements_are_in_order};
 use kmn_parser::parse;
 use rule_checker::{Checked, check};
-use rule_model::{Group, Rule, Store, Tables};
+use rule_model::{Group, Out, Pat, Rule, Store};
 use std::alloc::Global;
 use std::test::Fail;
 
-/// The two lines before the statements of most sources.
+/// The two lines before the statements of a source.
 const HEAD: &str = "begin Unicode > use(main)\ngroup(main) using keys\n";
 
-/// A source behind the two lines, and its stores and records. A store is its system id and its elements, a record its
-/// line, its place in the key store, its key, context and output.
-const SOURCES: [(&str, &str); 6] = [
-    ("+ 'a' > 'b'", "3 0 Char(97) [] [Char('b')]\n"),
+/// A store's system id and its elements.
+type StoreRow = (u32, &'static [Element]);
+
+/// A record's line, its place in the key store, its key, context and output.
+type RuleRow = (u32, u32, RuleKey, &'static [Pat], &'static [Out]);
+
+/// The statements of a source behind the two lines, and the stores and records that it has.
+const SOURCES: [(&str, &[StoreRow], &[RuleRow]); 6] = [
+    (
+        "+ 'a' > 'b'",
+        &[],
+        &[(3, 0, RuleKey::Char(97), &[], &[Out::Char('b')])],
+    ),
     (
         "store(v) \"aea\"\nstore(w) \"xyz\"\nany(v) + '1' > index(w,1)",
-        "0 [Char('a'), Char('e'), Char('a')]\n0 [Char('x'), Char('y'), Char('z')]\n5 0 Char(49) [Any(0)] [Index(1, 1)]\n",
+        &[
+            (
+                0,
+                &[Element::Char('a'), Element::Char('e'), Element::Char('a')],
+            ),
+            (
+                0,
+                &[Element::Char('x'), Element::Char('y'), Element::Char('z')],
+            ),
+        ],
+        &[(5, 0, RuleKey::Char(49), &[Pat::Any(0)], &[Out::Index(1, 1)])],
     ),
     (
         "store(k) [K_A] [SHIFT K_A]\nstore(o) 'xy'\n+ any(k) > index(o,1)",
-        "0 [Key { flags: 16384, code: 65 }, Key { flags: 16400, code: 65 }]\n0 [Char('x'), Char('y')]\n5 0 Virtual { flags: 16384, code: 65 } [] [Char('x')]\n5 1 Virtual { flags: 16400, code: 65 } [] [Char('y')]\n",
+        &[
+            (
+                0,
+                &[
+                    Element::Key {
+                        flags: 16384,
+                        code: 65,
+                    },
+                    Element::Key {
+                        flags: 16400,
+                        code: 65,
+                    },
+                ],
+            ),
+            (0, &[Element::Char('x'), Element::Char('y')]),
+        ],
+        &[
+            (
+                5,
+                0,
+                RuleKey::Virtual {
+                    flags: 16384,
+                    code: 65,
+                },
+                &[],
+                &[Out::Char('x')],
+            ),
+            (
+                5,
+                1,
+                RuleKey::Virtual {
+                    flags: 16400,
+                    code: 65,
+                },
+                &[],
+                &[Out::Char('y')],
+            ),
+        ],
     ),
     (
         "store(o) \"0\"\nif(o = \"1\") + 'a' > 'x'\n+ 's' > set(o = \"1\") save(o)\n+ 'z' > set(o = \"0\") reset(o)",
-        "0 [Char('0')]\n0 [Char('1')]\n0 [Char('0')]\n4 0 Char(97) [Equal(0, 1)] [Char('x')]\n5 0 Char(115) [] [Set(0, 1), Save(0)]\n6 0 Char(122) [] [Set(0, 2), Reset(0)]\n",
+        &[
+            (0, &[Element::Char('0')]),
+            (0, &[Element::Char('1')]),
+            (0, &[Element::Char('0')]),
+        ],
+        &[
+            (
+                4,
+                0,
+                RuleKey::Char(97),
+                &[Pat::Equal(0, 1)],
+                &[Out::Char('x')],
+            ),
+            (
+                5,
+                0,
+                RuleKey::Char(115),
+                &[],
+                &[Out::Set(0, 1), Out::Save(0)],
+            ),
+            (
+                6,
+                0,
+                RuleKey::Char(122),
+                &[],
+                &[Out::Set(0, 2), Out::Reset(0)],
+            ),
+        ],
     ),
     (
         "store(s) dk(b) 'x'\nstore(t) outs(s) dk(a)\n+ [T_flip] > outs(t)\ndk(a) + [K_A] > nul\n+ [t_other] > $s",
-        "0 [Mark(1), Char('x')]\n0 [Mark(1), Char('x'), Mark(2)]\n34 [Char('T'), Char('_'), Char('f'), Char('l'), Char('i'), Char('p'), Char(' '), Char('t'), Char('_'), Char('o'), Char('t'), Char('h'), Char('e'), Char('r')]\n5 0 Virtual { flags: 16384, code: 256 } [] [Mark(1), Char('x'), Mark(2)]\n6 0 Virtual { flags: 16384, code: 65 } [Mark(2)] [Nul]\n7 0 Virtual { flags: 16384, code: 257 } [] [Mark(1), Char('x')]\n",
+        &[
+            (0, &[Element::Mark(1), Element::Char('x')]),
+            (0, &[Element::Mark(1), Element::Char('x'), Element::Mark(2)]),
+            (34, &T_FLIP_T_OTHER),
+        ],
+        &[
+            (
+                5,
+                0,
+                RuleKey::Virtual {
+                    flags: 16384,
+                    code: 256,
+                },
+                &[],
+                &[Out::Mark(1), Out::Char('x'), Out::Mark(2)],
+            ),
+            (
+                6,
+                0,
+                RuleKey::Virtual {
+                    flags: 16384,
+                    code: 65,
+                },
+                &[Pat::Mark(2)],
+                &[Out::Nul],
+            ),
+            (
+                7,
+                0,
+                RuleKey::Virtual {
+                    flags: 16384,
+                    code: 257,
+                },
+                &[],
+                &[Out::Mark(1), Out::Char('x')],
+            ),
+        ],
     ),
     (
         "store(&version) '9.0'\nstore(k) 'abc'\nstore(o) 'x'\n+ any(k) > index(o,1)",
-        "8 [Char('9'), Char('.'), Char('0')]\n0 [Char('a'), Char('b'), Char('c')]\n0 [Char('x')]\n6 0 Char(97) [] [Char('x')]\n6 1 Char(98) [] [Nul]\n6 2 Char(99) [] [Nul]\n",
+        &[
+            (
+                8,
+                &[Element::Char('9'), Element::Char('.'), Element::Char('0')],
+            ),
+            (
+                0,
+                &[Element::Char('a'), Element::Char('b'), Element::Char('c')],
+            ),
+            (0, &[Element::Char('x')]),
+        ],
+        &[
+            (6, 0, RuleKey::Char(97), &[], &[Out::Char('x')]),
+            (6, 1, RuleKey::Char(98), &[], &[Out::Nul]),
+            (6, 2, RuleKey::Char(99), &[], &[Out::Nul]),
+        ],
     ),
+];
+
+/// The dictionary of the names `T_flip` and `t_other`.
+const T_FLIP_T_OTHER: [Element; 14] = [
+    Element::Char('T'),
+    Element::Char('_'),
+    Element::Char('f'),
+    Element::Char('l'),
+    Element::Char('i'),
+    Element::Char('p'),
+    Element::Char(' '),
+    Element::Char('t'),
+    Element::Char('_'),
+    Element::Char('o'),
+    Element::Char('t'),
+    Element::Char('h'),
+    Element::Char('e'),
+    Element::Char('r'),
 ];
 
 /// The accepted program of a source.
@@ -46,51 +198,57 @@ fn accepted(alloc: Global, source: &[u8]) -> Result<Checked, CompileError> {
     check(alloc, program)
 }
 
-fn add_stores(text: &mut String, alloc: Global, stores: &[Store]) -> Result<(), Memory> {
-    for store in stores {
-        let line = format!(in alloc; "{} {:?}\n", store.system, store.elements.as_slice())?;
-        text.push_str(line.as_str())?;
-    }
-    Ok(())
+fn are_stores(stores: &[Store], rows: &[StoreRow]) -> bool {
+    stores.len() == rows.len()
+        && stores.iter().zip(rows).all(|(store, row)| store.system == row.0
+            && store.elements.as_slice() == row.1)
 }
 
-fn add_rules(text: &mut String, alloc: Global, rules: &[Rule]) -> Result<(), Memory> {
-    for rule in rules {
-        let place = format!(in alloc; "{} {} {:?}", rule.line, rule.place, rule.key)?;
-        let items = format!(in alloc;
-            " {:?} {:?}\n",
-            rule.context.as_slice(),
-            rule.output.as_slice()
-        )?;
-        text.push_str(place.as_str())?;
-        text.push_str(items.as_str())?;
-    }
-    Ok(())
+fn is_record(rule: &Rule, row: RuleRow) -> bool {
+    let (line, place, key, context, output) = row;
+    rule.line == line
+        && rule.place == place
+        && rule.key == key
+        && rule.context.as_slice() == context
+        && rule.output.as_slice() == output
 }
 
-fn add_groups(text: &mut String, alloc: Global, groups: &[Group]) -> Result<(), Memory> {
-    for group in groups {
-        add_rules(text, alloc, group.rules.as_slice())?;
-    }
-    Ok(())
+fn are_records(groups: &[Group], rows: &[RuleRow]) -> bool {
+    groups.iter().all(|group| {
+        group.rules.len() == rows.len()
+            && group
+                .rules
+                .as_slice()
+                .iter()
+                .zip(rows)
+                .all(|(rule, row)| is_record(rule, *row))
+    })
 }
 
-/// The stores and records of tables.
-fn text_of(alloc: Global, tables: &Tables) -> Result<String, Memory> {
-    let mut text = String::new(alloc);
-    add_stores(&mut text, alloc, tables.stores.as_slice())?;
-    add_groups(&mut text, alloc, tables.groups.as_slice())?;
-    Ok(text)
+/// Whether a source has these stores and records.
+fn expands_to(
+    alloc: Global,
+    statements: &str,
+    stores: &[StoreRow],
+    records: &[RuleRow],
+) -> Result<bool, Fail> {
+    let source = format!(in alloc; "{HEAD}{statements}\n")?;
+    let checked = accepted(alloc, source.as_bytes())?;
+    let tables = expand(alloc, &checked)?;
+    Ok(
+        are_stores(tables.stores.as_slice(), stores)
+            && tables.groups.len() == 1
+            && are_records(tables.groups.as_slice(), records),
+    )
 }
 
 #[test]
 fn expands_sources(rt: HostRuntime) -> Result<(), Fail> {
-    for (statements, expected) in SOURCES {
-        let source = format!(in rt.alloc(); "{HEAD}{statements}\n")?;
-        let checked = accepted(rt.alloc(), source.as_bytes())?;
-        let tables = expand(rt.alloc(), &checked)?;
-        let text = text_of(rt.alloc(), &tables)?;
-        assert_eq!(rt; text.as_str(), expected, "{statements}");
+    for (statements, stores, records) in SOURCES {
+        assert!(rt;
+            expands_to(rt.alloc(), statements, stores, records)?,
+            "{statements}"
+        );
     }
     Ok(())
 }
