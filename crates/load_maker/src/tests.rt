@@ -1,4 +1,5 @@
 use crate::{LoadError, make};
+use std::alloc::Global;
 use std::test::Fail;
 
 /// The source and the script of the load of 1.
@@ -18,19 +19,25 @@ const SIZES: [(u32, Option<(usize, usize)>); 6] = [
     (4_294_967_295, None),
 ];
 
+/// Whether the load of 1 is its source and script.
+fn is_made(alloc: Global) -> Result<bool, Fail> {
+    let load = make(alloc, 1)?;
+    Ok(load.source.as_slice() == SOURCE.as_bytes() && load.script.as_slice() == SCRIPT.as_bytes())
+}
+
+/// Whether the load of a number has its sizes, or is refused.
+fn has_sizes(alloc: Global, n: u32, sizes: Option<(usize, usize)>) -> bool {
+    match make(alloc, n) {
+        Ok(load) => sizes == Some((load.source.len(), load.script.len())),
+        Err(error) => error == LoadError::Range && sizes.is_none(),
+    }
+}
+
 #[test]
 fn loads(rt: HostRuntime) -> Result<(), Fail> {
-    let load = make(rt.alloc(), 1)?;
-    assert_eq!(rt; load.source.as_slice(), SOURCE.as_bytes());
-    assert_eq!(rt; load.script.as_slice(), SCRIPT.as_bytes());
+    assert!(rt; is_made(rt.alloc())?);
     for (n, sizes) in SIZES {
-        match make(rt.alloc(), n) {
-            Ok(load) => assert_eq!(rt; sizes, Some((load.source.len(), load.script.len())), "{n}"),
-            Err(error) => {
-                assert_eq!(rt; error, LoadError::Range, "{n}");
-                assert_eq!(rt; sizes, None, "{n}");
-            }
-        }
+        assert!(rt; has_sizes(rt.alloc(), n, sizes), "{n}");
     }
     Ok(())
 }
