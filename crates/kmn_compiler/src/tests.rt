@@ -1,8 +1,11 @@
+//! Sources, and what they compile to or how they are refused.
+
 use crate::{Compiled, compile, front, picture_name};
-use kmn_base::{Code, CompileError, Memory};
-use std::alloc::Global;
+use kmn_base::{Code, CompileError};
+use std::alloc::{AllocError, Global};
 use std::test::Fail;
 
+/// The file of one rule, `+ 'a' > 'b'` in line 3, in a group `main` that uses keys.
 const ONE_RULE: [u8; 122] = [
     0x4B, 0x58, 0x54, 0x53, 0x00, 0x0A, 0x00, 0x00, 0, 0, 0, 0, 0, 0, 0, 0, 0, 0, 0, 0, 0, 0, 0, 0,
     0, 0, 0, 0, 1, 0, 0, 0, 0, 0, 0, 0, 0x40, 0, 0, 0, 0xFF, 0xFF, 0xFF, 0xFF, 0, 0, 0, 0, 0, 0, 0,
@@ -11,20 +14,67 @@ const ONE_RULE: [u8; 122] = [
     0x61, 0, 0x69, 0, 0x6E, 0, 0, 0, 0x62, 0, 0, 0,
 ];
 
-#[test]
-fn writes_the_worked_file(rt: HostRuntime) -> Result<(), Fail> {
-    let source = b"begin Unicode > use(main)\ngroup(main) using keys\n+ 'a' > 'b'\n";
-    let compiled = compile(rt.alloc(), source, &[])?;
-    assert_eq!(rt; compiled.bytes.as_slice(), ONE_RULE.as_slice());
-    Ok(())
-}
-
-/// What a source compiles to: the lines of its records in their order, as digits, and its size; or where it is refused.
-#[derive(Debug, Drop, PartialEq)]
+/// What a source compiles to: the lines of its records in their order, as digits, and its size; or where it is refused; or
+/// the size that its file would have.
+#[derive(Clone, Copy, PartialEq)]
 enum Answer {
     File(u64, usize),
     Refused(u32, Code),
+    TooLarge(Code, u64),
 }
+
+/// Sources, and what they compile to without a picture.
+const SOURCES: [(&str, Answer); 9] = [
+    (
+        "store(v) 'a' \\\n'e' \\\n'i' c vowels \\\nbegin Unicode > use(main)\ngroup(main) using keys\n+ any(v) > 'x'",
+        Answer::File(666, 194),
+    ),
+    (
+        "begin Unicode>use(main)\ngroup(main) using keys\n+ 'c' > 'x'\n'a' + 'c' > 'y'",
+        Answer::File(43, 150),
+    ),
+    (
+        "begin Unicode>use(main)\ngroup(main) using keys\n+ 'a' > 'x'\n+ [K_A] > 'y'",
+        Answer::File(34, 146),
+    ),
+    (
+        "store(k) [K_A] [SHIFT K_A]\nstore(o) 'xy'\nbegin Unicode>use(main)\ngroup(main) using keys\n+ any(k) > index(o,1)",
+        Answer::File(55, 206),
+    ),
+    ("", Answer::Refused(1, Code::C01)),
+    (
+        "begin Unicode>use(main)\ngroup(main) using keys\n+ 'a' > ",
+        Answer::Refused(3, Code::S06),
+    ),
+    (
+        "begin Unicode>use(main)\ngroup(main) using keys\n+ 'a' > call(d)\nany(q) + 'b' > 'c'",
+        Answer::Refused(4, Code::C05),
+    ),
+    (
+        "begin Unicode>use(main)\ngroup(main) using keys\n+ 'a' > call(d)",
+        Answer::Refused(3, Code::C11),
+    ),
+    (
+        "begin Unicode>use(main)\ngroup(main) using keys\nstore(&version) '5.0'",
+        Answer::Refused(3, Code::C12),
+    ),
+];
+
+/// The statements before a source of one rule, its picture's name, and what it compiles to with a picture of four bytes.
+const PICTURES: [(&str, Option<&str>, Answer); 4] = [
+    (
+        "store(&bitmap) 'p.ico'",
+        Some("p.ico"),
+        Answer::File(4, 150),
+    ),
+    (
+        "store(n) 'p'\nstore(&bitmap) $n '.ico'\nstore(&bitmap) 'q'",
+        Some("p.ico"),
+        Answer::File(6, 186),
+    ),
+    ("store(&bitmap) ''", None, Answer::File(4, 138)),
+    ("", None, Answer::File(4, 126)),
+];
 
 /// The lines of records in their order, as the digits of a number.
 fn record_lines(compiled: &Compiled) -> u64 {
@@ -38,82 +88,86 @@ fn record_lines(compiled: &Compiled) -> u64 {
 }
 
 /// The answer for a source with a picture.
-fn answered(alloc: Global, source: &str, picture: &[u8]) -> Result<Answer, Memory> {
-    match compile(alloc, source.as_bytes(), picture) {
+fn answered(alloc: Global, source: &[u8], picture: &[u8]) -> Result<Answer, Fail> {
+    match compile(alloc, source, picture) {
         Ok(compiled) => Ok(Answer::File(record_lines(&compiled), compiled.bytes.len())),
         Err(CompileError::Refused(refusal)) => Ok(Answer::Refused(refusal.line, refusal.code)),
-        Err(CompileError::TooLarge { .. }) => Ok(Answer::File(0, 0)),
-        Err(CompileError::Memory) => Err(Memory),
+        Err(CompileError::TooLarge { code, size }) => Ok(Answer::TooLarge(code, size)),
+        Err(error) => Err(error.into()),
+    }
+}
+
+fn compiles_to(alloc: Global, source: &str, wanted: Answer) -> Result<bool, Fail> {
+    Ok(answered(alloc, source.as_bytes(), &[])? == wanted)
+}
+
+/// Whether a source has this picture's name, or none.
+fn is_named(alloc: Global, source: &[u8], wanted: Option<&str>) -> Result<bool, Fail> {
+    let checked = front(alloc, source)?;
+    Ok(match (picture_name(alloc, &checked)?, wanted) {
+        (Some(name), Some(wanted)) => name.as_slice() == wanted.as_bytes(),
+        (None, None) => true,
+        _ => false,
+    })
+}
+
+/// Whether a row of pictures is as it says.
+fn is_pictured(
+    alloc: Global,
+    statements: &str,
+    name: Option<&str>,
+    wanted: Answer,
+) -> Result<bool, Fail> {
+    let source = format!(in alloc;
+        "{statements}\nbegin Unicode>use(main)\ngroup(main) using keys\n+ 'a' > 'b'"
+    )?;
+    Ok(
+        is_named(alloc, source.as_bytes(), name)?
+            && answered(alloc, source.as_bytes(), &[0, 1, 2, 3])? == wanted,
+    )
+}
+
+fn add_copies(source: &mut Vec<u8>, text: &[u8], count: u32) -> Result<(), AllocError> {
+    for _ in 0..count {
+        source.extend_from_slice(text)?;
+    }
+    Ok(())
+}
+
+/// The size of the file of so many records that put 1,024 characters each, or how it is refused.
+fn long_file(alloc: Global, records: u32) -> Result<Result<usize, (Code, u64)>, Fail> {
+    let mut source = Vec::from_slice(alloc, b"store(s) '")?;
+    add_copies(&mut source, b"x", 1_024)?;
+    source.extend_from_slice(b"'\nbegin Unicode > use(main)\ngroup(main) using keys\n")?;
+    add_copies(&mut source, b"+ 'a' > outs(s)\n", records)?;
+    match compile(alloc, source.as_slice(), &[]) {
+        Ok(compiled) => Ok(Ok(compiled.bytes.len())),
+        Err(CompileError::TooLarge { code, size }) => Ok(Err((code, size))),
+        Err(error) => Err(error.into()),
     }
 }
 
 #[test]
 fn compiles_or_refuses(rt: HostRuntime) -> Result<(), Fail> {
-    for (source, expected) in [
-        (
-            "store(v) 'a' \\\n'e' \\\n'i' c vowels \\\nbegin Unicode > use(main)\ngroup(main) using keys\n+ any(v) > 'x'",
-            Answer::File(666, 194),
-        ),
-        (
-            "begin Unicode>use(main)\ngroup(main) using keys\n+ 'c' > 'x'\n'a' + 'c' > 'y'",
-            Answer::File(43, 150),
-        ),
-        (
-            "begin Unicode>use(main)\ngroup(main) using keys\n+ 'a' > 'x'\n+ [K_A] > 'y'",
-            Answer::File(34, 146),
-        ),
-        (
-            "store(k) [K_A] [SHIFT K_A]\nstore(o) 'xy'\nbegin Unicode>use(main)\ngroup(main) using keys\n+ any(k) > index(o,1)",
-            Answer::File(55, 206),
-        ),
-        ("", Answer::Refused(1, Code::C01)),
-        (
-            "begin Unicode>use(main)\ngroup(main) using keys\n+ 'a' > ",
-            Answer::Refused(3, Code::S06),
-        ),
-        (
-            "begin Unicode>use(main)\ngroup(main) using keys\n+ 'a' > call(d)\nany(q) + 'b' > 'c'",
-            Answer::Refused(4, Code::C05),
-        ),
-        (
-            "begin Unicode>use(main)\ngroup(main) using keys\n+ 'a' > call(d)",
-            Answer::Refused(3, Code::C11),
-        ),
-        (
-            "begin Unicode>use(main)\ngroup(main) using keys\nstore(&version) '5.0'",
-            Answer::Refused(3, Code::C12),
-        ),
-    ] {
-        assert_eq!(rt; answered(rt.alloc(), source, &[])?, expected, "{source}");
+    let alloc = rt.alloc();
+    for (source, wanted) in SOURCES {
+        assert!(rt; compiles_to(alloc, source, wanted)?, "{source}");
     }
+    for (statements, name, wanted) in PICTURES {
+        assert!(rt;
+            is_pictured(alloc, statements, name, wanted)?,
+            "{statements}"
+        );
+    }
+    let source = b"begin Unicode > use(main)\ngroup(main) using keys\n+ 'a' > 'b'\n";
+    let compiled = compile(alloc, source, &[])?;
+    assert!(rt; compiled.bytes.as_slice() == ONE_RULE.as_slice());
     Ok(())
 }
 
 #[test]
-fn names_its_picture(rt: HostRuntime) -> Result<(), Fail> {
-    let alloc = rt.alloc();
-    for (statements, name, size) in [
-        ("store(&bitmap) 'p.ico'", "p.ico", 150),
-        (
-            "store(n) 'p'\nstore(&bitmap) $n '.ico'\nstore(&bitmap) 'q'",
-            "p.ico",
-            186,
-        ),
-        ("store(&bitmap) ''", "", 138),
-        ("", "", 126),
-    ] {
-        let source = format!(in alloc;
-            "{statements}\nbegin Unicode>use(main)\ngroup(main) using keys\n+ 'a' > 'b'"
-        )?;
-        let checked = front(alloc, source.as_bytes())?;
-        let named = picture_name(alloc, &checked)?;
-        assert_eq!(rt; named.is_some(), !name.is_empty(), "{statements}");
-        if let Some(text) = named {
-            assert_eq!(rt; text.as_slice(), name.as_bytes(), "{statements}");
-        }
-        let answer = answered(alloc, source.as_str(), &[0, 1, 2, 3])?;
-        let line = source.lines().count() as u64;
-        assert_eq!(rt; answer, Answer::File(line, size), "{statements}");
-    }
+fn refuses_too_large_files(rt: HostRuntime) -> Result<(), Fail> {
+    assert!(rt; long_file(rt.alloc(), 32_418)? == Ok(67_107_424));
+    assert!(rt; long_file(rt.alloc(), 32_419)? == Err((Code::C23, 67_109_494)));
     Ok(())
 }
