@@ -2,6 +2,7 @@
 use Rattle.std.specs.Prelude.{ℕ, ◌+◌, true, false, nat_eq, if◌then◌else◌, List, [], ◌∷◌, ◌++◌, length, drop, map, find, codes, Option, Some, None, unwrap_or, option_map, slice_get}
 use Rattle.std.specs.List.{range_with_len}
 use Rattle.std.specs.Fmt.{decimal}
+use Rattle.rule_model.specs.declared.program.SrcItem.{SrcItem}
 use Rattle.rule_model.specs.declared.program.SrcItem.TheVariants as source
 use Rattle.rule_model.specs.declared.program.StoreDef.{StoreDef}
 use Rattle.rule_model.specs.declared.program.RuleKind.{RuleKind}
@@ -77,16 +78,22 @@ numbered line [] = []
 numbered line (store ∷ stores) = store line ∷ numbered (line + 1) stores
 
 -- a store of the deadkeys up to a number, where there are any: it numbers them as the file does
+abbrev pub stated_marks : List ℕ → ℕ → ℕ → StoreDef
+stated_marks name count line = record { line = line; system = 0; name = name; items = map (λ m. source.Dead (decimal m)) (range_with_len 1 count) }
+
 abbrev pub mark_store : List ℕ → ℕ → List (ℕ → StoreDef)
-mark_store name count =
-    if nat_eq count 0 then []
-    else (λ line. record { line = line; system = 0; name = name; items = map (λ m. source.Dead (decimal m)) (range_with_len 1 count) }) ∷ []
+mark_store name count = if nat_eq count 0 then [] else stated_marks name count ∷ []
 
 -- a store of the dictionary's keys, where there are any
+abbrev pub stated_key : List ℕ → SrcItem
+stated_key name = source.Key (record { flags = 0x4000; code = 0; name = name })
+
+abbrev pub stated_keys : List ℕ → List (List ℕ) → ℕ → StoreDef
+stated_keys name keys line = record { line = line; system = 0; name = name; items = map stated_key keys }
+
 abbrev pub key_store : List ℕ → List (List ℕ) → List (ℕ → StoreDef)
 key_store name [] = []
-key_store name (key ∷ keys) =
-    (λ line. record { line = line; system = 0; name = name; items = map (λ (name : List ℕ). source.Key (record { flags = 0x4000; code = 0; name = name })) (key ∷ keys) }) ∷ []
+key_store name (key ∷ keys) = stated_keys name (key ∷ keys) ∷ []
 
 -- the text of a version
 abbrev pub version_text : ℕ → List ℕ

@@ -34,11 +34,15 @@ group_called names n = unwrap_or (slice_get names.groups n) []
 abbrev pub value_called : Names → ℕ → List ℕ
 value_called names n = filter_map element_char (elements_of names.elements n)
 
--- a virtual key, by its code or by its name in the dictionary; a source's has the flag of virtual keys
+-- a virtual key by its code, and by its name in the dictionary; a source's has the flag of virtual keys
+abbrev pub key_by_code : ℕ → ℕ → KeyName
+key_by_code flags code = record { flags = bit_or flags 0x4000; code = code; name = [] }
+
+abbrev pub key_by_name : Names → ℕ → ℕ → KeyName
+key_by_name names flags code = record { flags = bit_or flags 0x4000; code = 0; name = unwrap_or (name_in names.keys code) [] }
+
 abbrev pub key_called : Names → ℕ → ℕ → KeyName
-key_called names flags code =
-    if nat_lt code 256 then record { flags = bit_or flags 0x4000; code = code; name = [] }
-    else record { flags = bit_or flags 0x4000; code = 0; name = unwrap_or (name_in names.keys code) [] }
+key_called names flags code = if nat_lt code 256 then key_by_code flags code else key_by_name names flags code
 
 -- a deadkey is called by its number
 abbrev pub back_element : Names → Element → SrcItem

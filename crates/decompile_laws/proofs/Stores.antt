@@ -1,0 +1,376 @@
+-- The stores of a text correspond to those of the file.
+use Rattle.std.proofs.Common.{◌≡◌, ℕ, zero, suc, ◌+◌, ◌-◌, ◌^◌, ◌<◌, ◌≤◌, inl, inr, Bool, true, false, ◌||◌, List, [], ◌∷◌, ◌++◌, length, drop, map, Option, None, Some, is_some, refl, sym, ◌∙◌, ap, subst, arith, length-drop, if◌then◌else◌}
+use Rattle.std.specs.Prelude.{slice_get, position, unwrap_or, nat_eq, flat_map, bit_or, codes}
+use Rattle.std.specs.Fmt.{decimal}
+use Rattle.std.specs.List.{range_with_len, list_any, list_all, AllByRecursion}
+use Rattle.std.proofs.lemmas.Bool.{eqb-true}
+use Rattle.std.proofs.lemmas.List.{length-append, length-map, map-append}
+use Rattle.std.proofs.lemmas.List.Elements.{recursion_from_All}
+use Rattle.std.proofs.lemmas.List.Folds.{list_any-append}
+use Rattle.std.proofs.lemmas.Option.{same_Some}
+use Rattle.kmn_base.specs.declared.items.Element.{Element}
+use Rattle.kmn_base.specs.declared.items.Element.TheVariants as element
+use Rattle.kmn_base.specs.Names.{same_name}
+use Rattle.rule_model.specs.declared.program.SrcItem.{SrcItem}
+use Rattle.rule_model.specs.declared.program.SrcItem.TheVariants as source
+use Rattle.rule_model.specs.declared.program.StoreDef.{StoreDef}
+use Rattle.rule_model.specs.declared.tables.Pat.{Pat}
+use Rattle.rule_model.specs.declared.tables.Pat.TheVariants as pattern
+use Rattle.rule_model.specs.declared.tables.Out.{Out}
+use Rattle.rule_model.specs.declared.tables.Out.TheVariants as output
+use Rattle.rule_model.specs.declared.tables.Rule.{Rule}
+use Rattle.rule_model.specs.declared.tables.Store.{Store}
+use Rattle.rule_model.specs.declared.tables.Group.{Group}
+use Rattle.rule_model.specs.declared.tables.Tables.{Tables}
+use Rattle.rule_model.specs.Keyboard.{StoreMeaning}
+use Rattle.rule_model.specs.Naming.{SourceNames, names_of, stores_of, store_of, is_dropped}
+use Rattle.rule_model.specs.Src.{src, src_options, numbers_named}
+use Rattle.rule_model.specs.Tab.{tab, tab_options, with_options, pattern_options, output_options, rule_options, group_options, elements_of, store_elements, element_char, tab_dictionary}
+use Rattle.compile_laws.proofs.Keyboards.{src_stores, tab_stores}
+use Rattle.kmx_format.specs.Playable.{IsPlayable}
+use Rattle.decompile_laws.specs.Names.{named_by_pattern, named_by_output, named_by_rule, named_by_group, named_stores, is_free}
+use Rattle.decompile_laws.specs.Marks.{greatest_mark}
+use Rattle.decompile_laws.specs.Items.{store_called}
+use Rattle.decompile_laws.specs.Back.{back_stores, numbered, mark_store, key_store, stated_marks, stated_keys, stated_key, version_store, version_text, mark_stores, key_stores, front_stores, free_stores, names_for, written_stores, written_begins, back}
+use Rattle.decompile_laws.specs.WrittenOut.{is_ordinary, has_characters, KeepsName, CanBeWrittenOut}
+use Rattle.decompile_laws.proofs.Apart.{StandsFirst, Differs, AreFree, AllTaken, own_name, later, each-at, free-differs, names_apart, stands_first, same-turned}
+use Rattle.decompile_laws.proofs.Free.{free_names-free, free_names-count}
+use Rattle.decompile_laws.proofs.Good.{IsNamed, IsOption, GoodElement, members, stores_good}
+use Rattle.decompile_laws.proofs.Thin.{thin, KeepsOptions, Stands, stands, behind}
+use Rattle.decompile_laws.proofs.Linking.{thin_stores, IsSimple, stores-mapped, GoesBack, stores-back, written_before, Written, first-written, meanings-thin, options-placed, flags_agree, found-behind, options-append, front-fixed, front-other}
+use Rattle.decompile_laws.proofs.Calls.{AreCalls, are_calls, calls-along, called-at, keeps_options, IsAlone, elements-alone, back-simple}
+use Rattle.decompile_laws.proofs.Numbering.{mark-number, key-number}
+use Rattle.decompile_laws.proofs.Renamed.{same_flags}
+use Rattle.decompile_laws.proofs.Uses.{groups_uses}
+use Rattle.decompile_laws.proofs.Choosing.{all_join, all_weaker}
+
+-- an element as a text spells it
+abbrev pub spelled : Element → Element
+spelled (element.Char c) = element.Char c
+spelled (element.Mark m) = element.Mark m
+spelled (element.Key flags code) = element.Key (bit_or flags 0x4000) code
+
+-- a member of a list has what all of them have
+pub member-has : (P : ℕ → Type 0) (xs : List ℕ) (n : ℕ) → AllByRecursion P xs → list_any (nat_eq n) xs ≡ true → P n
+member-has P [] n h e = let bad : false ≡ true = e in absurd cc
+member-has P (x ∷ xs) n h e =
+    elim (nat_eq n x) as (λ b. nat_eq n x ≡ b → (b || list_any (nat_eq n) xs) ≡ true → P n) [
+      | true ↦ λ k f. subst P (sym (eqb-true n x k)) h.0
+      | false ↦ λ k f. member-has P xs n h.1 f
+    ] refl e
+
+-- options are among the stores that items name
+or-sub : (a b c d : Bool) → (a ≡ true → c ≡ true) → (b ≡ true → d ≡ true) → (a || b) ≡ true → (c || d) ≡ true
+or-sub true b c d f g h = ap (λ x. x || d) (f refl)
+or-sub false b true d f g h = refl
+or-sub false b false d f g h = g h
+
+Sub : ℕ → List ℕ → List ℕ → Type 0
+Sub n xs ys = list_any (nat_eq n) xs ≡ true → list_any (nat_eq n) ys ≡ true
+
+append-sub : (n : ℕ) (xs us ys vs : List ℕ) → Sub n xs ys → Sub n us vs → Sub n (xs ++ us) (ys ++ vs)
+unfolding Sub
+append-sub n xs us ys vs f g h =
+    list_any-append (nat_eq n) ys vs
+    ∙ or-sub (list_any (nat_eq n) xs) (list_any (nat_eq n) us) (list_any (nat_eq n) ys) (list_any (nat_eq n) vs) f g (sym (list_any-append (nat_eq n) xs us) ∙ h)
+
+flat-sub : {X : Type 0} (n : ℕ) (f g : X → List ℕ) → ((x : X) → Sub n (f x) (g x)) → (xs : List X) → Sub n (flat_map f xs) (flat_map g xs)
+unfolding Sub
+flat-sub n f g h [] e = e
+flat-sub n f g h (x ∷ xs) e = append-sub n (f x) (flat_map f xs) (g x) (flat_map g xs) (h x) (flat-sub n f g h xs) e
+
+pattern-sub : (n : ℕ) (x : Pat) → Sub n (pattern_options x) (named_by_pattern x)
+unfolding Sub
+pattern-sub n (pattern.Equal s v) e = e
+pattern-sub n (pattern.Unequal s v) e = e
+pattern-sub n x e = let bad : false ≡ true = e in absurd cc
+
+output-sub : (n : ℕ) (x : Out) → Sub n (output_options x) (named_by_output x)
+unfolding Sub
+output-sub n (output.Set s v) e = e
+output-sub n (output.Save s) e = e
+output-sub n (output.Reset s) e = e
+output-sub n x e = let bad : false ≡ true = e in absurd cc
+
+rule-sub : (n : ℕ) (r : Rule) → Sub n (rule_options r) (named_by_rule r)
+rule-sub n r =
+    append-sub n (flat_map pattern_options r.context) (flat_map output_options r.output) (flat_map named_by_pattern r.context) (flat_map named_by_output r.output)
+    (flat-sub n pattern_options named_by_pattern (pattern-sub n) r.context) (flat-sub n output_options named_by_output (output-sub n) r.output)
+
+group-sub : (n : ℕ) (g : Group) → Sub n (group_options g) (named_by_group g)
+group-sub n g =
+    append-sub n (flat_map rule_options g.rules) (flat_map output_options g.on_match ++ flat_map output_options g.on_nomatch) (flat_map named_by_rule g.rules) (flat_map named_by_output g.on_match ++ flat_map named_by_output g.on_nomatch)
+    (flat-sub n rule_options named_by_rule (rule-sub n) g.rules)
+    (append-sub n (flat_map output_options g.on_match) (flat_map output_options g.on_nomatch) (flat_map named_by_output g.on_match) (flat_map named_by_output g.on_nomatch)
+    (flat-sub n output_options named_by_output (output-sub n) g.on_match) (flat-sub n output_options named_by_output (output-sub n) g.on_nomatch))
+
+pub option-named : (t : Tables) (n : ℕ) → IsOption t n → IsNamed t n
+unfolding tab_options named_stores Sub
+option-named t n e = flat-sub n group_options named_by_group (group-sub n) t.groups e
+
+-- the names of a file's stores are taken
+taken-more : (y : List ℕ) (ys : List (List ℕ)) (stores : List Store) → AllTaken ys stores → AllTaken (y ∷ ys) stores
+taken-more y ys [] h = tt
+taken-more y ys (s ∷ stores) h = (inr h.0, taken-more y ys stores h.1)
+
+all-taken : (stores : List Store) → AllTaken (map own_name stores) stores
+all-taken [] = tt
+all-taken (s ∷ stores) = (inl refl, taken-more s.name (map own_name stores) stores (all-taken stores))
+
+-- of free names the first, and those behind a number of them
+drop-free : (taken : List (List ℕ)) (k : ℕ) (names : List (List ℕ)) → AreFree taken names → AreFree taken (drop k names)
+drop-free taken zero names f = f
+drop-free taken (suc k) [] f = f
+drop-free taken (suc k) (name ∷ names) f = drop-free taken k names f.2
+
+differs-behind : (x : List ℕ) (k : ℕ) (names : List (List ℕ)) → Differs x names → Differs x (drop k names)
+differs-behind x zero names d = d
+differs-behind x (suc k) [] d = d
+differs-behind x (suc k) (y ∷ names) d = differs-behind x k names d.1
+
+pub record IsFresh (taken behind : List (List ℕ)) (name : List ℕ) : Type 0 where
+  pub free : is_free taken name ≡ true
+  pub some : same_name name [] ≡ false
+  pub others : Differs name behind
+
+fresh-at : (taken : List (List ℕ)) (i k : ℕ) (names : List (List ℕ)) → AreFree taken names → i < length names → i < k → IsFresh taken (drop k names) (unwrap_or (slice_get names i) [])
+fresh-at taken i k [] f less before = absurd (omega arith)
+fresh-at taken zero zero (name ∷ names) f less before = absurd (omega arith)
+fresh-at taken zero (suc k) (name ∷ names) f less before = record { free = f.0.free; some = f.0.some; others = differs-behind name k names f.1 }
+fresh-at taken (suc i) zero (name ∷ names) f less before = absurd (omega arith)
+fresh-at taken (suc i) (suc k) (name ∷ names) f less before = fresh-at taken i k names f.2 (omega arith) (omega arith)
+
+module _ (t : Tables) (p : IsPlayable t) (c : CanBeWrittenOut t) where
+  abbrev taken : List (List ℕ)
+  taken = map own_name t.stores
+
+  abbrev front_count : ℕ
+  front_count = length (mark_stores t ++ key_stores t)
+
+  abbrev free_behind : List (List ℕ)
+  free_behind = drop front_count (free_stores t)
+
+  abbrev pub calls : List (Option (List ℕ))
+  calls = (names_for t).stores
+
+  small : 1 + (length t.stores + 2 + length taken) < 2 ^ 64
+  small = let most = p.store_count in let same = length-map t.stores own_name in omega (arith, most, same)
+
+  free-all : AreFree taken (free_stores t)
+  free-all = free_names-free 115 [] taken (length t.stores + 2) small
+
+  free-size : length (free_stores t) ≡ length t.stores + 2
+  free-size = free_names-count (codes "s") taken (length t.stores + 2) small
+
+  mark-size : (name : List ℕ) (count : ℕ) → length (mark_store name count) ≤ 1
+  mark-size name count = elim (nat_eq count 0) as (λ b. length (if b then [] else stated_marks name count ∷ []) ≤ 1) [ true ↦ omega arith | false ↦ omega arith ]
+
+  key-size : (name : List ℕ) (keys : List (List ℕ)) → length (key_store name keys) ≤ 1
+  key-size name [] = omega arith
+  key-size name (k ∷ keys) = omega arith
+
+  front-size : front_count ≡ length (mark_stores t) + length (key_stores t)
+  front-size = length-append (mark_stores t) (key_stores t)
+
+  front-few : front_count ≤ 2
+  front-few =
+      let size = front-size in
+      let one = mark-size (unwrap_or (slice_get (free_stores t) 0) []) (greatest_mark t) in
+      let two = key-size (unwrap_or (slice_get (free_stores t) (length (mark_stores t))) []) (tab_dictionary t.stores) in omega (arith, size, one, two)
+
+  behind-free : AreFree taken free_behind
+  behind-free = drop-free taken front_count (free_stores t) free-all
+
+  behind-size : length t.stores ≤ length free_behind
+  behind-size = let size = free-size in let few = front-few in let l = length-drop front_count (free_stores t) in omega (arith, size, few, l)
+
+  pub the-calls : AreCalls (named_stores t) 0 calls t.stores
+  the-calls = are_calls (named_stores t) taken free_behind [] 0 t.stores behind-free behind-size
+
+  pub along : length calls ≡ length t.stores
+  along = calls-along (named_stores t) 0 calls t.stores the-calls
+
+  -- what is known of a store that an item names
+  pub record Ready (n : ℕ) : Type 0 where
+    pub name : List ℕ
+    pub at : slice_get calls n ≡ Some (Some name)
+    pub some : same_name name [] ≡ false
+    pub first : StandsFirst name n calls
+    pub called : store_called (names_for t) n ≡ name
+
+  ordinary : (o : Option Store) → is_ordinary o ≡ true → (store : Store) × (o ≡ Some store) × (nat_eq store.system 0 ≡ true)
+  ordinary None e = let bad : false ≡ true = e in absurd cc
+  ordinary (Some store) e = (store, refl, e)
+
+  pub ready : (n : ℕ) → IsNamed t n → Ready n
+  ready n named =
+      let found = ordinary (slice_get t.stores n) (member-has (λ n. is_ordinary (slice_get t.stores n) ≡ true) (named_stores t) n (recursion_from_All (λ n. is_ordinary (slice_get t.stores n) ≡ true) (named_stores t) c.named) named) in
+      let zero_more : 0 + n ≡ n = omega arith in
+      let called = called-at (named_stores t) 0 n calls t.stores found.0 the-calls found.1 found.2 (ap (λ (k : ℕ). list_any (nat_eq k) (named_stores t)) zero_more ∙ named) in
+      record {
+        name = called.name; at = called.at; some = called.some;
+        first = stands_first called.name n calls called.some (names_apart (named_stores t) taken free_behind [] 0 t.stores behind-free behind-size (all-taken t.stores)) called.at;
+        called = ap (λ (o : Option (Option (List ℕ))). unwrap_or (unwrap_or o None) []) called.at;
+      }
+
+  -- the stores in front have other names
+  abbrev Other : List ℕ → (ℕ → StoreDef) → Type 0
+  Other x f = (n : ℕ) → same_name (f n).name x ≡ false
+
+  fresh-other : (y x : List ℕ) (n : ℕ) → IsFresh taken free_behind y → slice_get calls n ≡ Some (Some x) → same_name y x ≡ false
+  fresh-other y x n fresh at =
+      each-at y x n calls (later y (named_stores t) free_behind [] 0 t.stores fresh.some fresh.others (inr (free-differs taken y t.stores fresh.free (all-taken t.stores)))) at
+
+  mark-other : (x name : List ℕ) (count : ℕ) → (0 < length (mark_store name count) → same_name name x ≡ false) → AllByRecursion (Other x) (mark_store name count)
+  mark-other x name count h =
+      elim (nat_eq count 0) as (λ b. (0 < length (if b then [] else stated_marks name count ∷ []) → same_name name x ≡ false) → AllByRecursion (Other x) (if b then [] else stated_marks name count ∷ [])) [
+        | true ↦ λ h. tt
+        | false ↦ λ h. (λ n. h (omega arith), tt)
+      ] h
+
+  key-other : (x name : List ℕ) (keys : List (List ℕ)) → (0 < length (key_store name keys) → same_name name x ≡ false) → AllByRecursion (Other x) (key_store name keys)
+  key-other x name [] h = tt
+  key-other x name (k ∷ keys) h = (λ n. h (omega arith), tt)
+
+  front-others : (n : ℕ) (r : Ready n) → AllByRecursion (Other r.name) (front_stores t)
+  front-others n r =
+      let size = front-size in
+      let all = free-size in
+      let one = mark-size (unwrap_or (slice_get (free_stores t) 0) []) (greatest_mark t) in (
+        λ k. same-turned r.name [] r.some,
+        all_join (Other r.name) (mark_stores t) (key_stores t)
+        (mark-other r.name (unwrap_or (slice_get (free_stores t) 0) []) (greatest_mark t)
+        (λ some. fresh-other (unwrap_or (slice_get (free_stores t) 0) []) r.name n (fresh-at taken 0 front_count (free_stores t) free-all (omega (arith, all)) (omega (arith, size, some))) r.at))
+        (key-other r.name (unwrap_or (slice_get (free_stores t) (length (mark_stores t))) []) (tab_dictionary t.stores)
+        (λ some. fresh-other (unwrap_or (slice_get (free_stores t) (length (mark_stores t))) []) r.name n
+        (fresh-at taken (length (mark_stores t)) front_count (free_stores t) free-all (omega (arith, all, one)) (omega (arith, size, some))) r.at)),
+      )
+
+  -- the stores of the text
+  abbrev pub names : SourceNames
+  names = names_of (back t)
+
+  abbrev pub front_file : List Store
+  front_file = map (store_of names []) (numbered 1 (front_stores t))
+
+  other-stores : (x : List ℕ) (line : ℕ) (fs : List (ℕ → StoreDef)) → AllByRecursion (Other x) fs → AllByRecursion (λ (s : Store). same_name s.name x ≡ false) (map (store_of names []) (numbered line fs))
+  other-stores x line [] h = tt
+  other-stores x line (f ∷ fs) h = (h.0 line, other-stores x (line + 1) fs h.1)
+
+  goes-back : (e : Element) → GoodElement t e → GoesBack names (names_for t) spelled e
+  goes-back (element.Char d) ok = refl
+  goes-back (element.Mark m) ok = λ i. element.Mark (mark-number t p c m ok.marks.0 i) ∷ []
+  goes-back (element.Key flags code) ok = λ i. element.Key (same_flags (names_for t) flags code i) (key-number t p c flags code ok.keys.0 i) ∷ []
+
+  go-back : (stores : List Store) → AllByRecursion (λ (s : Store). AllByRecursion (GoodElement t) s.elements) stores → AllByRecursion (λ (s : Store). AllByRecursion (GoesBack names (names_for t) spelled) s.elements) stores
+  go-back [] ok = tt
+  go-back (s ∷ stores) ok = (all_weaker (GoodElement t) (GoesBack names (names_for t) spelled) goes-back s.elements ok.0, go-back stores ok.1)
+
+  mapped-alone : {X : Type 0} (f : X → SrcItem) → ((x : X) → IsAlone names (f x)) → (xs : List X) → AllByRecursion (IsAlone names) (map f xs)
+  mapped-alone f h [] = tt
+  mapped-alone f h (x ∷ xs) = (h x, mapped-alone f h xs)
+
+  simple : (s : StoreDef) → is_dropped s ≡ false → AllByRecursion (IsAlone names) s.items → IsSimple names s
+  simple s kept alone = (kept, λ before i. record { system = s.system; name = s.name; elements = elements-alone names before s.items alone i })
+
+  abbrev Simple : (ℕ → StoreDef) → Type 0
+  Simple f = (n : ℕ) → IsSimple names (f n)
+
+  mark-simple : (name : List ℕ) (count : ℕ) → AllByRecursion Simple (mark_store name count)
+  mark-simple name count =
+      elim (nat_eq count 0) as (λ b. AllByRecursion Simple (if b then [] else stated_marks name count ∷ [])) [
+        | true ↦ tt
+        | false ↦ (λ n. simple (stated_marks name count n) refl (mapped-alone (λ m. source.Dead (decimal m)) (λ m before. refl) (range_with_len 1 count)), tt)
+      ]
+
+  key-simple : (name : List ℕ) (keys : List (List ℕ)) → AllByRecursion Simple (key_store name keys)
+  key-simple name [] = tt
+  key-simple name (k ∷ keys) = (λ n. simple (stated_keys name (k ∷ keys) n) refl (mapped-alone stated_key (λ x before. refl) (k ∷ keys)), tt)
+
+  front-simple : AllByRecursion Simple (front_stores t)
+  front-simple = (
+    λ n. simple (version_store t.version n) refl (mapped-alone source.Char (λ x before. refl) (version_text t.version)),
+    all_join Simple (mark_stores t) (key_stores t) (mark-simple (unwrap_or (slice_get (free_stores t) 0) []) (greatest_mark t)) (key-simple (unwrap_or (slice_get (free_stores t) (length (mark_stores t))) []) (tab_dictionary t.stores)),
+  )
+
+  numbered-simple : (line : ℕ) (fs : List (ℕ → StoreDef)) → AllByRecursion Simple fs → AllByRecursion (IsSimple names) (numbered line fs)
+  numbered-simple line [] h = tt
+  numbered-simple line (f ∷ fs) h = (h.0 line, numbered-simple (line + 1) fs h.1)
+
+  pub stores-are : stores_of (back t) ≡ front_file ++ thin_stores spelled calls t.stores
+  unfolding stores_of back
+  stores-are =
+      let front = numbered 1 (front_stores t) in
+      let behind_front = back_stores (names_for t) (1 + length (front_stores t)) calls t.stores in
+      stores-mapped names [] (written_stores t)
+      (all_join (IsSimple names) front behind_front (numbered-simple 1 (front_stores t) front-simple) (back-simple names (names_for t) (named_stores t) (1 + length (front_stores t)) 0 calls t.stores the-calls))
+      ∙ (map-append (store_of names []) front behind_front
+      ∙ ap (λ (ss : List Store). front_file ++ ss) (stores-back names (names_for t) spelled (1 + length (front_stores t)) calls t.stores (go-back t.stores (stores_good t p c))))
+
+  -- where a store stands
+  abbrev pub place : ℕ → ℕ
+  place n = length front_file + written_before n calls
+
+  placed : (n : ℕ) → IsOption t n → position (λ (s : Store). same_name s.name (store_called (names_for t) n)) (stores_of (back t)) ≡ Some (place n)
+  placed n option =
+      let r = ready n (option-named t n option) in
+      ap (λ (x : List ℕ). position (λ (s : Store). same_name s.name x) (stores_of (back t))) r.called
+      ∙ (ap (position (λ (s : Store). same_name s.name r.name)) stores-are
+      ∙ found-behind front_file n calls t.stores spelled r.name (other-stores r.name 1 (front_stores t) (front-others n r)) r.first along)
+
+  options-are : src_options (back t) ≡ map place (tab_options t)
+  unfolding src_options back tab_options
+  options-are =
+      ap (flat_map (numbers_named (stores_of (back t)))) (groups_uses (names_for t) (1 + length (written_stores t) + length (written_begins t)) (names_for t).groups t.groups)
+      ∙ options-placed (stores_of (back t)) (store_called (names_for t)) place (tab_options t)
+      (all_weaker (IsOption t) (λ n. position (λ (s : Store). same_name s.name (store_called (names_for t) n)) (stores_of (back t)) ≡ Some (place n)) placed (tab_options t) (members (tab_options t)))
+
+  -- the front stores as the meaning sees them
+  abbrev pub front_meanings : List StoreMeaning
+  front_meanings = with_options (map place (tab_options t)) 0 front_file
+
+  pub front-plain : AllByRecursion (λ (s : StoreMeaning). s.is_option ≡ false) front_meanings
+  front-plain = front-fixed (length front_file) calls (tab_options t) 0 front_file (omega arith)
+
+  pub meanings-are : (src (back t)).stores ≡ front_meanings ++ thin spelled calls (tab t).stores
+  meanings-are =
+      src_stores (back t)
+      ∙ ((λ i. with_options (options-are i) 0 (stores-are i))
+      ∙ (options-append (map place (tab_options t)) 0 front_file (thin_stores spelled calls t.stores)
+      ∙ ((let e : 0 + length front_file ≡ length front_file = omega arith in ap (λ (k : ℕ). front_meanings ++ with_options (map place (tab_options t)) k (thin_stores spelled calls t.stores)) e)
+      ∙ (ap (λ (ss : List StoreMeaning). front_meanings ++ ss)
+      (meanings-thin spelled (map place (tab_options t)) (tab_options t) (length front_file) 0 calls t.stores
+      (flags_agree (length front_file) calls (tab_options t)
+      (all_weaker (IsOption t) (λ n. Written n calls) (λ n option. let r = ready n (option-named t n option) in first-written r.name n calls r.first) (tab_options t) (members (tab_options t)))))
+      ∙ ap (λ (ss : List StoreMeaning). front_meanings ++ thin spelled calls ss) (sym (tab_stores t))))))
+
+  -- options keep their names and elements
+  same-characters : (es : List Element) → list_all (λ (e : Element). is_some (element_char e)) es ≡ true → map spelled es ≡ es
+  same-characters [] h = refl
+  same-characters (element.Char d ∷ es) h = ap (λ (rest : List Element). element.Char d ∷ rest) (same-characters es h)
+  same-characters (element.Mark m ∷ es) h = let bad : false ≡ true = h in absurd cc
+  same-characters (element.Key flags code ∷ es) h = let bad : false ≡ true = h in absurd cc
+
+  kept : (n : ℕ) (store : Store) (call : Option (List ℕ)) → slice_get t.stores n ≡ Some store → slice_get calls n ≡ Some call → list_any (nat_eq (0 + n)) (tab_options t) ≡ true
+      → (call ≡ Some store.name) × (map spelled store.elements ≡ store.elements)
+  kept n store call at call_at option_here =
+      let zero_more : n ≡ 0 + n = omega arith in
+      let option : IsOption t n = ap (λ (k : ℕ). list_any (nat_eq k) (tab_options t)) zero_more ∙ option_here in
+      let r = ready n (option-named t n option) in
+      let own : KeepsName t n = member-has (KeepsName t) (tab_options t) n (recursion_from_All (KeepsName t) (tab_options t) c.options) option in
+      let chars : has_characters t n ≡ true = member-has (λ n. has_characters t n ≡ true) (tab_options t) n (recursion_from_All (λ n. has_characters t n ≡ true) (tab_options t) c.option_elements) option in
+      let elements : elements_of t.stores n ≡ store.elements = ap store_elements at in (
+        same_Some call (Some r.name) (sym call_at ∙ r.at) ∙ ap (λ (x : List ℕ). Some x) (sym r.called ∙ own store at),
+        same-characters store.elements (ap (list_all (λ (e : Element). is_some (element_char e))) (sym elements) ∙ chars),
+      )
+
+  pub keeps : KeepsOptions spelled calls (tab t).stores
+  keeps = subst (KeepsOptions spelled calls) (sym (tab_stores t)) (keeps_options spelled (named_stores t) (tab_options t) 0 calls t.stores the-calls kept)
+
+  -- so each store that an item names stands behind those in front
+  pub stands-there : (n : ℕ) (r : Ready n) → Stands spelled r.name n (src (back t)).stores (tab t).stores
+  stands-there n r =
+      subst (λ (ss : List StoreMeaning). Stands spelled r.name n ss (tab t).stores) (sym meanings-are)
+      (behind spelled r.name n front_meanings (thin spelled calls (tab t).stores) (tab t).stores
+      (front-other (map place (tab_options t)) r.name 0 front_file (other-stores r.name 1 (front_stores t) (front-others n r)))
+      front-plain (stands spelled r.name n calls (tab t).stores r.first keeps))

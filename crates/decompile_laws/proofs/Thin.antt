@@ -1,0 +1,155 @@
+-- Stores that are left away and named anew mean the same.
+use Rattle.std.proofs.Common.{◌≡◌, ℕ, zero, suc, ◌+◌, Bool, true, false, List, [], ◌∷◌, ◌++◌, map, Option, None, Some, refl, sym, ◌∙◌, ap, if◌then◌else◌}
+use Rattle.std.specs.Prelude.{position, slice_get, unwrap_or, option_map}
+use Rattle.std.specs.List.{AllByRecursion}
+use Rattle.kmn_base.specs.declared.items.Element.{Element}
+use Rattle.kmn_base.specs.Names.{same_name}
+use Rattle.rule_model.specs.Keyboard.{Named, Numbered, StoreMeaning}
+use Rattle.rule_model.specs.Content.{options_before, store_number, elements_of_store, elements_at, content_of, content_at, content, option_of, option_at, option_number}
+use Rattle.rule_model.specs.Trace.{options_of}
+use Rattle.compile_laws.proofs.Places.{position-cons}
+use Rattle.decompile_laws.proofs.Apart.{StandsFirst}
+use Rattle.decompile_laws.proofs.Choosing.{choose-then, choose-else}
+
+-- a store under another name, with each element changed
+abbrev pub renamed : (Element → Element) → List ℕ → StoreMeaning → StoreMeaning
+renamed f name store = record { name = name; elements = map f store.elements; is_option = store.is_option }
+
+-- the stores that have a name here, under that name
+abbrev pub thin : (Element → Element) → List (Option (List ℕ)) → List StoreMeaning → List StoreMeaning
+thin f [] stores = []
+thin f (name ∷ names) [] = []
+thin f (None ∷ names) (store ∷ stores) = thin f names stores
+thin f (Some name ∷ names) (store ∷ stores) = renamed f name store ∷ thin f names stores
+
+-- a store that is left away is no option, and an option keeps its name and its elements
+abbrev pub KeepsOptions : (Element → Element) → List (Option (List ℕ)) → List StoreMeaning → Type 0
+KeepsOptions f [] [] = Unit {0}
+KeepsOptions f [] (store ∷ stores) = ⊥
+KeepsOptions f (name ∷ names) [] = ⊥
+KeepsOptions f (None ∷ names) (store ∷ stores) = (store.is_option ≡ false) × KeepsOptions f names stores
+KeepsOptions f (Some name ∷ names) (store ∷ stores) =
+    (store.is_option ≡ true → (name ≡ store.name) × (map f store.elements ≡ store.elements)) × KeepsOptions f names stores
+
+-- where a store stands among others under its name
+pub record Stands (f : Element → Element) (name : List ℕ) (n : ℕ) (new_stores old_stores : List StoreMeaning) : Type 0 where
+  pub place : ℕ
+  pub found : position (λ (store : StoreMeaning). same_name store.name name) new_stores ≡ Some place
+  pub store : StoreMeaning
+  pub old : slice_get old_stores n ≡ Some store
+  pub new : slice_get new_stores place ≡ Some (renamed f name store)
+  pub before : options_before place new_stores ≡ options_before n old_stores
+  pub kept : store.is_option ≡ true → map f store.elements ≡ store.elements
+
+pub stands : (f : Element → Element) (name : List ℕ) (n : ℕ) (names : List (Option (List ℕ))) (stores : List StoreMeaning) → StandsFirst name n names → KeepsOptions f names stores
+    → Stands f name n (thin f names stores) stores
+stands f name n [] stores first keeps = absurd first
+stands f name n (other ∷ names) [] first keeps = absurd keeps
+stands f name zero (None ∷ names) (store ∷ stores) first keeps = absurd first
+stands f name zero (Some other ∷ names) (store ∷ stores) (is, same) (named, keeps) = record {
+  place = 0;
+  found = position-cons (λ (store : StoreMeaning). same_name store.name name) (renamed f other store) (thin f names stores)
+      ∙ choose-then (same_name other name) _ _ (ap (λ k. same_name k name) is ∙ same);
+  store = store;
+  old = refl;
+  new = ap (λ k. Some (renamed f k store)) is;
+  before = refl;
+  kept = λ h. (named h).1;
+}
+stands f name (suc n) (None ∷ names) (store ∷ stores) first (plain, keeps) =
+    let more = stands f name n names stores first keeps in record {
+      place = more.place;
+      found = more.found;
+      store = more.store;
+      old = more.old;
+      new = more.new;
+      before = more.before ∙ sym (choose-else store.is_option _ _ plain);
+      kept = more.kept;
+    }
+stands f name (suc n) (Some other ∷ names) (store ∷ stores) (apart, first) (named, keeps) =
+    let more = stands f name n names stores first keeps in record {
+      place = suc more.place;
+      found = position-cons (λ (store : StoreMeaning). same_name store.name name) (renamed f other store) (thin f names stores)
+          ∙ choose-else (same_name other name) _ _ apart ∙ ap (option_map suc) more.found;
+      store = more.store;
+      old = more.old;
+      new = more.new;
+      before = ap (λ (k : ℕ). if store.is_option then 1 + k else k) more.before;
+      kept = more.kept;
+    }
+
+-- stores in front don't have the name and are no options
+pub behind : (f : Element → Element) (name : List ℕ) (n : ℕ) (front new_stores old_stores : List StoreMeaning)
+    → AllByRecursion (λ (store : StoreMeaning). same_name store.name name ≡ false) front → AllByRecursion (λ (store : StoreMeaning). store.is_option ≡ false) front
+    → Stands f name n new_stores old_stores → Stands f name n (front ++ new_stores) old_stores
+behind f name n [] new_stores old_stores other plain s = s
+behind f name n (x ∷ front) new_stores old_stores (apart, other) (fixed, plain) s =
+    let more = behind f name n front new_stores old_stores other plain s in record {
+      place = suc more.place;
+      found = position-cons (λ (store : StoreMeaning). same_name store.name name) x (front ++ new_stores) ∙ choose-else (same_name x.name name) _ _ apart ∙ ap (option_map suc) more.found;
+      store = more.store;
+      old = more.old;
+      new = more.new;
+      before = choose-else x.is_option _ _ fixed ∙ more.before;
+      kept = more.kept;
+    }
+
+map-like : (plain f : Element → Element) → ((e : Element) → plain (f e) ≡ plain e) → (es : List Element) → map plain (map f es) ≡ map plain es
+map-like plain f like [] = refl
+map-like plain f like (e ∷ es) = λ i. like e i ∷ map-like plain f like es i
+
+content-like : (plain f : Element → Element) → ((e : Element) → plain (f e) ≡ plain e) → (b : Bool) (value es : List Element) →
+    map plain (if b then value else map f es) ≡ map plain (if b then value else es)
+content-like plain f like true value es = refl
+content-like plain f like false value es = map-like plain f like es
+
+-- then content, option and elements are the same
+module _ (f : Element → Element) (name : List ℕ) (n : ℕ) (new_stores old_stores : List StoreMeaning) (s : Stands f name n new_stores old_stores) where
+  new_content : (values : List (List Element)) → content new_stores values (Named name) ≡ content_of values (options_before n old_stores) (Some (renamed f name s.store))
+  new_content values =
+      ap (content_at new_stores values) s.found
+      ∙ (ap (λ k. content_of values (options_before s.place new_stores) k) s.new ∙ ap (λ k. content_of values k (Some (renamed f name s.store))) s.before)
+
+  old_content : (values : List (List Element)) → content old_stores values (Numbered n) ≡ content_of values (options_before n old_stores) (Some s.store)
+  old_content values = ap (λ k. content_of values (options_before n old_stores) k) s.old
+
+  pub like_content : (plain : Element → Element) → ((e : Element) → plain (f e) ≡ plain e) → (values : List (List Element))
+      → map plain (content new_stores values (Named name)) ≡ map plain (content old_stores values (Numbered n))
+  like_content plain like values =
+      ap (map plain) (new_content values)
+      ∙ content-like plain f like s.store.is_option (unwrap_or (slice_get values (options_before n old_stores)) []) s.store.elements
+      ∙ sym (ap (map plain) (old_content values))
+
+  pub same_content : s.store.is_option ≡ true → (values : List (List Element)) → content new_stores values (Named name) ≡ content old_stores values (Numbered n)
+  same_content is values =
+      new_content values
+      ∙ (λ i. if s.store.is_option then unwrap_or (slice_get values (options_before n old_stores)) [] else s.kept is i)
+      ∙ sym (old_content values)
+
+  pub same_option : option_number new_stores (Named name) ≡ option_number old_stores (Numbered n)
+  same_option =
+      ap (option_at new_stores) s.found
+      ∙ ap (option_of (options_before s.place new_stores)) s.new
+      ∙ ap (λ k. option_of k (Some (renamed f name s.store))) s.before
+      ∙ sym (ap (option_of (options_before n old_stores)) s.old)
+
+  pub same_elements : s.store.is_option ≡ true → elements_at new_stores (store_number new_stores (Named name)) ≡ elements_at old_stores (store_number old_stores (Numbered n))
+  same_elements is = ap (elements_at new_stores) s.found ∙ ap elements_of_store s.new ∙ s.kept is ∙ sym (ap elements_of_store s.old)
+
+-- and the options are the same, with their names
+pub options-same : (f : Element → Element) (names : List (Option (List ℕ))) (stores : List StoreMeaning) → KeepsOptions f names stores → options_of (thin f names stores) ≡ options_of stores
+options-same f [] [] keeps = refl
+options-same f [] (store ∷ stores) keeps = absurd keeps
+options-same f (name ∷ names) [] keeps = absurd keeps
+options-same f (None ∷ names) (store ∷ stores) (plain, keeps) = options-same f names stores keeps ∙ sym (choose-else store.is_option _ _ plain)
+options-same f (Some name ∷ names) (store ∷ stores) (named, keeps) =
+    elim store.is_option as (λ b. (b ≡ true → (name ≡ store.name) × (map f store.elements ≡ store.elements))
+    → (if b then renamed f name store ∷ options_of (thin f names stores) else options_of (thin f names stores)) ≡ (if b then store ∷ options_of stores else options_of stores)) [
+      | true ↦ λ h. (λ i. record { name = (h refl).0 i; elements = (h refl).1 i; is_option = store.is_option } ∷ options-same f names stores keeps i)
+      | false ↦ λ h. options-same f names stores keeps
+    ] named
+
+-- stores in front that are no options add none
+pub options-behind : (front stores : List StoreMeaning) → AllByRecursion (λ (store : StoreMeaning). store.is_option ≡ false) front → options_of (front ++ stores) ≡ options_of stores
+options-behind [] stores plain = refl
+options-behind (x ∷ front) stores (fixed, plain) = choose-else x.is_option _ _ fixed ∙ options-behind front stores plain
