@@ -1,5 +1,5 @@
 -- What is known of the items of tables that can be written out.
-use Rattle.std.proofs.Common.{◌≡◌, ℕ, ◌<◌, ◌≤◌, Bool, true, false, ◌||◌, List, [], ◌∷◌, ◌++◌, length, refl, ap, arith}
+use Rattle.std.proofs.Common.{◌≡◌, ℕ, ◌<◌, ◌≤◌, Bool, true, false, ◌||◌, List, [], ◌∷◌, length, refl, ap, arith}
 use Rattle.std.specs.Prelude.{nat_eq, flat_map, fold, max}
 use Rattle.std.specs.List.{AllByRecursion, list_any}
 use Rattle.std.proofs.Math.Nat.{le-max_left, le-max_right}
@@ -27,6 +27,7 @@ use Rattle.decompile_laws.specs.Names.{named_by_pattern, named_by_output, named_
 use Rattle.decompile_laws.specs.Marks.{element_marks, pattern_marks, output_marks, group_marks, store_marks, table_marks, greatest_mark}
 use Rattle.decompile_laws.specs.WrittenOut.{has_falling_contexts, element_keys, key_codes_of, store_keys, rule_keys, group_keys, table_keys, pattern_values, output_values, group_values, table_values, has_key_name, has_characters, CanBeWrittenOut}
 use Rattle.decompile_laws.proofs.Choosing.{all_parts, all_split, all_both, all_weaker}
+use Rattle.decompile_laws.proofs.Parts.{Each, groups-each}
 
 -- numbers that some item names, uses as an option, and so on
 abbrev pub IsNamed : Tables → ℕ → Type 0
@@ -96,44 +97,6 @@ max-first (x ∷ xs) a = let one = le-max_left a x in let more = max-first xs (m
 below_greatest : (xs : List ℕ) (a : ℕ) → AllByRecursion (λ m. m ≤ fold max a xs) xs
 below_greatest [] a = tt
 below_greatest (x ∷ xs) a = (let one = le-max_right a x in let more = max-first xs (max a x) in omega (arith, one, more), below_greatest xs (max a x))
-
--- what holds of all numbers of a group holds of each item's
-pub record Each (P : ℕ → Type 0) (fp : Pat → List ℕ) (fo : Out → List ℕ) (g : Group) : Type 0 where
-  pub contexts : AllByRecursion (λ (r : Rule). AllByRecursion (λ x. AllByRecursion P (fp x)) r.context) g.rules
-  pub outputs : AllByRecursion (λ (r : Rule). AllByRecursion (λ x. AllByRecursion P (fo x)) r.output) g.rules
-  pub on_match : AllByRecursion (λ x. AllByRecursion P (fo x)) g.on_match
-  pub on_nomatch : AllByRecursion (λ x. AllByRecursion P (fo x)) g.on_nomatch
-
-module _ (P : ℕ → Type 0) (fp : Pat → List ℕ) (fo : Out → List ℕ) where
-  abbrev OfRule : Rule → List ℕ
-  OfRule r = flat_map fp r.context ++ flat_map fo r.output
-
-  contexts-each : (rules : List Rule) → AllByRecursion P (flat_map OfRule rules) → AllByRecursion (λ (r : Rule). AllByRecursion (λ x. AllByRecursion P (fp x)) r.context) rules
-  contexts-each [] h = tt
-  contexts-each (r ∷ rules) h =
-      let two = all_parts P (OfRule r) (flat_map OfRule rules) h in
-      (all_split P fp r.context (all_parts P (flat_map fp r.context) (flat_map fo r.output) two.0).0, contexts-each rules two.1)
-
-  outputs-each : (rules : List Rule) → AllByRecursion P (flat_map OfRule rules) → AllByRecursion (λ (r : Rule). AllByRecursion (λ x. AllByRecursion P (fo x)) r.output) rules
-  outputs-each [] h = tt
-  outputs-each (r ∷ rules) h =
-      let two = all_parts P (OfRule r) (flat_map OfRule rules) h in
-      (all_split P fo r.output (all_parts P (flat_map fp r.context) (flat_map fo r.output) two.0).1, outputs-each rules two.1)
-
-  group-each : (g : Group) → AllByRecursion P (flat_map OfRule g.rules ++ (flat_map fo g.on_match ++ flat_map fo g.on_nomatch)) → Each P fp fo g
-  group-each g h =
-      let two = all_parts P (flat_map OfRule g.rules) (flat_map fo g.on_match ++ flat_map fo g.on_nomatch) h in
-      let more = all_parts P (flat_map fo g.on_match) (flat_map fo g.on_nomatch) two.1 in
-      record {
-        contexts = contexts-each g.rules two.0; outputs = outputs-each g.rules two.0;
-        on_match = all_split P fo g.on_match more.0; on_nomatch = all_split P fo g.on_nomatch more.1;
-      }
-
-  groups-each : (groups : List Group) → AllByRecursion P (flat_map (λ (g : Group). flat_map OfRule g.rules ++ (flat_map fo g.on_match ++ flat_map fo g.on_nomatch)) groups) → AllByRecursion (Each P fp fo) groups
-  groups-each [] h = tt
-  groups-each (g ∷ groups) h =
-      let two = all_parts P (flat_map OfRule g.rules ++ (flat_map fo g.on_match ++ flat_map fo g.on_nomatch)) (flat_map (λ (g : Group). flat_map OfRule g.rules ++ (flat_map fo g.on_match ++ flat_map fo g.on_nomatch)) groups) h in
-      (group-each g two.0, groups-each groups two.1)
 
 -- deadkeys count from 1
 some-pattern : (x : Pat) → IsSpellable (unit_item_of_pattern x) → AllByRecursion (λ m. 0 < m) (pattern_marks x)

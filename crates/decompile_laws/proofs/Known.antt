@@ -29,7 +29,7 @@ use Rattle.rule_model.specs.Tab.{tab_dictionary}
 use Rattle.rule_model.specs.Naming.{rule_items, store_items, mark_names, key_names}
 use Rattle.decompile_laws.specs.Marks.{greatest_mark}
 use Rattle.decompile_laws.specs.Items.{Names, back_element, back_pattern, back_output, back_key, some_items, key_by_code, key_by_name, key_called}
-use Rattle.decompile_laws.specs.Back.{back_rule, back_rules, back_statement, match_line, nomatch_line, back_group, back_groups, back_stores, numbered}
+use Rattle.decompile_laws.specs.Back.{back_rule, back_rules, back_statement, match_line, nomatch_line, back_group, back_groups, back_stores}
 use Rattle.decompile_laws.specs.WrittenOut.{key_codes_of}
 use Rattle.decompile_laws.proofs.Good.{IsMark, IsKey, GoodPattern, GoodOutput, GoodElement, GoodRule, GoodGroup}
 use Rattle.decompile_laws.proofs.Distinct.{Among, at-among, range-at}

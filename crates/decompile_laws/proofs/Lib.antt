@@ -4,11 +4,16 @@ pub mod Calls
 pub mod Choosing
 pub mod Distinct
 pub mod Free
+pub mod FreshNames
+pub mod FrontStores
 pub mod Good
 pub mod Groups
 pub mod Known
+pub mod Lines
 pub mod Linking
 pub mod Numbering
+pub mod OptionNames
+pub mod Parts
 pub mod Renamed
 pub mod SameTraces
 pub mod SmallMarks
@@ -16,3 +21,4 @@ pub mod Stores
 pub mod Thin
 pub mod Uses
 pub mod Whole
+pub mod WorkedTables

@@ -1,144 +1,46 @@
 -- The stores of a text correspond to those of the file.
-use Rattle.std.proofs.Common.{◌≡◌, ℕ, zero, suc, ◌+◌, ◌-◌, ◌^◌, ◌<◌, ◌≤◌, inl, inr, Bool, true, false, ◌||◌, List, [], ◌∷◌, ◌++◌, length, drop, map, Option, None, Some, is_some, refl, sym, ◌∙◌, ap, subst, arith, length-drop, if◌then◌else◌}
+use Rattle.std.proofs.Common.{◌≡◌, ℕ, ◌+◌, ◌^◌, ◌<◌, ◌≤◌, inr, true, false, List, [], ◌∷◌, ◌++◌, length, drop, map, Option, None, Some, is_some, refl, sym, ◌∙◌, ap, subst, arith, length-drop, if◌then◌else◌}
 use Rattle.std.specs.Prelude.{slice_get, position, unwrap_or, nat_eq, flat_map, bit_or, codes}
-use Rattle.std.specs.Fmt.{decimal}
-use Rattle.std.specs.List.{range_with_len, list_any, list_all, AllByRecursion}
-use Rattle.std.proofs.lemmas.Bool.{eqb-true}
+use Rattle.std.specs.List.{list_any, list_all, AllByRecursion}
 use Rattle.std.proofs.lemmas.List.{length-append, length-map, map-append}
 use Rattle.std.proofs.lemmas.List.Elements.{recursion_from_All}
-use Rattle.std.proofs.lemmas.List.Folds.{list_any-append}
 use Rattle.std.proofs.lemmas.Option.{same_Some}
 use Rattle.kmn_base.specs.declared.items.Element.{Element}
 use Rattle.kmn_base.specs.declared.items.Element.TheVariants as element
 use Rattle.kmn_base.specs.Names.{same_name}
-use Rattle.rule_model.specs.declared.program.SrcItem.{SrcItem}
-use Rattle.rule_model.specs.declared.program.SrcItem.TheVariants as source
 use Rattle.rule_model.specs.declared.program.StoreDef.{StoreDef}
-use Rattle.rule_model.specs.declared.tables.Pat.{Pat}
-use Rattle.rule_model.specs.declared.tables.Pat.TheVariants as pattern
-use Rattle.rule_model.specs.declared.tables.Out.{Out}
-use Rattle.rule_model.specs.declared.tables.Out.TheVariants as output
-use Rattle.rule_model.specs.declared.tables.Rule.{Rule}
 use Rattle.rule_model.specs.declared.tables.Store.{Store}
-use Rattle.rule_model.specs.declared.tables.Group.{Group}
 use Rattle.rule_model.specs.declared.tables.Tables.{Tables}
 use Rattle.rule_model.specs.Keyboard.{StoreMeaning}
-use Rattle.rule_model.specs.Naming.{SourceNames, names_of, stores_of, store_of, is_dropped}
+use Rattle.rule_model.specs.Naming.{SourceNames, names_of, stores_of, store_of}
 use Rattle.rule_model.specs.Src.{src, src_options, numbers_named}
-use Rattle.rule_model.specs.Tab.{tab, tab_options, with_options, pattern_options, output_options, rule_options, group_options, elements_of, store_elements, element_char, tab_dictionary}
+use Rattle.rule_model.specs.Tab.{tab, tab_options, with_options, elements_of, store_elements, element_char, tab_dictionary}
 use Rattle.compile_laws.proofs.Keyboards.{src_stores, tab_stores}
 use Rattle.kmx_format.specs.Playable.{IsPlayable}
-use Rattle.decompile_laws.specs.Names.{named_by_pattern, named_by_output, named_by_rule, named_by_group, named_stores, is_free}
+use Rattle.decompile_laws.specs.Names.{named_stores}
 use Rattle.decompile_laws.specs.Marks.{greatest_mark}
 use Rattle.decompile_laws.specs.Items.{store_called}
-use Rattle.decompile_laws.specs.Back.{back_stores, numbered, mark_store, key_store, stated_marks, stated_keys, stated_key, version_store, version_text, mark_stores, key_stores, front_stores, free_stores, names_for, written_stores, written_begins, back}
+use Rattle.decompile_laws.specs.Back.{back_stores, numbered, mark_store, key_store, stated_marks, mark_stores, key_stores, front_stores, free_stores, names_for, written_stores, written_begins, back}
 use Rattle.decompile_laws.specs.WrittenOut.{is_ordinary, has_characters, KeepsName, CanBeWrittenOut}
-use Rattle.decompile_laws.proofs.Apart.{StandsFirst, Differs, AreFree, AllTaken, own_name, later, each-at, free-differs, names_apart, stands_first, same-turned}
+use Rattle.decompile_laws.proofs.Apart.{StandsFirst, AreFree, own_name, later, each-at, free-differs, names_apart, stands_first, same-turned}
 use Rattle.decompile_laws.proofs.Free.{free_names-free, free_names-count}
 use Rattle.decompile_laws.proofs.Good.{IsNamed, IsOption, GoodElement, members, stores_good}
 use Rattle.decompile_laws.proofs.Thin.{thin, KeepsOptions, Stands, stands, behind}
 use Rattle.decompile_laws.proofs.Linking.{thin_stores, IsSimple, stores-mapped, GoesBack, stores-back, written_before, Written, first-written, meanings-thin, options-placed, flags_agree, found-behind, options-append, front-fixed, front-other}
-use Rattle.decompile_laws.proofs.Calls.{AreCalls, are_calls, calls-along, called-at, keeps_options, IsAlone, elements-alone, back-simple}
+use Rattle.decompile_laws.proofs.Calls.{AreCalls, are_calls, calls-along, called-at, keeps_options, back-simple}
 use Rattle.decompile_laws.proofs.Numbering.{mark-number, key-number}
 use Rattle.decompile_laws.proofs.Renamed.{same_flags}
 use Rattle.decompile_laws.proofs.Uses.{groups_uses}
 use Rattle.decompile_laws.proofs.Choosing.{all_join, all_weaker}
+use Rattle.decompile_laws.proofs.OptionNames.{member-has, option-named}
+use Rattle.decompile_laws.proofs.FreshNames.{IsFresh, fresh-at, drop-free, all-taken}
+use Rattle.decompile_laws.proofs.FrontStores.{front-simple, numbered-simple}
 
 -- an element as a text spells it
 abbrev pub spelled : Element → Element
 spelled (element.Char c) = element.Char c
 spelled (element.Mark m) = element.Mark m
 spelled (element.Key flags code) = element.Key (bit_or flags 0x4000) code
-
--- a member of a list has what all of them have
-pub member-has : (P : ℕ → Type 0) (xs : List ℕ) (n : ℕ) → AllByRecursion P xs → list_any (nat_eq n) xs ≡ true → P n
-member-has P [] n h e = let bad : false ≡ true = e in absurd cc
-member-has P (x ∷ xs) n h e =
-    elim (nat_eq n x) as (λ b. nat_eq n x ≡ b → (b || list_any (nat_eq n) xs) ≡ true → P n) [
-      | true ↦ λ k f. subst P (sym (eqb-true n x k)) h.0
-      | false ↦ λ k f. member-has P xs n h.1 f
-    ] refl e
-
--- options are among the stores that items name
-or-sub : (a b c d : Bool) → (a ≡ true → c ≡ true) → (b ≡ true → d ≡ true) → (a || b) ≡ true → (c || d) ≡ true
-or-sub true b c d f g h = ap (λ x. x || d) (f refl)
-or-sub false b true d f g h = refl
-or-sub false b false d f g h = g h
-
-Sub : ℕ → List ℕ → List ℕ → Type 0
-Sub n xs ys = list_any (nat_eq n) xs ≡ true → list_any (nat_eq n) ys ≡ true
-
-append-sub : (n : ℕ) (xs us ys vs : List ℕ) → Sub n xs ys → Sub n us vs → Sub n (xs ++ us) (ys ++ vs)
-unfolding Sub
-append-sub n xs us ys vs f g h =
-    list_any-append (nat_eq n) ys vs
-    ∙ or-sub (list_any (nat_eq n) xs) (list_any (nat_eq n) us) (list_any (nat_eq n) ys) (list_any (nat_eq n) vs) f g (sym (list_any-append (nat_eq n) xs us) ∙ h)
-
-flat-sub : {X : Type 0} (n : ℕ) (f g : X → List ℕ) → ((x : X) → Sub n (f x) (g x)) → (xs : List X) → Sub n (flat_map f xs) (flat_map g xs)
-unfolding Sub
-flat-sub n f g h [] e = e
-flat-sub n f g h (x ∷ xs) e = append-sub n (f x) (flat_map f xs) (g x) (flat_map g xs) (h x) (flat-sub n f g h xs) e
-
-pattern-sub : (n : ℕ) (x : Pat) → Sub n (pattern_options x) (named_by_pattern x)
-unfolding Sub
-pattern-sub n (pattern.Equal s v) e = e
-pattern-sub n (pattern.Unequal s v) e = e
-pattern-sub n x e = let bad : false ≡ true = e in absurd cc
-
-output-sub : (n : ℕ) (x : Out) → Sub n (output_options x) (named_by_output x)
-unfolding Sub
-output-sub n (output.Set s v) e = e
-output-sub n (output.Save s) e = e
-output-sub n (output.Reset s) e = e
-output-sub n x e = let bad : false ≡ true = e in absurd cc
-
-rule-sub : (n : ℕ) (r : Rule) → Sub n (rule_options r) (named_by_rule r)
-rule-sub n r =
-    append-sub n (flat_map pattern_options r.context) (flat_map output_options r.output) (flat_map named_by_pattern r.context) (flat_map named_by_output r.output)
-    (flat-sub n pattern_options named_by_pattern (pattern-sub n) r.context) (flat-sub n output_options named_by_output (output-sub n) r.output)
-
-group-sub : (n : ℕ) (g : Group) → Sub n (group_options g) (named_by_group g)
-group-sub n g =
-    append-sub n (flat_map rule_options g.rules) (flat_map output_options g.on_match ++ flat_map output_options g.on_nomatch) (flat_map named_by_rule g.rules) (flat_map named_by_output g.on_match ++ flat_map named_by_output g.on_nomatch)
-    (flat-sub n rule_options named_by_rule (rule-sub n) g.rules)
-    (append-sub n (flat_map output_options g.on_match) (flat_map output_options g.on_nomatch) (flat_map named_by_output g.on_match) (flat_map named_by_output g.on_nomatch)
-    (flat-sub n output_options named_by_output (output-sub n) g.on_match) (flat-sub n output_options named_by_output (output-sub n) g.on_nomatch))
-
-pub option-named : (t : Tables) (n : ℕ) → IsOption t n → IsNamed t n
-unfolding tab_options named_stores Sub
-option-named t n e = flat-sub n group_options named_by_group (group-sub n) t.groups e
-
--- the names of a file's stores are taken
-taken-more : (y : List ℕ) (ys : List (List ℕ)) (stores : List Store) → AllTaken ys stores → AllTaken (y ∷ ys) stores
-taken-more y ys [] h = tt
-taken-more y ys (s ∷ stores) h = (inr h.0, taken-more y ys stores h.1)
-
-all-taken : (stores : List Store) → AllTaken (map own_name stores) stores
-all-taken [] = tt
-all-taken (s ∷ stores) = (inl refl, taken-more s.name (map own_name stores) stores (all-taken stores))
-
--- of free names the first, and those behind a number of them
-drop-free : (taken : List (List ℕ)) (k : ℕ) (names : List (List ℕ)) → AreFree taken names → AreFree taken (drop k names)
-drop-free taken zero names f = f
-drop-free taken (suc k) [] f = f
-drop-free taken (suc k) (name ∷ names) f = drop-free taken k names f.2
-
-differs-behind : (x : List ℕ) (k : ℕ) (names : List (List ℕ)) → Differs x names → Differs x (drop k names)
-differs-behind x zero names d = d
-differs-behind x (suc k) [] d = d
-differs-behind x (suc k) (y ∷ names) d = differs-behind x k names d.1
-
-pub record IsFresh (taken behind : List (List ℕ)) (name : List ℕ) : Type 0 where
-  pub free : is_free taken name ≡ true
-  pub some : same_name name [] ≡ false
-  pub others : Differs name behind
-
-fresh-at : (taken : List (List ℕ)) (i k : ℕ) (names : List (List ℕ)) → AreFree taken names → i < length names → i < k → IsFresh taken (drop k names) (unwrap_or (slice_get names i) [])
-fresh-at taken i k [] f less before = absurd (omega arith)
-fresh-at taken zero zero (name ∷ names) f less before = absurd (omega arith)
-fresh-at taken zero (suc k) (name ∷ names) f less before = record { free = f.0.free; some = f.0.some; others = differs-behind name k names f.1 }
-fresh-at taken (suc i) zero (name ∷ names) f less before = absurd (omega arith)
-fresh-at taken (suc i) (suc k) (name ∷ names) f less before = fresh-at taken i k names f.2 (omega arith) (omega arith)
 
 module _ (t : Tables) (p : IsPlayable t) (c : CanBeWrittenOut t) where
   abbrev taken : List (List ℕ)
@@ -266,44 +168,13 @@ module _ (t : Tables) (p : IsPlayable t) (c : CanBeWrittenOut t) where
   go-back [] ok = tt
   go-back (s ∷ stores) ok = (all_weaker (GoodElement t) (GoesBack names (names_for t) spelled) goes-back s.elements ok.0, go-back stores ok.1)
 
-  mapped-alone : {X : Type 0} (f : X → SrcItem) → ((x : X) → IsAlone names (f x)) → (xs : List X) → AllByRecursion (IsAlone names) (map f xs)
-  mapped-alone f h [] = tt
-  mapped-alone f h (x ∷ xs) = (h x, mapped-alone f h xs)
-
-  simple : (s : StoreDef) → is_dropped s ≡ false → AllByRecursion (IsAlone names) s.items → IsSimple names s
-  simple s kept alone = (kept, λ before i. record { system = s.system; name = s.name; elements = elements-alone names before s.items alone i })
-
-  abbrev Simple : (ℕ → StoreDef) → Type 0
-  Simple f = (n : ℕ) → IsSimple names (f n)
-
-  mark-simple : (name : List ℕ) (count : ℕ) → AllByRecursion Simple (mark_store name count)
-  mark-simple name count =
-      elim (nat_eq count 0) as (λ b. AllByRecursion Simple (if b then [] else stated_marks name count ∷ [])) [
-        | true ↦ tt
-        | false ↦ (λ n. simple (stated_marks name count n) refl (mapped-alone (λ m. source.Dead (decimal m)) (λ m before. refl) (range_with_len 1 count)), tt)
-      ]
-
-  key-simple : (name : List ℕ) (keys : List (List ℕ)) → AllByRecursion Simple (key_store name keys)
-  key-simple name [] = tt
-  key-simple name (k ∷ keys) = (λ n. simple (stated_keys name (k ∷ keys) n) refl (mapped-alone stated_key (λ x before. refl) (k ∷ keys)), tt)
-
-  front-simple : AllByRecursion Simple (front_stores t)
-  front-simple = (
-    λ n. simple (version_store t.version n) refl (mapped-alone source.Char (λ x before. refl) (version_text t.version)),
-    all_join Simple (mark_stores t) (key_stores t) (mark-simple (unwrap_or (slice_get (free_stores t) 0) []) (greatest_mark t)) (key-simple (unwrap_or (slice_get (free_stores t) (length (mark_stores t))) []) (tab_dictionary t.stores)),
-  )
-
-  numbered-simple : (line : ℕ) (fs : List (ℕ → StoreDef)) → AllByRecursion Simple fs → AllByRecursion (IsSimple names) (numbered line fs)
-  numbered-simple line [] h = tt
-  numbered-simple line (f ∷ fs) h = (h.0 line, numbered-simple (line + 1) fs h.1)
-
   pub stores-are : stores_of (back t) ≡ front_file ++ thin_stores spelled calls t.stores
   unfolding stores_of back
   stores-are =
       let front = numbered 1 (front_stores t) in
       let behind_front = back_stores (names_for t) (1 + length (front_stores t)) calls t.stores in
       stores-mapped names [] (written_stores t)
-      (all_join (IsSimple names) front behind_front (numbered-simple 1 (front_stores t) front-simple) (back-simple names (names_for t) (named_stores t) (1 + length (front_stores t)) 0 calls t.stores the-calls))
+      (all_join (IsSimple names) front behind_front (numbered-simple names 1 (front_stores t) (front-simple names t)) (back-simple names (names_for t) (named_stores t) (1 + length (front_stores t)) 0 calls t.stores the-calls))
       ∙ (map-append (store_of names []) front behind_front
       ∙ ap (λ (ss : List Store). front_file ++ ss) (stores-back names (names_for t) spelled (1 + length (front_stores t)) calls t.stores (go-back t.stores (stores_good t p c))))
 

@@ -3,5 +3,4 @@ pub mod Items
 pub mod Laws
 pub mod Marks
 pub mod Names
-pub mod SourceNames
 pub mod WrittenOut
