@@ -2,7 +2,7 @@
 use Rattle.std.proofs.Common.{◌≡◌, ℕ, zero, suc, ◌+◌, ◌-◌, ◌*◌, ◌/◌, ◌%◌, ◌<◌, ◌≤◌, inl, inr, Bool, true, false, not, ◌&&◌, ◌||◌, if◌then◌else◌, ◌==◌, List, [], ◌∷◌, ◌++◌, length, Option, None, Some, is_some, refl, sym, ◌∙◌, ap, subst, arith, length-append}
 use Rattle.std.specs.Prelude.{◌≢◌, unwrap_or, min, nat_le, nat_lt}
 use Rattle.std.specs.List.{list_all}
-use Rattle.std.proofs.lemmas.Bool.{ne_eqb, or_left, or_right, leb-true, le-leb, lt-leb, lt-ltb, cases_lt, ltb-true}
+use Rattle.std.proofs.lemmas.Bool.{and_from, ne_eqb, or_left, or_right, leb-true, le-leb, lt-leb, lt-ltb, cases_lt, ltb-true}
 use Rattle.std.proofs.Math.Nat.{mod-lt, min-eq_left}
 use Rattle.std.proofs.lemmas.Nat.{div-add-mod'}
 use lib.Utf8.{scalar, scalar_cases}
@@ -15,10 +15,6 @@ use Rattle.program_text.specs.Texts.{hex_glyph, hex_text, hex_count, char_text}
 use Rattle.program_text.specs.Names.{is_inner}
 use Rattle.program_text.proofs.LineForms.{IsReadBack, IsNumberText, ends_word, is_plain_byte, is_still_byte}
 use Rattle.program_text.proofs.Words.{choose-then, choose-else, word_size-ended}
-
-and-both : (a b : Bool) → a ≡ true → b ≡ true → (a && b) ≡ true
-and-both true b e f = f
-and-both false b e f = absurd cc
 
 -- a byte of a word that is no backslash
 abbrev pub is_safe_byte : ℕ → Bool
@@ -36,9 +32,9 @@ digit-byte : (byte : ℕ) → 48 ≤ byte → byte < 103 → byte ≢ 61 → byt
 digit-byte byte low high e f g h k =
     let plain = in_word-plain byte 0 (in_word-far byte 0 low e f g k) in
     record {
-      safe = and-both _ _ (and-both _ _ (ap not (or-both _ _ (or-both _ _ plain.blank plain.quote) plain.alone))
+      safe = and_from _ _ (and_from _ _ (ap not (or-both _ _ (or-both _ _ plain.blank plain.quote) plain.alone))
       (ap not (or-both _ _ (ne_eqb byte 10 (omega arith)) (ne_eqb byte 13 (omega arith))))) (ap not (ne_eqb byte 92 h));
-      ascii = and-both _ _ (lt-ltb 0 byte (omega arith)) (lt-ltb byte 128 (omega arith));
+      ascii = and_from _ _ (lt-ltb 0 byte (omega arith)) (lt-ltb byte 128 (omega arith));
     }
 
 in-range : (low high byte : ℕ) → (nat_le low byte && nat_le byte high) ≡ true → (low ≤ byte) × (byte ≤ high)
@@ -57,28 +53,28 @@ hex-byte byte =
 
 pub digits-safe : (digits : List ℕ) → all_digits digits ≡ true → list_all is_safe_byte digits ≡ true
 digits-safe [] e = refl
-digits-safe (d ∷ digits) e = let two = and-true (is_some (hex_digit d)) (all_digits digits) e in and-both _ _ (hex-byte d two.0).safe (digits-safe digits two.1)
+digits-safe (d ∷ digits) e = let two = and-true (is_some (hex_digit d)) (all_digits digits) e in and_from _ _ (hex-byte d two.0).safe (digits-safe digits two.1)
 
 digits-plain : (digits : List ℕ) → all_digits digits ≡ true → list_all is_plain_byte digits ≡ true
 digits-plain [] e = refl
 digits-plain (d ∷ digits) e =
     let two = and-true (is_some (hex_digit d)) (all_digits digits) e in
     let safe = and-true (is_still_byte d) (not (d == 92)) (hex-byte d two.0).safe in
-    and-both _ _ (and-true (is_plain_byte d) (is_inner d) safe.0).0 (digits-plain digits two.1)
+    and_from _ _ (and-true (is_plain_byte d) (is_inner d) safe.0).0 (digits-plain digits two.1)
 
 pub digits-ascii : (digits : List ℕ) → all_digits digits ≡ true → list_all is_ascii_byte digits ≡ true
 digits-ascii [] e = refl
-digits-ascii (d ∷ digits) e = let two = and-true (is_some (hex_digit d)) (all_digits digits) e in and-both _ _ (hex-byte d two.0).ascii (digits-ascii digits two.1)
+digits-ascii (d ∷ digits) e = let two = and-true (is_some (hex_digit d)) (all_digits digits) e in and_from _ _ (hex-byte d two.0).ascii (digits-ascii digits two.1)
 
 -- a digit that is written has its value
 glyph-digit : (n : ℕ) → n < 16 → hex_digit (hex_glyph n) ≡ Some n
 glyph-digit n h = elim (cases_lt n 10) [
   | inl l ↦ subst (λ (b : ℕ). hex_digit b ≡ Some n) (sym (choose-then (nat_lt n 10) (48 + n) (55 + n) (lt-ltb n 10 l)))
-      (choose-then (nat_le 48 (48 + n) && nat_le (48 + n) 57) _ _ (and-both _ _ (le-leb 48 (48 + n) (omega arith)) (le-leb (48 + n) 57 (omega arith)))
+      (choose-then (nat_le 48 (48 + n) && nat_le (48 + n) 57) _ _ (and_from _ _ (le-leb 48 (48 + n) (omega arith)) (le-leb (48 + n) 57 (omega arith)))
       ∙ (let e : 48 + n - 48 ≡ n = omega arith in ap Some e))
   | inr g ↦ subst (λ (b : ℕ). hex_digit b ≡ Some n) (sym (choose-else (nat_lt n 10) (48 + n) (55 + n) (ltb-no n g)))
       (choose-else (nat_le 48 (55 + n) && nat_le (55 + n) 57) _ _ (and-no _ _ (lt-leb (55 + n) 57 (omega arith)))
-      ∙ choose-then (nat_le 65 (55 + n) && nat_le (55 + n) 70) _ _ (and-both _ _ (le-leb 65 (55 + n) (omega arith)) (le-leb (55 + n) 70 (omega arith)))
+      ∙ choose-then (nat_le 65 (55 + n) && nat_le (55 + n) 70) _ _ (and_from _ _ (le-leb 65 (55 + n) (omega arith)) (le-leb (55 + n) 70 (omega arith)))
       ∙ (let e : 55 + n - 55 ≡ n = omega arith in ap Some e))
 ] where
   ltb-no : (n : ℕ) → 10 ≤ n → nat_lt n 10 ≡ false
@@ -101,12 +97,12 @@ length-hex (suc count) n = length-append (hex_text count (n / 16)) _ ∙ (let mo
 
 digits-append : (xs ys : List ℕ) → all_digits xs ≡ true → all_digits ys ≡ true → all_digits (xs ++ ys) ≡ true
 digits-append [] ys e f = f
-digits-append (x ∷ xs) ys e f = let two = and-true _ _ e in and-both _ _ two.0 (digits-append xs ys two.1 f)
+digits-append (x ∷ xs) ys e f = let two = and-true _ _ e in and_from _ _ two.0 (digits-append xs ys two.1 f)
 
 pub digits-hex : (count n : ℕ) → all_digits (hex_text count n) ≡ true
 digits-hex zero n = refl
 digits-hex (suc count) n =
-    digits-append (hex_text count (n / 16)) _ (digits-hex count (n / 16)) (and-both _ _ (ap is_some (glyph-digit (n % 16) (digit-small n))) refl)
+    digits-append (hex_text count (n / 16)) _ (digits-hex count (n / 16)) (and_from _ _ (ap is_some (glyph-digit (n % 16) (digit-small n))) refl)
 
 forbidden-not : (byte : ℕ) (bytes : List ℕ) → is_ascii_byte byte ≡ true → begins_forbidden (byte ∷ bytes) ≡ false
 unfolding begins_forbidden
@@ -141,7 +137,7 @@ value-hex (suc count) n h small =
 
 number-starts : (first : ℕ) (digits rest : List ℕ) → ((first == 85) || (first == 117)) ≡ true → 0 < length digits → all_digits digits ≡ true → starts_number (first ∷ 43 ∷ (digits ++ rest)) ≡ true
 number-starts first [] rest u h e = absurd (omega arith)
-number-starts first (d ∷ digits) rest u h e = and-both _ _ (and-both _ _ u refl) (and-true (is_some (hex_digit d)) (all_digits digits) e).0
+number-starts first (d ∷ digits) rest u h e = and_from _ _ (and_from _ _ u refl) (and-true (is_some (hex_digit d)) (all_digits digits) e).0
 
 -- a character is U+ and its digits
 pub record HasDigits (c count : ℕ) : Type 0 where
@@ -169,7 +165,7 @@ number-alone first digits u h e = ap (λ (xs : List ℕ). starts_number (first �
 valid-scalar : (c : ℕ) → scalar c ≡ true → is_scalar c ≡ true
 valid-scalar c e = elim (scalar_cases c e) [
   | inl l ↦ or_left (nat_lt c 0xD800) _ (lt-ltb c 0xD800 l)
-  | inr h ↦ or_right (nat_lt c 0xD800) _ (and-both _ _ (lt-ltb 0xDFFF c h.0) (lt-ltb c 0x11_0000 h.1))
+  | inr h ↦ or_right (nat_lt c 0xD800) _ (and_from _ _ (lt-ltb 0xDFFF c h.0) (lt-ltb c 0x11_0000 h.1))
 ]
 
 sound-value : (c : ℕ) → IsCharacter c → value_fault c ≡ None
@@ -189,10 +185,10 @@ number-back first c digits rest u ascii blank few many all value valid e =
       size = choose-then (starts_number (first ∷ 43 ∷ (digits ++ rest))) _ _ (number-starts first digits rest u (omega arith) all)
           ∙ (let size = word_size-ended digits rest (digits-plain digits all) e in omega (arith, size));
       kind = choose-then (starts_number (first ∷ 43 ∷ digits)) _ _ starts ∙ ap kind.Number value;
-      sound = choose-else (has_forbidden (first ∷ 43 ∷ digits)) _ _ (ascii-allowed (first ∷ 43 ∷ digits) (and-both _ _ ascii (and-both _ _ refl (digits-ascii digits all))))
+      sound = choose-else (has_forbidden (first ∷ 43 ∷ digits)) _ _ (ascii-allowed (first ∷ 43 ∷ digits) (and_from _ _ ascii (and_from _ _ refl (digits-ascii digits all))))
           ∙ choose-else (not (is_closed (first ∷ 43 ∷ digits))) _ _ (number-closed first (43 ∷ digits) u)
           ∙ choose-then (starts_number (first ∷ 43 ∷ digits)) _ _ starts
-          ∙ choose-then (nat_le 4 (length digits) && nat_le (length digits) 6 && all_digits digits) _ _ (and-both _ _ (and-both _ _ (le-leb 4 _ few) (le-leb _ 6 many)) all)
+          ∙ choose-then (nat_le 4 (length digits) && nat_le (length digits) 6 && all_digits digits) _ _ (and_from _ _ (and_from _ _ (le-leb 4 _ few) (le-leb _ 6 many)) all)
           ∙ ap value_fault value ∙ valid;
     }
   where

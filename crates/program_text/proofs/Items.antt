@@ -10,11 +10,9 @@ use Rattle.kmn_items.specs.Brackets.{flags_of, named_key, key_item, modifier_cou
 use Rattle.kmn_items.proofs.ItemLemmas.{items_skip}
 use Rattle.kmn_lines.proofs.Sizes.{and-true}
 use Rattle.kmn_base.specs.Names.{same_name}
-use Rattle.kmn_lines.specs.declared.token.TokenKind.TheVariants as kind
 use Rattle.rule_model.specs.declared.program.SrcItem.{SrcItem}
 use Rattle.rule_model.specs.declared.program.SrcItem.TheVariants as source
 use Rattle.kmn_items.specs.declared.syntax.Where.{Where}
-use Rattle.kmn_items.specs.declared.syntax.Where.TheVariants as section
 use Rattle.kmn_items.specs.declared.syntax.Seen.{Seen}
 use Rattle.kmn_items.specs.declared.syntax.Taken.{Taken}
 use Rattle.kmn_items.specs.declared.syntax.ItemWord.{ItemWord}

@@ -10,6 +10,7 @@ pub mod SoundItems
 pub mod Items
 pub mod Sections
 pub mod Rules
+pub mod KeylessRules
 pub mod Statements
 pub mod Whole
 pub mod Names
@@ -26,3 +27,5 @@ pub mod Made
 pub mod Programs
 pub mod HexDigits
 pub mod Examples
+pub mod Lengths
+pub mod ChainRules

@@ -39,7 +39,8 @@ use Rattle.program_text.proofs.Stores.{IsPrintedStore, spelled_store}
 use Rattle.program_text.proofs.Utf8Lines.{program_utf8, program_unmarked}
 use Rattle.program_text.proofs.Made.{group_statements, program_statements, made}
 use Rattle.program_text.proofs.Sections.{tokens-joined}
-use Rattle.program_text.proofs.Rules.{output-has, keyed_rule_read, free_rule_read}
+use Rattle.program_text.proofs.Rules.{output-has, keyed_rule_read}
+use Rattle.program_text.proofs.KeylessRules.{free_rule_read}
 use Rattle.program_text.proofs.Statements.{store_read, begin_read, group_read, match_read, nomatch_read}
 use Rattle.program_text.proofs.Whole.{sheets_are_read}
 

@@ -1,11 +1,11 @@
--- Printed rules are read back.
-use Rattle.std.proofs.Common.{◌≡◌, ℕ, ◌+◌, ◌-◌, ◌<◌, Bool, true, false, not, ◌&&◌, ◌||◌, ◌==◌, List, [], ◌∷◌, ◌++◌, length, take, drop, None, Some, refl, sym, ◌∙◌, ap, subst, arith, append_assoc, length-append}
+-- A rule with a key is read as it is written.
+use Rattle.std.proofs.Common.{◌≡◌, ℕ, ◌+◌, ◌-◌, ◌<◌, true, false, not, ◌||◌, ◌==◌, List, [], ◌∷◌, ◌++◌, length, take, drop, None, Some, refl, sym, ◌∙◌, ap, subst, arith, append_assoc, length-append}
 use Rattle.std.specs.Prelude.{Ok, codes, nat_lt}
 use Rattle.std.specs.List.{list_all}
 use Rattle.std.proofs.Math.Seq.{take-append_seam, drop-append-add}
 use Rattle.std.proofs.lemmas.List.Folds.{list_all-append}
 use Rattle.std.specs.Fmt.{decimal}
-use Rattle.std.proofs.lemmas.Bool.{lt-ltb, ne_eqb, cond_both}
+use Rattle.std.proofs.lemmas.Bool.{and_from, lt-ltb, ne_eqb, cond_both}
 use Rattle.kmn_base.specs.Names.{same_name}
 use Rattle.kmn_base.specs.declared.codes.Code.TheVariants.{S01, S04, S06, S08}
 use Rattle.kmn_lines.specs.Bytes.{or_else}
@@ -18,7 +18,7 @@ use Rattle.rule_model.specs.declared.program.SrcItem.TheVariants as source
 use Rattle.rule_model.specs.declared.program.RuleKind.TheVariants.{Plain}
 use Rattle.kmn_items.specs.declared.syntax.Where.TheVariants as section
 use Rattle.kmn_parser.specs.declared.statement.LastGroup.{LastGroup}
-use Rattle.kmn_parser.specs.declared.statement.LastGroup.TheVariants.{UsingKeys, WithoutKeys}
+use Rattle.kmn_parser.specs.declared.statement.LastGroup.TheVariants.{UsingKeys}
 use Rattle.kmn_parser.specs.declared.statement.Sign.{Sign}
 use Rattle.kmn_parser.specs.declared.statement.Sign.TheVariants as sign
 use Rattle.kmn_parser.specs.declared.statement.Statement.TheVariants as statement
@@ -35,12 +35,8 @@ use Rattle.program_text.proofs.Words.{choose-then, choose-else}
 use Rattle.program_text.proofs.Sections.{tokens-append, tokens-spaced, tokens-joined, items_read, key_reads}
 
 -- tokens among which a sign is not
-abbrev Without : Sign → List LineToken → Type 0
+abbrev pub Without : Sign → List LineToken → Type 0
 Without wanted tokens = list_all (λ (t : LineToken). not (is_sign wanted t.kind)) tokens ≡ true
-
-and-both : (a b : Bool) → a ≡ true → b ≡ true → (a && b) ≡ true
-and-both true b e f = f
-and-both false b e f = absurd cc
 
 spaced-arrow : (texts : List (List ℕ)) (name : List ℕ) → Without sign.Arrow (tokens_in (spaced_words texts (Some (word name) ∷ Some bracket_closing ∷ [])))
 spaced-arrow [] name = refl
@@ -51,13 +47,13 @@ spaced-plus [] name = refl
 spaced-plus (text ∷ texts) name = spaced-plus texts name
 
 without-append : (wanted : Sign) (xs ys : List LineToken) → Without wanted xs → Without wanted ys → Without wanted (xs ++ ys)
-without-append wanted xs ys e f = list_all-append (λ (t : LineToken). not (is_sign wanted t.kind)) xs ys ∙ and-both _ _ e f
+without-append wanted xs ys e f = list_all-append (λ (t : LineToken). not (is_sign wanted t.kind)) xs ys ∙ and_from _ _ e f
 
 -- a name is no sign
 name-without : (wanted : Sign) (name : List ℕ) (rest : List LineToken) → is_sign wanted kind.Word ≡ false → ((c : ℕ) → is_sign wanted (kind.Number c) ≡ false)
     → Without wanted rest → Without wanted (name_token name ∷ rest)
 name-without wanted name rest word number more =
-    and-both _ _ (ap not (cond_both (starts_number name) (kind.Number (hex_value 0 (drop 2 name))) kind.Word (λ k. is_sign wanted k ≡ false) (λ e. number _) (λ e. word))) more
+    and_from _ _ (ap not (cond_both (starts_number name) (kind.Number (hex_value 0 (drop 2 name))) kind.Word (λ k. is_sign wanted k ≡ false) (λ e. number _) (λ e. word))) more
 
 name-arrow : (name : List ℕ) (rest : List LineToken) → Without sign.Arrow rest → Without sign.Arrow (name_token name ∷ rest)
 name-arrow name rest more = name-without sign.Arrow name rest refl (λ c. refl) more
@@ -93,15 +89,15 @@ item-plus (source.Unequal name value) = name-plus name (unequal ∷ value_token 
 item-plus (source.Set name value) = name-plus name (equal ∷ value_token value ∷ closing ∷ []) refl
 item-plus i = refl
 
-items-arrow : (items : List SrcItem) → Without sign.Arrow (items_tokens items)
+pub items-arrow : (items : List SrcItem) → Without sign.Arrow (items_tokens items)
 items-arrow [] = refl
 items-arrow (i ∷ items) = without-append sign.Arrow (tokens_in (item_pieces i)) (items_tokens items) (item-arrow i) (items-arrow items)
 
-items-plus : (items : List SrcItem) → Without sign.Plus (items_tokens items)
+pub items-plus : (items : List SrcItem) → Without sign.Plus (items_tokens items)
 items-plus [] = refl
 items-plus (i ∷ items) = without-append sign.Plus (tokens_in (item_pieces i)) (items_tokens items) (item-plus i) (items-plus items)
 
-place-found : (wanted : Sign) (before : List LineToken) (token : LineToken) (behind : List LineToken) → Without wanted before → is_sign wanted token.kind ≡ true → place_of wanted (before ++ token ∷ behind) ≡ length before
+pub place-found : (wanted : Sign) (before : List LineToken) (token : LineToken) (behind : List LineToken) → Without wanted before → is_sign wanted token.kind ≡ true → place_of wanted (before ++ token ∷ behind) ≡ length before
 place-found wanted [] token behind none is = choose-else (not (is_sign wanted token.kind)) _ _ (ap not is)
 place-found wanted (first ∷ before) token behind none is =
     let two = and-true (not (is_sign wanted first.kind)) (list_all (λ (t : LineToken). not (is_sign wanted t.kind)) before) none in
@@ -162,7 +158,7 @@ rule-parts line context output key c k o last ca cp ka some rc rk ro =
     ∙ ap (earliest None) (body-ok line last (length b) (length c) t context output key c k front (rc last 0) less middle (rk last (length c + 1)) (ap (read_items section.Output unseen last 0 (length b + 1)) behind ∙ ro last (length b + 1)))
 
 -- what a line begins with is no word of another statement
-abbrev BeginsRule : List LineToken → Type 0
+abbrev pub BeginsRule : List LineToken → Type 0
 BeginsRule tokens = (begins_word (codes "store") tokens ≡ false) × (begins_word (codes "begin") tokens ≡ false) × (begins_word (codes "group") tokens ≡ false)
     × (begins_word (codes "match") tokens ≡ false) × (begins_word (codes "nomatch") tokens ≡ false)
 
@@ -173,12 +169,12 @@ item-begins (source.Call name) rest e = e
 item-begins source.OutOfProfile rest e = e
 item-begins i rest e = (refl, refl, refl, refl, refl)
 
-items-begin : (items : List SrcItem) (rest : List LineToken) → BeginsRule rest → BeginsRule (items_tokens items ++ rest)
+pub items-begin : (items : List SrcItem) (rest : List LineToken) → BeginsRule rest → BeginsRule (items_tokens items ++ rest)
 items-begin [] rest e = e
 items-begin (i ∷ items) rest e =
     subst BeginsRule (sym (append_assoc (tokens_in (item_pieces i)) (items_tokens items) rest)) (item-begins i (items_tokens items ++ rest) (items-begin items rest e))
 
-rule-line : (group : LastGroup) (line : ℕ) (tokens : List LineToken) → 0 < length tokens → BeginsRule tokens → read_line group line tokens ≡ read_rule group line (length tokens - 1) tokens
+pub rule-line : (group : LastGroup) (line : ℕ) (tokens : List LineToken) → 0 < length tokens → BeginsRule tokens → read_line group line tokens ≡ read_rule group line (length tokens - 1) tokens
 rule-line group line [] some begins = absurd (omega arith)
 rule-line group line (token ∷ tokens) some (a, b, c, d, e) =
     choose-else (length (token ∷ tokens) == 0) _ _ (ne_eqb _ 0 (omega arith)) ∙ choose-else _ _ _ a ∙ choose-else _ _ _ b ∙ choose-else _ _ _ c ∙ choose-else _ _ _ d ∙ choose-else _ _ _ e
@@ -203,60 +199,3 @@ keyed_rule_read line context output key first cok kok ook some =
     ∙ rule-line UsingKeys line t some_there begins
     ∙ rule-parts line context (first ∷ output) key c k o (length t - 1) (items-arrow context) (items-plus context) (item-arrow key) (output-has first (items_tokens output) some)
     (items_read section.Context unseen context cok) (key_reads key kok) (items_read section.Output unseen (first ∷ output) ook)
-
--- a rule without a key
-place-none : (wanted : Sign) (tokens : List LineToken) → Without wanted tokens → place_of wanted tokens ≡ length tokens
-place-none wanted [] none = refl
-place-none wanted (first ∷ tokens) none =
-    let two = and-true (not (is_sign wanted first.kind)) (list_all (λ (t : LineToken). not (is_sign wanted t.kind)) tokens) none in
-    choose-then (not (is_sign wanted first.kind)) _ _ two.0 ∙ (let more = place-none wanted tokens two.1 in omega (arith, more))
-
-free-head : (arrow plus : ℕ) (tokens : List LineToken) → nat_lt arrow (length tokens) ≡ true → has_items (drop (arrow + 1) tokens) ≡ true → rule_head WithoutKeys arrow plus tokens ≡ None
-unfolding rule_head
-free-head arrow plus tokens e f =
-    ap (λ b. or_else (unless (b || begins_rule tokens) S01) (or_else (or_else (unless b S04) (unless (has_items (drop (arrow + 1) tokens)) S06)) None)) e
-    ∙ ap (λ b. or_else (unless b S06) None) f
-
-free-body : (line last arrow plus : ℕ) (tokens : List LineToken) (context output : List SrcItem) (c : List LineToken)
-    → take plus tokens ≡ c → read_items section.Context unseen last 0 0 c ≡ Ok context → nat_lt plus arrow ≡ false
-    → read_items section.Output unseen last 0 (arrow + 1) (drop (arrow + 1) tokens) ≡ Ok output
-    → rule_body WithoutKeys line last arrow plus tokens ≡ Ok (record { line = line; kind = Plain; context = context; key = None; output = output })
-unfolding rule_body rule_key
-free-body line last arrow plus tokens context output c is e less g =
-    ap (λ r. and_then r (λ context. and_then (rule_key WithoutKeys last arrow plus tokens) (λ key.
-    and_then (read_items section.Output unseen last 0 (arrow + 1) (drop (arrow + 1) tokens)) (λ output.
-    Ok (record { line = line; kind = Plain; context = context; key = key; output = output })))))
-    (ap (λ (ts : List LineToken). read_items section.Context unseen last 0 0 ts) is ∙ e)
-    ∙ ap (λ r. and_then r (λ key.
-    and_then (read_items section.Output unseen last 0 (arrow + 1) (drop (arrow + 1) tokens)) (λ output.
-    Ok (record { line = line; kind = Plain; context = context; key = key; output = output }))))
-    (choose-then (not (nat_lt plus arrow)) _ _ (ap not less))
-    ∙ ap (λ r. and_then r (λ output. Ok (record { line = line; kind = Plain; context = context; key = None; output = output }))) g
-
-pub free_rule_read : (line : ℕ) (context output : List SrcItem) (first : SrcItem) → ArePrinted section.Context unseen context → ArePrinted section.Output unseen (first ∷ output)
-    → 0 < length (tokens_in (item_pieces first))
-    → read_line WithoutKeys line (tokens_in (plain_pieces (record { line = line; kind = Plain; context = context; key = None; output = first ∷ output })))
-    ≡ Ok (statement.Rule (record { line = line; kind = Plain; context = context; key = None; output = first ∷ output }))
-unfolding read_rule
-free_rule_read line context output first cok ook some =
-    let c = items_tokens context in
-    let o = items_tokens (first ∷ output) in
-    let t : List LineToken = c ++ arrow ∷ o in
-    let last = length t - 1 in
-    let is : tokens_in (plain_pieces (record { line = line; kind = Plain; context = context; key = None; output = first ∷ output })) ≡ t =
-    tokens-spaced context (Some arrow ∷ joined_items (first ∷ output)) ∙ ap (λ (ts : List LineToken). c ++ arrow ∷ ts) (tokens-joined (first ∷ output)) in
-    let long : length t ≡ length c + (1 + length o) = (let l : length t ≡ length c + length (arrow ∷ o) = length-append c (arrow ∷ o) in omega (arith, l)) in
-    let arrow_at : place_of sign.Arrow t ≡ length c = place-found sign.Arrow c arrow o (items-arrow context) refl in
-    let taken : take (length c) t ≡ c = take-append_seam c (arrow ∷ o) in
-    let plus_at : place_of sign.Plus (take (length c) t) ≡ length c = ap (place_of sign.Plus) taken ∙ place-none sign.Plus c (items-plus context) in
-    let behind : drop (length c + 1) t ≡ o = drop-append-add c (arrow ∷ o) 1 in
-    ap (read_line WithoutKeys line) is
-    ∙ rule-line WithoutKeys line t (omega (arith, long)) (items-begin context (arrow ∷ o) (refl, refl, refl, refl, refl))
-    ∙ ap (λ (n : ℕ). rule_at WithoutKeys line last n (place_of sign.Plus (take n t)) t) arrow_at
-    ∙ ap (λ (n : ℕ). rule_at WithoutKeys line last (length c) n t) plus_at
-    ∙ ap (λ h. earliest h (rule_body WithoutKeys line last (length c) (length c) t)) (free-head (length c) (length c) t (lt-ltb (length c) (length t) (omega (arith, long))) (ap has_items behind ∙ output-has first (items_tokens output) some))
-    ∙ ap (earliest None) (free-body line last (length c) (length c) t context (first ∷ output) c taken (items_read section.Context unseen context cok last 0) (not-less (length c))
-    (ap (read_items section.Output unseen last 0 (length c + 1)) behind ∙ items_read section.Output unseen (first ∷ output) ook last (length c + 1)))
-  where
-  not-less : (n : ℕ) → nat_lt n n ≡ false
-  not-less n = grind arith

@@ -2,6 +2,7 @@
 use Rattle.std.proofs.Common.{◌≡◌, ℕ, ◌+◌, Bool, true, false, not, ◌&&◌, ◌||◌, if◌then◌else◌, ◌==◌, List, [], ◌∷◌, ◌++◌, Option, None, Some, refl, sym, ◌∙◌, ap, subst, append_assoc}
 use Rattle.std.specs.List.{list_all}
 use Rattle.std.proofs.lemmas.List.Folds.{list_all-append}
+use Rattle.std.proofs.lemmas.Bool.{and_from}
 use Rattle.kmn_base.specs.Bytes.{is_blank}
 use Rattle.kmn_lines.specs.Bytes.{first_or_end}
 use Rattle.kmn_lines.specs.Lines.{starts_comment}
@@ -10,7 +11,6 @@ use Rattle.kmn_lines.specs.declared.token.TokenKind.TheVariants as kind
 use Rattle.kmn_lines.proofs.Sizes.{and-true}
 use Rattle.kmn_items.specs.TokenTexts.{LineToken}
 use Rattle.kmn_lines.specs.Lines.{line_start}
-use Rattle.rule_model.specs.declared.program.SrcItem.TheVariants as source
 use Rattle.program_text.specs.Names.{is_inner}
 use Rattle.program_text.specs.Printed.{printed}
 use Rattle.program_text.proofs.LineForms.{AreReadBack, AreSound, IsFollowed, IsQuotedText, IsReadBack, IsTokenText, IsWholeLine, begins_plainly, is_alone_c, is_clean, is_plain_byte, is_still_byte}
@@ -88,24 +88,20 @@ sound_quiet blank clean (None ∷ ps) sound = quiet-blank blank clean (printed p
 sound_quiet blank clean (Some token ∷ ps) (is, follows, sound) =
     token-quiet token.kind blank clean token.text (printed ps) is follows (sound_quiet false (is_clean token.kind token.text) ps sound)
 
-and-both : (a b : Bool) → a ≡ true → b ≡ true → (a && b) ≡ true
-and-both true b e f = f
-and-both false b e f = absurd cc
-
 still-inner : (bytes : List ℕ) → list_all is_still_byte bytes ≡ true → list_all is_inner bytes ≡ true
 still-inner [] e = refl
 still-inner (byte ∷ bytes) e =
     let two = and-true (is_still_byte byte) (list_all is_still_byte bytes) e in
-    and-both _ _ (and-true (is_plain_byte byte) (is_inner byte) two.0).1 (still-inner bytes two.1)
+    and_from _ _ (and-true (is_plain_byte byte) (is_inner byte) two.0).1 (still-inner bytes two.1)
 
 safe-inner : (bytes : List ℕ) → list_all is_safe_byte bytes ≡ true → list_all is_inner bytes ≡ true
 safe-inner [] e = refl
 safe-inner (byte ∷ bytes) e =
     let two = and-true (is_safe_byte byte) (list_all is_safe_byte bytes) e in
-    and-both _ _ (and-true (is_plain_byte byte) (is_inner byte) (and-true (is_still_byte byte) (not (byte == 92)) two.0).0).1 (safe-inner bytes two.1)
+    and_from _ _ (and-true (is_plain_byte byte) (is_inner byte) (and-true (is_still_byte byte) (not (byte == 92)) two.0).0).1 (safe-inner bytes two.1)
 
 quoted-inner : (quote : ℕ) (bytes : List ℕ) → list_all is_inner bytes ≡ true → is_inner quote ≡ true → list_all is_inner (quote ∷ (bytes ++ quote ∷ [])) ≡ true
-quoted-inner quote bytes e q = and-both _ _ q (list_all-append is_inner bytes (quote ∷ []) ∙ and-both _ _ e (and-both _ _ q refl))
+quoted-inner quote bytes e q = and_from _ _ q (list_all-append is_inner bytes (quote ∷ []) ∙ and_from _ _ e (and_from _ _ q refl))
 
 number-inner : (upper : Bool) (digits : List ℕ) → list_all is_inner digits ≡ true → list_all is_inner ((if upper then 85 else 117) ∷ 43 ∷ digits) ≡ true
 number-inner true digits e = e
@@ -131,7 +127,7 @@ pub line_inner : (blank clean : Bool) (ps : List (Option LineToken)) → AreSoun
 line_inner blank clean [] sound = refl
 line_inner blank clean (None ∷ ps) sound = line_inner true clean ps sound
 line_inner blank clean (Some token ∷ ps) (is, follows, sound) =
-    list_all-append is_inner token.text (printed ps) ∙ and-both _ _ (token-inner token.kind token.text is) (line_inner false (is_clean token.kind token.text) ps sound)
+    list_all-append is_inner token.text (printed ps) ∙ and_from _ _ (token-inner token.kind token.text is) (line_inner false (is_clean token.kind token.text) ps sound)
 
 -- a line that is printed so is whole
 pub sound_whole : (ps : List (Option LineToken)) → AreSound true true ps → begins_plainly (printed ps) ≡ true → IsWholeLine (printed ps)

@@ -3,6 +3,7 @@ use Rattle.std.proofs.Common.{◌≡◌, ℕ, Bool, true, false, not, ◌&&◌, 
 use Rattle.std.specs.Prelude.{nat_eq, bit_and, filter, map}
 use Rattle.std.specs.Fmt.{decimal}
 use Rattle.std.specs.List.{list_all}
+use Rattle.std.proofs.lemmas.Bool.{and_from}
 use Rattle.kmn_lines.specs.Tokens.{begins_forbidden, starts_number, hex_value}
 use Rattle.kmn_lines.specs.declared.token.TokenKind.{TokenKind}
 use Rattle.kmn_lines.specs.declared.token.TokenKind.TheVariants as kind
@@ -19,10 +20,6 @@ use Rattle.program_text.proofs.LineForms.{is_word_text, is_still_byte, is_alone_
 use Rattle.program_text.proofs.Forms.{IsPrinted, IsPrintedName}
 use Rattle.program_text.proofs.Words.{not-true}
 use Rattle.program_text.proofs.Hex.{char_number}
-
-and-both : (a b : Bool) → a ≡ true → b ≡ true → (a && b) ≡ true
-and-both true b e f = f
-and-both false b e f = absurd cc
 
 -- the words of a bracket
 IsBracketWord : List ℕ → Bool
@@ -43,7 +40,7 @@ words-sound flags [] e = refl
 words-sound flags (row ∷ rows) e =
     let two = and-true (IsBracketWord row.0) _ e in
     elim (not (nat_eq (bit_and flags row.1) 0)) as (λ b. list_all IsBracketWord (map (λ row. row.0) (if b then row ∷ filter (λ row. not (nat_eq (bit_and flags row.1) 0)) rows else filter (λ row. not (nat_eq (bit_and flags row.1) 0)) rows)) ≡ true) [
-      | true ↦ and-both _ _ two.0 (words-sound flags rows two.1)
+      | true ↦ and_from _ _ two.0 (words-sound flags rows two.1)
       | false ↦ words-sound flags rows two.1
     ]
 
