@@ -130,6 +130,20 @@ fn show_event(shown: &mut String, event: &Event) -> Result<(), Fail> {
     Ok(())
 }
 
+/// Appends an entry as a row has it.
+fn show_entry(shown: &mut String, entry: &Entry) -> Result<(), Fail> {
+    match entry {
+        Entry::Act { line, event } => {
+            write!(shown, "{line}:")?;
+            show_event(shown, event)
+        }
+        Entry::Expect { line, text } => {
+            write!(shown, "{line}:")?;
+            show_text(shown, "expect", text.as_slice())
+        }
+    }
+}
+
 /// Entries as a row has them.
 fn shown_entries(alloc: Global, entries: &[Entry]) -> Result<String, Fail> {
     let mut shown = String::new(alloc);
@@ -137,16 +151,7 @@ fn shown_entries(alloc: Global, entries: &[Entry]) -> Result<String, Fail> {
         if !shown.is_empty() {
             shown.push(' ')?;
         }
-        match entry {
-            Entry::Act { line, event } => {
-                write!(shown, "{line}:")?;
-                show_event(&mut shown, event)?;
-            }
-            Entry::Expect { line, text } => {
-                write!(shown, "{line}:")?;
-                show_text(&mut shown, "expect", text.as_slice())?;
-            }
-        }
+        show_entry(&mut shown, entry)?;
     }
     Ok(shown)
 }
@@ -156,21 +161,61 @@ fn shown(alloc: Global, read: Result<Seq<Entry>, ScriptError>) -> Result<String,
     match read {
         Ok(entries) => shown_entries(alloc, entries.as_slice()),
         Err(ScriptError::Refused(refusal)) => Ok(format!(in alloc;
-            "{:?} {}",
+            "{} {}",
             refusal.code, refusal.line
         )?),
-        Err(error) => Ok(format!(in alloc; "{error}")?),
+        Err(error) => Err(error.into()),
     }
 }
 
-/// A line as often as that, and then another.
-fn many(alloc: Global, line: &str, count: usize, last: &str) -> Result<Vec<u8>, Fail> {
-    let mut script = Vec::new(alloc);
+/// Whether a script gives what a row says.
+fn gives(alloc: Global, script: &[u8], names: &KeyDictionary, wanted: &str) -> Result<bool, Fail> {
+    let given = shown(alloc, read_script(alloc, script, names))?;
+    Ok(given.as_str() == wanted)
+}
+
+/// Whether a row says what its script gives.
+fn is_right(alloc: Global, names: &KeyDictionary, row: &str) -> Result<bool, Fail> {
+    let (text, wanted) = row.split_once('~').ok_or("a row without an answer")?;
+    gives(alloc, script_of(alloc, text)?.as_slice(), names, wanted)
+}
+
+/// A word, and a text as often as that, and then another.
+fn many(alloc: Global, word: &str, text: &str, count: usize, last: &str) -> Result<Vec<u8>, Fail> {
+    let mut script = Vec::from_slice(alloc, word.as_bytes())?;
     for _ in 0..count {
-        script.extend_from_slice(line.as_bytes())?;
+        script.extend_from_slice(text.as_bytes())?;
     }
     script.extend_from_slice(last.as_bytes())?;
     Ok(script)
+}
+
+/// A line, how often it stands in a script, what stands behind it, and what the script gives.
+const LIMITS: [(&str, usize, &str, &str); 7] = [
+    ("#", 4_194_304, "", ""),
+    ("#", 4_194_305, "", "P06 1"),
+    ("[K_A]\n", 100_000, "#\nexpect ''x", "P04 100002"),
+    ("[K_A]\n", 100_000, "[K_A]", "P07 100001"),
+    ("[K_A]\n", 100_000, "caret 0 0", "P07 100001"),
+    ("[K_A]\n", 100_000, "caret x", "P05 100001"),
+    ("'a' ", 4_096, "\n", "P02 1"),
+];
+
+/// A word, what stands so many times behind it, and the end of the line: a string of so many characters, or a name; and
+/// whether it is read.
+const LENGTHS: [(&str, &str, usize, &str, bool); 4] = [
+    ("expect ", "'é'", 4_096, "", true),
+    ("expect ", "'é'", 4_097, "", false),
+    ("option ", "é", 80, " 'a'", true),
+    ("option ", "é", 81, " 'a'", false),
+];
+
+/// Whether a script of one line is read as one entry.
+fn is_read(alloc: Global, names: &KeyDictionary, script: &[u8]) -> bool {
+    match read_script(alloc, script, names) {
+        Ok(entries) => entries.len() == 1,
+        Err(_) => false,
+    }
 }
 
 #[test]
@@ -180,56 +225,24 @@ fn scripts_give_entries(rt: HostRuntime) -> Result<(), Fail> {
     names.add(b"T_flip")?;
     names.add(b"U_0041")?;
     for row in ROWS.lines() {
-        let (text, wanted) = row.split_once('~').unwrap_or((row, ""));
-        let script = script_of(alloc, text)?;
-        let given = shown(alloc, read_script(alloc, script.as_slice(), &names))?;
-        assert_eq!(rt; given.as_str(), wanted, "{text}");
+        assert!(rt; is_right(alloc, &names, row)?, "{row}");
     }
-    let limits = [
-        ("#", 4_194_304, "", ""),
-        ("#", 4_194_305, "", "P06 1"),
-        ("[K_A]\n", 100_000, "#\nexpect ''x", "P04 100002"),
-        ("[K_A]\n", 100_000, "[K_A]", "P07 100001"),
-        ("[K_A]\n", 100_000, "caret 0 0", "P07 100001"),
-        ("[K_A]\n", 100_000, "caret x", "P05 100001"),
-        ("'a' ", 4_096, "\n", "P02 1"),
-    ];
-    for (line, count, last, wanted) in limits {
-        let script = many(alloc, line, count, last)?;
-        let given = shown(alloc, read_script(alloc, script.as_slice(), &names))?;
-        assert_eq!(rt; given.as_str(), wanted, "{count} {line}");
+    for (line, count, last, wanted) in LIMITS {
+        let script = many(alloc, "", line, count, last)?;
+        assert!(rt;
+            gives(alloc, script.as_slice(), &names, wanted)?,
+            "{wanted}"
+        );
+    }
+    for (word, token, count, end, read) in LENGTHS {
+        let script = many(alloc, word, token, count, end)?;
+        assert!(rt; is_read(alloc, &names, script.as_slice()) == read, "{word}");
     }
     Ok(())
 }
 
-/// A string of so many characters behind a word, and a name of so many.
-#[test]
-fn strings_and_names_end(rt: HostRuntime) -> Result<(), Fail> {
-    let alloc = rt.alloc();
-    let names = KeyDictionary::new(alloc);
-    let limits = [
-        ("expect ", "'é'", 4_096, "", 1),
-        ("expect ", "'é'", 4_097, "", 0),
-        ("option ", "é", 80, " 'a'", 1),
-        ("option ", "é", 81, " 'a'", 0),
-    ];
-    for (word, token, count, end, entries) in limits {
-        let mut script = Vec::from_slice(alloc, word.as_bytes())?;
-        script.extend_from_slice(many(alloc, token, count, end)?.as_slice())?;
-        let read = read_script(alloc, script.as_slice(), &names);
-        assert_eq!(rt; read.map_or(0, |read| read.len()), entries, "{word}");
-    }
-    Ok(())
-}
-
-/// Fails where a line is another one.
-fn is_line(rt: &impl std::process::Abort, line: Text, wanted: &str) {
-    assert_eq!(rt; line.as_slice(), wanted.as_bytes());
-}
-
-#[test]
-fn lines_of_a_transcript(rt: HostRuntime) -> Result<(), Fail> {
-    let alloc = rt.alloc();
+/// Whether the lines of an event and of two values are as they should be.
+fn are_event_lines(alloc: Global) -> Result<bool, Fail> {
     let outcome = Outcome {
         delete: 2,
         pass: true,
@@ -247,25 +260,39 @@ fn lines_of_a_transcript(rt: HostRuntime) -> Result<(), Fail> {
             code: 65,
         },
     ];
-    let line = line_of(alloc, 7, outcome, &['à', 'b'], &context)?;
-    is_line(
-        &rt,
-        line,
-        "7 del=2 ins=00E0.0062 pass=1 beep=1 ent=3 ctx=0078.d12.1F600\n",
-    );
-    is_line(
-        &rt,
-        value_line(alloc, false, b"o", &value)?,
-        "opt o 0031.d3.k0041\n",
-    );
-    is_line(&rt, value_line(alloc, true, b"", &[])?, "save  -\n");
-    is_line(&rt, expect_line(alloc, 12)?, "expect failed line=12\n");
-    is_line(
-        &rt,
-        refused_event_line(alloc, 3, Code::E1)?,
-        "refused E1 event 3\n",
-    );
-    is_line(&rt, text_line(alloc, &['b'], &[])?, "text 0062|-\n");
-    is_line(&rt, end_line(alloc, 5, 2)?, "end events=5 failed=2\n");
+    let event = line_of(alloc, 7, outcome, &['à', 'b'], &context)?;
+    let option = value_line(alloc, false, b"o", &value)?;
+    let saved = value_line(alloc, true, b"", &[])?;
+    Ok(
+        is_line(
+            &event,
+            "7 del=2 ins=00E0.0062 pass=1 beep=1 ent=3 ctx=0078.d12.1F600\n",
+        ) && is_line(&option, "opt o 0031.d3.k0041\n")
+            && is_line(&saved, "save  -\n"),
+    )
+}
+
+/// Whether the other lines are as they should be.
+fn are_other_lines(alloc: Global) -> Result<bool, Fail> {
+    let expected = expect_line(alloc, 12)?;
+    let refused = refused_event_line(alloc, 3, Code::E1)?;
+    let text = text_line(alloc, &['b'], &[])?;
+    let end = end_line(alloc, 5, 2)?;
+    Ok(
+        is_line(&expected, "expect failed line=12\n")
+            && is_line(&refused, "refused E1 event 3\n")
+            && is_line(&text, "text 0062|-\n")
+            && is_line(&end, "end events=5 failed=2\n"),
+    )
+}
+
+fn is_line(line: &Text, wanted: &str) -> bool {
+    line.as_slice() == wanted.as_bytes()
+}
+
+#[test]
+fn lines_of_a_transcript(rt: HostRuntime) -> Result<(), Fail> {
+    assert!(rt; are_event_lines(rt.alloc())?);
+    assert!(rt; are_other_lines(rt.alloc())?);
     Ok(())
 }
