@@ -1,4 +1,15 @@
+pub mod ApartNames
 pub mod CalledNames
+pub mod CompiledOrder
+pub mod KnownNames
+pub mod Meaning
 pub mod Sayable
+pub mod SpelledItems
+pub mod SpelledKeys
+pub mod SpelledPrograms
+pub mod SpelledRules
+pub mod StatedNames
 pub mod TameNames
+pub mod UnpassedLimits
+pub mod UnrefusedRules
 pub mod WrittenOut

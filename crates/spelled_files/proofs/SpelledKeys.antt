@@ -1,0 +1,162 @@
+-- Virtual keys of tables of which no cause holds have names that a source reads.
+use Rattle.std.proofs.Common.{◌≡◌, ℕ, zero, suc, ◌+◌, ◌-◌, Bool, true, false, not, ◌&&◌, ◌||◌, List, [], ◌∷◌, ◌++◌, length, Option, None, Some, is_some, refl, sym, ◌∙◌, ap, subst, arith, if◌then◌else◌}
+use Rattle.std.specs.Prelude.{All, nat_eq, nat_lt, bit_and, bit_or, slice_get, unwrap_or, option_map, position, find, filter, filter_map, encode_utf8_all}
+use Rattle.std.specs.List.{list_all, list_any}
+use Rattle.std.specs.Int.{bit_at}
+use Rattle.std.specs.Str.{is_utf8}
+use Rattle.std.proofs.lemmas.Bool.{and_parts}
+use Rattle.std.proofs.lemmas.Bool.Decides.{nat_tests}
+use Rattle.std.proofs.lemmas.Nat.{and_or_self}
+use Rattle.std.proofs.lemmas.Nat.Bits.{bit_at_and, bit_at_or, same_from_bits}
+use Rattle.std.proofs.lemmas.List.Elements.{All-nil, All-cons, All-head, All-tail, All-append}
+use Rattle.std.proofs.lemmas.List.Splits.{slice_split_none}
+use Rattle.std.proofs.lemmas.Option.{none-some}
+use Rattle.kmn_base.specs.declared.keys.TheConstants.{SHIFT_FLAGS}
+use Rattle.kmn_base.specs.Names.{same_name}
+use Rattle.virtual_keys.specs.Dictionary.{name_in}
+use Rattle.virtual_keys.specs.Keys.{key_codes, key_name}
+use Rattle.kmn_items.specs.Words.{is_own_key}
+use Rattle.rule_model.specs.declared.program.KeyName.{KeyName}
+use Rattle.rule_model.specs.declared.tables.Store.{Store}
+use Rattle.rule_model.specs.declared.tables.Tables.{Tables}
+use Rattle.rule_model.specs.Tab.{distinct_onto, words, element_char, store_elements, is_dictionary, tab_dictionary, tab_options}
+use Rattle.compile_laws.proofs.Places.{position-cons}
+use Rattle.program_text.specs.Names.{is_source_name}
+use Rattle.program_text.specs.Spelled.{IsSpelledName, IsSpelledKey}
+use Rattle.decompile_laws.specs.Items.{Names, key_called}
+use Rattle.decompile_laws.specs.Back.{names_for}
+use Rattle.decompile_laws.specs.WrittenOut.{has_key_name}
+use Rattle.decompile_laws.proofs.Choosing.{clash, choose-then, choose-else}
+use Rattle.spelled_files.specs.Causes.{is_dictionary_name, dictionary_words, are_repeated, is_unspelled_dictionary, is_number, is_first_dictionary}
+use Rattle.spelled_files.proofs.Sayable.{sayable-at, IsSayable}
+use Rattle.spelled_files.proofs.WrittenOut.{store-parts}
+
+abbrev pub IsKeyName : List ℕ → Type 0
+IsKeyName name = is_dictionary_name name ≡ true
+
+all-distinct : (P : List ℕ → Type 0) (seen xs : List (List ℕ)) → All P seen → All P xs → All P (distinct_onto same_name seen xs)
+all-distinct P seen [] before h = before
+all-distinct P seen (x ∷ xs) before h = all-distinct P (if list_any (λ y. same_name y x) seen then seen else seen ++ x ∷ []) xs (by (list_any (λ y. same_name y x) seen)) (All-tail P x xs h)
+  where
+    by : (b : Bool) → All P (if b then seen else seen ++ x ∷ [])
+    by true = before
+    by false = All-append P seen (x ∷ []) before (All-cons P x [] (All-head P x xs h) (All-nil P))
+
+all-pass : (xs : List (List ℕ)) → list_all is_dictionary_name xs ≡ true → All IsKeyName xs
+all-pass [] h = All-nil IsKeyName
+all-pass (x ∷ xs) h = let both = and_parts (is_dictionary_name x) (list_all is_dictionary_name xs) h in All-cons IsKeyName x xs both.0 (all-pass xs both.1)
+
+-- where the first dictionary stands
+record FoundAt (stores : List Store) (store : Store) : Type 0 where
+  place : ℕ
+  found : position is_dictionary stores ≡ Some place
+  at : slice_get stores place ≡ Some store
+
+found-at : (stores : List Store) (store : Store) → find is_dictionary stores ≡ Some store → FoundAt stores store
+found-at [] store h = absurd (none-some store h)
+found-at (x ∷ stores) store h = by (is_dictionary x) refl h (λ g. found-at stores store g)
+  where
+    by : (b : Bool) → is_dictionary x ≡ b → (if b then Some x else find is_dictionary stores) ≡ Some store → (find is_dictionary stores ≡ Some store → FoundAt stores store) → FoundAt (x ∷ stores) store
+    by true e g rest = record { place = 0; found = position-cons is_dictionary x stores ∙ choose-then (is_dictionary x) (Some 0) (option_map suc (position is_dictionary stores)) e; at = g }
+    by false e g rest =
+        let more = rest g in
+        record {
+          place = suc more.place;
+          found = position-cons is_dictionary x stores ∙ choose-else (is_dictionary x) (Some 0) (option_map suc (position is_dictionary stores)) e ∙ ap (option_map suc) more.found;
+          at = more.at;
+        }
+
+same-number : (n : ℕ) → nat_eq n n ≡ true
+same-number n = grind (arith, nat_tests)
+
+and-second : (a b : Bool) → a ≡ true → (a && b) ≡ false → b ≡ false
+and-second true b e h = h
+and-second false b e h = absurd (cc)
+
+not-false : (b : Bool) → not b ≡ false → b ≡ true
+not-false true h = refl
+not-false false h = absurd (cc)
+
+no-words : words (encode_utf8_all []) ≡ []
+no-words = ap (filter (λ (word : List ℕ). not (nat_eq (length word) 0))) (slice_split_none (nat_eq 32) [] (All-nil (λ b. nat_eq 32 b ≡ false)))
+
+module _ (tables : Tables) (said : IsSayable tables) where
+  words-of : (o : Option Store) → find is_dictionary tables.stores ≡ o → All IsKeyName (words (encode_utf8_all (filter_map element_char (store_elements o))))
+  words-of None e = subst (All IsKeyName) (sym no-words) (All-nil IsKeyName)
+  words-of (Some store) e =
+      let f = found-at tables.stores store e in
+      let parts = store-parts tables f.place store (sayable-at (names_for tables) (tab_options tables) 0 tables.stores said.stores f.place f.place store (omega arith) f.at) in
+      let first : is_first_dictionary tables.stores f.place ≡ true = ap (is_number f.place) f.found ∙ same-number f.place in
+      let good = and-second (is_first_dictionary tables.stores f.place) (is_unspelled_dictionary store.elements) first parts.dictionary in
+      let named : not (list_all is_dictionary_name (dictionary_words store.elements)) ≡ false = (or-parts (not (list_all is_dictionary_name (dictionary_words store.elements))) (are_repeated [] (dictionary_words store.elements)) good).0 in
+      all-pass (dictionary_words store.elements) (not-false (list_all is_dictionary_name (dictionary_words store.elements)) named)
+    where
+      or-parts : (a b : Bool) → (a || b) ≡ false → (a ≡ false) × (b ≡ false)
+      or-parts true b h = absurd (cc)
+      or-parts false b h = (refl, h)
+
+  -- each name of the dictionary is one
+  pub keys_named : All IsKeyName (tab_dictionary tables.stores)
+  unfolding tab_dictionary
+  keys_named =
+      all-distinct IsKeyName [] (words (encode_utf8_all (filter_map element_char (store_elements (find is_dictionary tables.stores))))) (All-nil IsKeyName)
+      (words-of (find is_dictionary tables.stores) refl)
+
+pub own_name : (name : List ℕ) → IsKeyName name → (is_own_key name ≡ true) × IsSpelledName name
+own_name name h =
+    let one = and_parts (is_own_key name) (is_source_name name && is_utf8 name) h in
+    let two = and_parts (is_source_name name) (is_utf8 name) one.1 in
+    (one.0, record { utf8 = two.1; read = two.0 })
+
+at-name : (keys : List (List ℕ)) (i : ℕ) → All IsKeyName keys → is_some (slice_get keys i) ≡ true → IsKeyName (unwrap_or (slice_get keys i) [])
+at-name [] i good h = absurd (cc)
+at-name (k ∷ keys) zero good h = All-head IsKeyName k keys good
+at-name (k ∷ keys) (suc i) good h = at-name keys i (All-tail IsKeyName k keys good) h
+
+named-key : (keys : List (List ℕ)) (code : ℕ) → All IsKeyName keys → is_some (name_in keys code) ≡ true → IsKeyName (unwrap_or (name_in keys code) [])
+named-key keys code good h = by (nat_lt code 256) h
+  where
+    by : (b : Bool) → is_some (if b then None else slice_get keys (code - 256)) ≡ true → IsKeyName (unwrap_or (if b then None else slice_get keys (code - 256)) [])
+    by true g = absurd (cc)
+    by false g = at-name keys (code - 256) good g
+
+or-within : (a b mask : ℕ) → bit_and a mask ≡ a → bit_and b mask ≡ b → bit_and (bit_or a b) mask ≡ bit_or a b
+or-within a b mask e f =
+    same_from_bits (bit_and (bit_or a b) mask) (bit_or a b)
+    (λ i.
+    let g = bit_at_and a mask i in
+    let h = bit_at_and b mask i in
+    let k = ap (λ (n : ℕ). bit_at n i) e in
+    let l = ap (λ (n : ℕ). bit_at n i) f in
+    let m = bit_at_and (bit_or a b) mask i in
+    let n = bit_at_or a b i in
+    omega (arith, g, h, k, l, m, n))
+
+no-zero : is_some (key_name 0) ≡ false
+unfolding key_codes
+no-zero = refl
+
+abbrev coded : ℕ → ℕ → KeyName
+coded flags code = record { flags = bit_or flags 0x4000; code = code; name = [] }
+
+abbrev called : List ℕ → ℕ → KeyName
+called name flags = record { flags = bit_or flags 0x4000; code = 0; name = name }
+
+-- a virtual key with a name
+pub key_spelled : (names : Names) (flags code : ℕ) → All IsKeyName names.keys → has_key_name names.keys code ≡ true → bit_and flags SHIFT_FLAGS ≡ flags → IsSpelledKey (key_called names flags code)
+key_spelled names flags code good has known = by (nat_lt code 256) has
+  where
+    by : (b : Bool) → is_some (if b then key_name code else name_in names.keys code) ≡ true
+        → IsSpelledKey (if b then coded flags code else called (unwrap_or (name_in names.keys code) []) flags)
+    by true h = record {
+      virtual = and_or_self 0x4000 flags;
+      flags = or-within flags 0x4000 SHIFT_FLAGS known refl;
+      own = λ e. clash (is_some (key_name 0)) (subst (λ (c : ℕ). is_some (key_name c) ≡ true) e h) no-zero;
+      known = λ e. (h, refl);
+    }
+    by false h = record {
+      virtual = and_or_self 0x4000 flags;
+      flags = or-within flags 0x4000 SHIFT_FLAGS known refl;
+      own = λ e. own_name (unwrap_or (name_in names.keys code) []) (named-key names.keys code good h);
+      known = λ e. absurd (e refl);
+    }
