@@ -45,7 +45,7 @@ abbrev pub compared : List ℕ → List ℕ → LineToken → List ℕ → List 
 compared lead name sign value =
     Some (word lead) ∷ Some opening ∷ Some (name_token name) ∷ None ∷ Some sign ∷ None ∷ Some (value_token value) ∷ Some closing ∷ []
 
--- an item
+-- an item; those that no compiled file has are not written
 abbrev pub item_pieces : SrcItem → List (Option LineToken)
 item_pieces (source.Char c) = Some (char_token c) ∷ []
 item_pieces (source.Dead name) = named_call (codes "dk") name

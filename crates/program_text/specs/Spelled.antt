@@ -147,21 +147,24 @@ pub record IsSpelledRule (using_keys : Bool) (rule : RuleDef) : Type 0 where
   pub output : AreSpelled section.Output unseen rule.output
   pub some : 1 ≤ length rule.output
 
--- statements in the lines from a number on
+-- rules, each in its line from a number on
 abbrev pub AreSpelledRules : Bool → ℕ → List RuleDef → Type 0
 AreSpelledRules using_keys line [] = Unit {0}
 AreSpelledRules using_keys line (rule ∷ rules) = (rule.line ≡ line) × IsSpelledRule using_keys rule × AreSpelledRules using_keys (line + 1) rules
 
+-- groups, each in its line with its rules behind it
 abbrev pub AreSpelledGroups : ℕ → List GroupDef → Type 0
 AreSpelledGroups line [] = Unit {0}
 AreSpelledGroups line (group ∷ groups) =
     (group.line ≡ line) × IsSpelledName group.name × AreSpelledRules group.using_keys (line + 1) group.rules
     × AreSpelledGroups (line + 1 + length group.rules) groups
 
+-- start statements, each in its line
 abbrev pub AreSpelledBegins : ℕ → List BeginDef → Type 0
 AreSpelledBegins line [] = Unit {0}
 AreSpelledBegins line (start ∷ begins) = (start.line ≡ line) × IsSpelledName start.group × AreSpelledBegins (line + 1) begins
 
+-- stores, each in its line
 abbrev pub AreSpelledStores : ℕ → List StoreDef → Type 0
 AreSpelledStores line [] = Unit {0}
 AreSpelledStores line (store ∷ stores) = (store.line ≡ line) × IsSpelledStore store × AreSpelledStores (line + 1) stores

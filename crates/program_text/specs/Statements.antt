@@ -31,15 +31,18 @@ abbrev pub content_pieces : StoreDef → List (Option LineToken)
 content_pieces store =
     if nat_eq store.system 8 then None ∷ Some (value_token (filter_map item_char store.items)) ∷ [] else joined_items store.items
 
+-- store(name) and its content
 abbrev pub store_pieces : StoreDef → List (Option LineToken)
 store_pieces store =
     Some (word (codes "store")) ∷ Some opening ∷ Some (name_token (store_name store)) ∷ Some closing ∷ content_pieces store
 
+-- begin Unicode > use(name), begin ANSI > use(name)
 abbrev pub begin_pieces : BeginDef → List (Option LineToken)
 begin_pieces start =
     Some (word (codes "begin")) ∷ None ∷ Some (word (if start.unicode then codes "Unicode" else codes "ANSI")) ∷ None ∷ Some arrow ∷ None
     ∷ Some (word (codes "use")) ∷ Some opening ∷ Some (name_token start.group) ∷ Some closing ∷ []
 
+-- group(name), group(name) using keys
 abbrev pub group_pieces : GroupDef → List (Option LineToken)
 group_pieces group =
     Some (word (codes "group")) ∷ Some opening ∷ Some (name_token group.name) ∷ Some closing
@@ -54,7 +57,7 @@ key_part (Some key) more = Some plus ∷ None ∷ (item_pieces key ++ None ∷ m
 abbrev pub plain_pieces : RuleDef → List (Option LineToken)
 plain_pieces rule = spaced_items rule.context (key_part rule.key (Some arrow ∷ joined_items rule.output))
 
--- a rule, match or nomatch
+-- a plain rule, match > output, nomatch > output
 abbrev pub rule_pieces : RuleKind → RuleDef → List (Option LineToken)
 rule_pieces Plain rule = plain_pieces rule
 rule_pieces OnMatch rule = Some (word (codes "match")) ∷ None ∷ Some arrow ∷ joined_items rule.output

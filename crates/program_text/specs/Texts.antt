@@ -22,9 +22,11 @@ hex_count c = if nat_lt c 0x1_0000 then 4 else if nat_lt c 0x10_0000 then 5 else
 abbrev pub char_text : ℕ → List ℕ
 char_text c = 85 ∷ 43 ∷ hex_text (hex_count c) c
 
+-- a character as a token
 abbrev pub char_token : ℕ → LineToken
 char_token c = record { kind = kind.Number c; text = char_text c }
 
+-- a word as a token
 abbrev pub word : List ℕ → LineToken
 word text = record { kind = kind.Word; text = text }
 
@@ -32,6 +34,7 @@ word text = record { kind = kind.Word; text = text }
 abbrev pub name_kind : List ℕ → TokenKind
 name_kind name = if starts_number name then kind.Number (hex_value 0 (drop 2 name)) else kind.Word
 
+-- a name as a token
 abbrev pub name_token : List ℕ → LineToken
 name_token name = record { kind = name_kind name; text = name }
 
