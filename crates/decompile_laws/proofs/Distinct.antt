@@ -20,9 +20,9 @@ none-same : (xs : List (List ℕ)) (y : List ℕ) (ys : List (List ℕ)) → Are
 none-same [] y ys d = refl
 none-same (x ∷ xs) y ys d = ap (λ b. b || list_any (λ x. same_name x y) xs) (inside xs d.0) ∙ none-same xs y ys d.1
   where
-  inside : (xs : List (List ℕ)) → Differs x (xs ++ y ∷ ys) → same_name x y ≡ false
-  inside [] d = d.0
-  inside (z ∷ xs) d = inside xs d.1
+    inside : (xs : List (List ℕ)) → Differs x (xs ++ y ∷ ys) → same_name x y ≡ false
+    inside [] d = d.0
+    inside (z ∷ xs) d = inside xs d.1
 
 -- names that are told apart stay
 pub distinct-stays : (seen xs : List (List ℕ)) → AreDistinct (seen ++ xs) → distinct_onto same_name seen xs ≡ seen ++ xs
@@ -31,13 +31,13 @@ distinct-stays seen (x ∷ xs) d =
     (λ i. distinct_onto same_name (if none-same seen x xs d i then seen else seen ++ x ∷ []) xs)
     ∙ (distinct-stays (seen ++ x ∷ []) xs (again seen d) ∙ append_assoc seen (x ∷ []) xs)
   where
-  again : (seen : List (List ℕ)) → AreDistinct (seen ++ x ∷ xs) → AreDistinct ((seen ++ x ∷ []) ++ xs)
-  again [] d = d
-  again (y ∷ seen) d = (all seen d.0, again seen d.1)
-    where
-    all : (seen : List (List ℕ)) → Differs y (seen ++ x ∷ xs) → Differs y ((seen ++ x ∷ []) ++ xs)
-    all [] d = d
-    all (z ∷ seen) d = (d.0, all seen d.1)
+    again : (seen : List (List ℕ)) → AreDistinct (seen ++ x ∷ xs) → AreDistinct ((seen ++ x ∷ []) ++ xs)
+    again [] d = d
+    again (y ∷ seen) d = (all seen d.0, again seen d.1)
+      where
+        all : (seen : List (List ℕ)) → Differs y (seen ++ x ∷ xs) → Differs y ((seen ++ x ∷ []) ++ xs)
+        all [] d = d
+        all (z ∷ seen) d = (d.0, all seen d.1)
 
 -- what is among them adds nothing
 pub distinct-adds_none : (seen xs : List (List ℕ)) → AllByRecursion (Among seen) xs → distinct_onto same_name seen xs ≡ seen
@@ -57,9 +57,9 @@ pushed : (xs : List (List ℕ)) (y : List ℕ) → AreDistinct xs → list_any (
 pushed [] y d e = (tt, tt)
 pushed (x ∷ xs) y d e = let two = or-false (same_name x y) (list_any (λ x. same_name x y) xs) e in (behind xs d.0 two.0, pushed xs y d.1 two.1)
   where
-  behind : (xs : List (List ℕ)) → Differs x xs → same_name x y ≡ false → Differs x (xs ++ y ∷ [])
-  behind [] d e = (e, tt)
-  behind (z ∷ xs) d e = (d.0, behind xs d.1 e)
+    behind : (xs : List (List ℕ)) → Differs x xs → same_name x y ≡ false → Differs x (xs ++ y ∷ [])
+    behind [] d e = (e, tt)
+    behind (z ∷ xs) d e = (d.0, behind xs d.1 e)
 
 -- what is kept once is told apart
 pub distinct-apart : (seen xs : List (List ℕ)) → AreDistinct seen → AreDistinct (distinct_onto same_name seen xs)

@@ -119,7 +119,6 @@ pub candidates_distinct : (letter : List ℕ) (from n : ℕ) → from + n < 2 ^ 
 candidates_distinct letter from zero small = tt
 candidates_distinct letter from (suc n) small = (differs-later letter from (from + 1) n (omega arith) (omega arith), candidates_distinct letter (from + 1) n (omega arith))
 
-
 filled_letter : (c : ℕ) (cs : List ℕ) (n : ℕ) → same_name (numbered_name (c ∷ cs) n) [] ≡ false
 unfolding same_name
 filled_letter c cs n = refl

@@ -195,7 +195,7 @@ module _ (t : Tables) where
   good-stores [] m k p = tt
   good-stores (s ∷ stores) m k p = (
     good-elements s.elements (all_split AtMost element_marks s.elements m.0) (all_split (IsKey t) element_keys s.elements k.0)
-    (recursion_from_All (λ e. IsSpellable (unit_item_of_element e)) s.elements p.0.elements),
+        (recursion_from_All (λ e. IsSpellable (unit_item_of_element e)) s.elements p.0.elements),
     good-stores stores m.1 k.1 p.1,
   )
 

@@ -71,7 +71,7 @@ groups_apart taken free earlier (g ∷ groups) f enough all =
     choose-names AreDistinct (keeps_name earlier g.name) _ _
     (λ e. (
       later-group g.name free (earlier ++ g.name ∷ []) groups (source-some g.name (and-true (is_source_name g.name) (is_free earlier g.name) e).0)
-      (taken-differs g.name taken free all.0 f) (inl (has-last g.name earlier)),
+          (taken-differs g.name taken free all.0 f) (inl (has-last g.name earlier)),
       groups_apart taken free (earlier ++ g.name ∷ []) groups f (omega arith) all.1,
     ))
     (λ e. let head = first-free taken free some_free f in (
@@ -138,9 +138,9 @@ before-false a b l m less rising =
     (λ i. unless_true (nat_lt b a) (λ e. let h = ltb-true b a e in absurd (omega (arith, h))) i || (nat_eq a b && unless_true (nat_lt l m) (λ e. let h = ltb-true l m e in absurd (omega (arith, h))) i))
     ∙ and-none (nat_eq a b)
   where
-  and-none : (c : Bool) → (c && false) ≡ false
-  and-none true = refl
-  and-none false = refl
+    and-none : (c : Bool) → (c && false) ≡ false
+    and-none true = refl
+    and-none false = refl
 
 module _ (n : SourceNames) (names : Names) where
   context-length : (line : ℕ) (r : Rule) → length (src_rule n (back_rule names line r)).context ≡ length r.context

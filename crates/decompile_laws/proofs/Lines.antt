@@ -69,7 +69,7 @@ front-lines : (t : Tables) → AllByRecursion KeepsLine (front_stores t)
 front-lines t = (
   λ n. refl,
   all_join KeepsLine (mark_stores t) (key_stores t) (mark-line (unwrap_or (slice_get (free_stores t) 0) []) (greatest_mark t))
-  (key-line (unwrap_or (slice_get (free_stores t) (length (mark_stores t))) []) (tab_dictionary t.stores)),
+      (key-line (unwrap_or (slice_get (free_stores t) (length (mark_stores t))) []) (tab_dictionary t.stores)),
 )
 
 pub numbered-length : (line : ℕ) (fs : List (ℕ → StoreDef)) → length (numbered line fs) ≡ length fs

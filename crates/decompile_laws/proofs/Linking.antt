@@ -128,9 +128,9 @@ flags_agree front calls opts all i w =
     same-flags (λ k. front + written_before k calls) (front + written_before i calls) i opts (tests opts all)
     ∙ (let e : i ≡ 0 + i = omega arith in ap (λ (k : ℕ). list_any (nat_eq k) opts) e)
   where
-  tests : (opts : List ℕ) → AllByRecursion (λ m. Written m calls) opts → AllByRecursion (λ m. nat_eq (front + written_before i calls) (front + written_before m calls) ≡ nat_eq i m) opts
-  tests [] all = tt
-  tests (m ∷ opts) all = (same-test front i m calls w all.0, tests opts all.1)
+    tests : (opts : List ℕ) → AllByRecursion (λ m. Written m calls) opts → AllByRecursion (λ m. nat_eq (front + written_before i calls) (front + written_before m calls) ≡ nat_eq i m) opts
+    tests [] all = tt
+    tests (m ∷ opts) all = (same-test front i m calls w all.0, tests opts all.1)
 
 -- a store stands behind those in front as its number says
 within : (n : ℕ) (calls : List (Option (List ℕ))) (stores : List Store) (f : Element → Element) (name : List ℕ) → StandsFirst name n calls → length calls ≡ length stores

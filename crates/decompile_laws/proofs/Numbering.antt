@@ -59,7 +59,7 @@ marks-named name count line more found h =
     elim (nat_eq count 0) as (λ b. nat_eq count 0 ≡ b → flat_map mark_names (store_items (numbered line ((if b then [] else stated_marks name count ∷ []) ++ more))) ≡ map decimal (range_with_len 1 count) ++ found) [
       | true ↦ λ e. h line ∙ (let z : count ≡ 0 = eqb-true count 0 e in ap (λ (n : ℕ). map decimal (range_with_len 1 n) ++ found) (sym z))
       | false ↦ λ e. each-named mark_names (λ m. source.Dead (decimal m)) decimal (λ m. refl) (range_with_len 1 count) (store_items (numbered (line + 1) more))
-      ∙ ap (λ (names : List (List ℕ)). map decimal (range_with_len 1 count) ++ names) (h (line + 1))
+          ∙ ap (λ (names : List (List ℕ)). map decimal (range_with_len 1 count) ++ names) (h (line + 1))
     ] refl
 
 marks-unkeyed : (name : List ℕ) (count line : ℕ) (more : List (ℕ → StoreDef)) (found : List (List ℕ)) → ((line : ℕ) → flat_map key_names (store_items (numbered line more)) ≡ found)

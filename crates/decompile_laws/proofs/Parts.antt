@@ -36,8 +36,10 @@ module _ (P : ℕ → Type 0) (fp : Pat → List ℕ) (fo : Out → List ℕ) wh
       let two = all_parts P (flat_map OfRule g.rules) (flat_map fo g.on_match ++ flat_map fo g.on_nomatch) h in
       let more = all_parts P (flat_map fo g.on_match) (flat_map fo g.on_nomatch) two.1 in
       record {
-        contexts = contexts-each g.rules two.0; outputs = outputs-each g.rules two.0;
-        on_match = all_split P fo g.on_match more.0; on_nomatch = all_split P fo g.on_nomatch more.1;
+        contexts = contexts-each g.rules two.0;
+        outputs = outputs-each g.rules two.0;
+        on_match = all_split P fo g.on_match more.0;
+        on_nomatch = all_split P fo g.on_nomatch more.1;
       }
 
   pub groups-each : (groups : List Group) → AllByRecursion P (flat_map (λ (g : Group). flat_map OfRule g.rules ++ (flat_map fo g.on_match ++ flat_map fo g.on_nomatch)) groups) → AllByRecursion (Each P fp fo) groups

@@ -151,7 +151,9 @@ module _ (p : Program) (t : Tables) (names : Names) (r : Renamed p t names) wher
       record {
         takes = refl;
         fits = λ seen x i. matches (content (tab t).stores values) seen (keyboard.IsMark (r.same_mark m ok.marks.0 i)) x;
-        place = λ x. refl; holds = refl; start = refl;
+        place = λ x. refl;
+        holds = refl;
+        start = refl;
       }
   pattern-same values (pattern.Any s) ok = any-same _ _ _ _ (r.like_content s ok.named.0 values)
   pattern-same values (pattern.NotAny s) ok = not_any-same _ _ _ _ (r.like_content s ok.named.0 values)
@@ -204,7 +206,10 @@ module _ (p : Program) (t : Tables) (names : Names) (r : Renamed p t names) wher
   rule_same using line x ok =
       record {
         context = λ values. patterns-same values x.context ok.context;
-        first_wanted = spelled_key x.key; second_wanted = x.key; first_key = key-same x.key ok.keys; second_key = used using x.key ok.none;
+        first_wanted = spelled_key x.key;
+        second_wanted = x.key;
+        first_key = key-same x.key ok.keys;
+        second_key = used using x.key ok.none;
         fits = spelled-fits x.key;
         output = λ e f same c s. output-same e f same c x.output ok.output s;
       }

@@ -110,7 +110,9 @@ module _ (t : Tables) (p : IsPlayable t) (c : CanBeWrittenOut t) where
       let zero_more : 0 + n ≡ n = omega arith in
       let called = called-at (named_stores t) 0 n calls t.stores found.0 the-calls found.1 found.2 (ap (λ (k : ℕ). list_any (nat_eq k) (named_stores t)) zero_more ∙ named) in
       record {
-        name = called.name; at = called.at; some = called.some;
+        name = called.name;
+        at = called.at;
+        some = called.some;
         first = stands_first called.name n calls called.some (names_apart (named_stores t) taken free_behind [] 0 t.stores behind-free behind-size (all-taken t.stores)) called.at;
         called = ap (λ (o : Option (Option (List ℕ))). unwrap_or (unwrap_or o None) []) called.at;
       }
@@ -141,11 +143,11 @@ module _ (t : Tables) (p : IsPlayable t) (c : CanBeWrittenOut t) where
       let one = mark-size (unwrap_or (slice_get (free_stores t) 0) []) (greatest_mark t) in (
         λ k. same-turned r.name [] r.some,
         all_join (Other r.name) (mark_stores t) (key_stores t)
-        (mark-other r.name (unwrap_or (slice_get (free_stores t) 0) []) (greatest_mark t)
-        (λ some. fresh-other (unwrap_or (slice_get (free_stores t) 0) []) r.name n (fresh-at taken 0 front_count (free_stores t) free-all (omega (arith, all)) (omega (arith, size, some))) r.at))
-        (key-other r.name (unwrap_or (slice_get (free_stores t) (length (mark_stores t))) []) (tab_dictionary t.stores)
-        (λ some. fresh-other (unwrap_or (slice_get (free_stores t) (length (mark_stores t))) []) r.name n
-        (fresh-at taken (length (mark_stores t)) front_count (free_stores t) free-all (omega (arith, all, one)) (omega (arith, size, some))) r.at)),
+            (mark-other r.name (unwrap_or (slice_get (free_stores t) 0) []) (greatest_mark t)
+            (λ some. fresh-other (unwrap_or (slice_get (free_stores t) 0) []) r.name n (fresh-at taken 0 front_count (free_stores t) free-all (omega (arith, all)) (omega (arith, size, some))) r.at))
+            (key-other r.name (unwrap_or (slice_get (free_stores t) (length (mark_stores t))) []) (tab_dictionary t.stores)
+            (λ some. fresh-other (unwrap_or (slice_get (free_stores t) (length (mark_stores t))) []) r.name n
+            (fresh-at taken (length (mark_stores t)) front_count (free_stores t) free-all (omega (arith, all, one)) (omega (arith, size, some))) r.at)),
       )
 
   -- the stores of the text

@@ -52,7 +52,8 @@ slice-there (x ∷ names) (suc n) less = slice-there names n (omega arith)
 -- the first state is that of the options
 state_of : List StoreMeaning → State
 state_of options = record {
-  left = []; right = [];
+  left = [];
+  right = [];
   names = map (λ (store : StoreMeaning). store.name) options;
   current = map (λ (store : StoreMeaning). store.elements) options;
   saved = map none_saved options;

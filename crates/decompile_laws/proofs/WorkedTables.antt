@@ -22,9 +22,15 @@ use Rattle.decompile_laws.specs.Back.{back}
 -- one rule
 small_tables : Tables
 small_tables = record {
-  version = 0x0A00; start_ansi = 0xFFFF_FFFF; start_unicode = 0; stores = [];
+  version = 0x0A00;
+  start_ansi = 0xFFFF_FFFF;
+  start_unicode = 0;
+  stores = [];
   groups = record {
-    name = codes "main"; using_keys = true; on_match = []; on_nomatch = [];
+    name = codes "main";
+    using_keys = true;
+    on_match = [];
+    on_nomatch = [];
     rules = record { line = 3; place = 0; key = key.Char 97; context = []; output = output.Char 98 ∷ [] } ∷ [];
   } ∷ [];
 }
@@ -37,7 +43,9 @@ small_text = refl
 -- an option, a store that is left away, one whose name isn't kept, a dictionary, a value, a system store, deadkeys
 mixed_tables : Tables
 mixed_tables = record {
-  version = 0x0900; start_ansi = 1; start_unicode = 0;
+  version = 0x0900;
+  start_ansi = 1;
+  start_unicode = 0;
   stores =
       record { system = 0; name = codes "S1"; elements = element.Char 49 ∷ [] }
       ∷ record { system = 0; name = codes "gone"; elements = element.Char 122 ∷ [] }
@@ -48,14 +56,20 @@ mixed_tables = record {
       ∷ [];
   groups =
       record {
-        name = codes "main"; using_keys = true; on_match = output.Enter 1 ∷ []; on_nomatch = output.Beep ∷ [];
+        name = codes "main";
+        using_keys = true;
+        on_match = output.Enter 1 ∷ [];
+        on_nomatch = output.Beep ∷ [];
         rules =
             record { line = 30; place = 0; key = key.Virtual 0x4021 256; context = pattern.Equal 0 5 ∷ pattern.Nul ∷ pattern.Any 2 ∷ []; output = output.Index 2 3 ∷ output.Mark 1 ∷ [] }
             ∷ record { line = 20; place = 0; key = key.Char 97; context = []; output = [] }
             ∷ [];
       }
       ∷ record {
-        name = codes "MAIN"; using_keys = false; on_match = []; on_nomatch = [];
+        name = codes "MAIN";
+        using_keys = false;
+        on_match = [];
+        on_nomatch = [];
         rules = record { line = 40; place = 0; key = key.Any; context = pattern.Mark 1 ∷ []; output = output.Set 0 5 ∷ output.Context ∷ [] } ∷ [];
       }
       ∷ [];
