@@ -133,12 +133,17 @@ fn tables(alloc: Global) -> Result<Tables, Memory> {
     })
 }
 
-/// The answer of the check as the tables above write it; None is want of memory.
-fn checked(alloc: Global, text: &str, tables: &Tables) -> Option<Result<u32, LayoutFault>> {
-    match check_layout(alloc, text.as_bytes(), tables) {
-        Ok(count) => Some(Ok(count)),
-        Err(LayoutError::Refused(fault)) => Some(Err(fault)),
-        Err(LayoutError::Memory) => None,
+/// Whether the check of a layout gives this count of keys, or this fault.
+fn gives(
+    alloc: Global,
+    text: &[u8],
+    tables: &Tables,
+    wanted: Result<u32, LayoutFault>,
+) -> Result<bool, Fail> {
+    match check_layout(alloc, text, tables) {
+        Ok(count) => Ok(wanted == Ok(count)),
+        Err(LayoutError::Refused(fault)) => Ok(wanted == Err(fault)),
+        Err(error) => Err(error.into()),
     }
 }
 
@@ -152,35 +157,66 @@ fn fault(code: Code, platform: u32, layer: u32, row: u32, key: u32) -> LayoutFau
     }
 }
 
+/// Whether a row of `LAYOUTS` is right.
+fn is_layout(
+    alloc: Global,
+    tables: &Tables,
+    text: &str,
+    wanted: Result<u32, (Code, u32, u32, u32, u32)>,
+) -> Result<bool, Fail> {
+    let wanted = wanted.map_err(|place| fault(place.0, place.1, place.2, place.3, place.4));
+    gives(alloc, text.as_bytes(), tables, wanted)
+}
+
+/// Whether a row of `ROWS` is right.
+fn is_row(
+    alloc: Global,
+    tables: &Tables,
+    keys: &str,
+    wanted: Result<u32, (Code, u32)>,
+) -> Result<bool, Fail> {
+    let text = row(alloc, keys)?;
+    let wanted = wanted.map_err(|place| fault(place.0, 2, 1, 1, place.1));
+    gives(alloc, text.as_bytes(), tables, wanted)
+}
+
+/// Whether a row of `SAMPLES` is right.
+fn is_sample(
+    alloc: Global,
+    tables: &Tables,
+    words: (&str, &str, &str),
+    wanted: Result<u32, (Code, u32, u32, u32)>,
+) -> Result<bool, Fail> {
+    let text = sample(alloc, words.0, words.1, words.2)?;
+    let wanted = wanted.map_err(|place| fault(place.0, 1, place.1, place.2, place.3));
+    gives(alloc, text.as_bytes(), tables, wanted)
+}
+
 #[test]
 fn layouts(rt: HostRuntime) -> Result<(), Fail> {
     let alloc = rt.alloc();
     let tables = tables(alloc)?;
     for (text, wanted) in LAYOUTS {
-        let wanted = wanted.map_err(|place| fault(place.0, place.1, place.2, place.3, place.4));
-        assert_eq!(rt; checked(alloc, text, &tables), Some(wanted), "{text}");
+        assert!(rt; is_layout(alloc, &tables, text, wanted)?, "{text}");
     }
     for (keys, wanted) in ROWS {
-        let wanted = wanted.map_err(|place| fault(place.0, 2, 1, 1, place.1));
-        let text = row(alloc, keys)?;
-        assert_eq!(rt;
-            checked(alloc, text.as_str(), &tables),
-            Some(wanted),
-            "{keys}"
-        );
+        assert!(rt; is_row(alloc, &tables, keys, wanted)?, "{keys}");
     }
     for (key, next, second, wanted) in SAMPLES {
-        let wanted = wanted.map_err(|place| fault(place.0, 1, place.1, place.2, place.3));
-        let text = sample(alloc, key, next, second)?;
-        assert_eq!(rt;
-            checked(alloc, text.as_str(), &tables),
-            Some(wanted),
+        let words = (key, next, second);
+        assert!(rt;
+            is_sample(alloc, &tables, words, wanted)?,
             "{key} {next} {second}"
         );
     }
     let long = vec![in alloc; b' '; 4_194_305]?;
     assert!(rt;
-        matches!(check_layout(alloc, long.as_slice(), &tables), Err(LayoutError::Refused(found)) if found == fault(Code::T7, 0, 0, 0, 0))
+        gives(
+            alloc,
+            long.as_slice(),
+            &tables,
+            Err(fault(Code::T7, 0, 0, 0, 0))
+        )?
     );
     Ok(())
 }
