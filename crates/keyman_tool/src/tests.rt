@@ -1,328 +1,572 @@
 //! Runs of the commands over a folder and a sink in memory.
+//!
+//! A run stands in five lines of a table:
+//! - the words;
+//! - the source and, behind ` ⇒ `, the pieces of its compiled file that stand as `a.kmx`: `FROM-TO` is a part of the file, and
+//!   four hexadecimal digits are a unit;
+//! - the script;
+//! - the exit status, the size of the file `out`, and the numbers from 1 of the folder's call and of the sink's call that fail;
+//!   a number that isn't there is 0, for no file and no call;
+//! - what is printed or, behind `?`, lines that are among the printed ones.
+//!
+//! `~` stands for a line end, `^` for a carriage return, `§` for U+FEFF, `@` for the two lines `begin Unicode > use(main)` and
+//! `group(main) using keys`, `⟨TEXT×COUNT⟩` for a text so many times, and `SAMPLE` for a keyboard of every kind of statement.
 ghost use Rattle.std.specs.Prelude.{◌≡◌, IfOk};
 
 use crate::run::run;
 use crate::status::Status;
 use kmn_base::{Seq, Text};
 use kmn_outside::{MemoryFolder, MemorySink};
-use std::alloc::Global;
+use std::alloc::{Alloc, AllocError, Global};
 use std::process::Abort;
 use std::test::Fail;
 
-/// Runs, each in five lines: the words, the source, the script, the number of the put that fails (0 for none) with the exit
-/// status and the size of the file that is written (0 where none is), and what is printed. `~` stands for a line end, `^` for
-/// a carriage return, and `@` for the two lines `begin Unicode > use(main)` and `group(main) using keys`.
-const RUNS: &str = "\
-test a.kmn a.kmx a.keys
+/// Runs on sources.
+const RUNS: &str = r##"test a.kmn out a.keys
 @+ 'a' > 'b'~
 [K_A]~
-0 0 122
+0 122
 1 del=0 ins=0062 pass=0 beep=0 ent=1 ctx=0062~text 0062|-~end events=1 failed=0~
-test a.kmn a.kmx a.keys
+test a.kmn out a.keys
 @+ 'a' > 'b'~
 [SHIFT K_B] [K_F5]
-0 0 122
+0 122
 1 del=0 ins=0042 pass=0 beep=0 ent=1 ctx=0042~2 del=0 ins=- pass=1 beep=0 ent=1 ctx=0042~text 0042|-~end events=2 failed=0~
-test a.kmn a.kmx a.keys
+test a.kmn out a.keys
 @+ 'c' > 'x'~'a' + 'c' > 'y'~
 [K_A] [K_C]~
-0 0 150
+0 150
 1 del=0 ins=0061 pass=0 beep=0 ent=1 ctx=0061~2 del=1 ins=0079 pass=0 beep=0 ent=1 ctx=0079~text 0079|-~end events=2 failed=0~
-test a.kmn a.kmx a.keys
+test a.kmn out a.keys
 @'a' + 'b' > 'ab'~
 [K_A] [K_B]
-0 0 128
+0 128
 1 del=0 ins=0061 pass=0 beep=0 ent=1 ctx=0061~2 del=0 ins=0062 pass=0 beep=0 ent=1 ctx=0061.0062~text 0061.0062|-~end events=2 failed=0~
-test a.kmn a.kmx a.keys
+test a.kmn out a.keys
 @+ 's' > U+1F600~U+1F600 + 'a' > U+10FFFF~
 [K_S] [K_A]
-0 0 156
+0 156
 1 del=0 ins=1F600 pass=0 beep=0 ent=1 ctx=1F600~2 del=1 ins=10FFFF pass=0 beep=0 ent=1 ctx=10FFFF~text 10FFFF|-~end events=2 failed=0~
-test a.kmn a.kmx a.keys
-\u{FEFF}begin Unicode > use(main)^~group(main) using keys^~+ 'a' > 'b'^~
+test a.kmn out a.keys
+§begin Unicode > use(main)^~group(main) using keys^~+ 'a' > 'b'^~
 [K_A]
-0 0 122
+0 122
 1 del=0 ins=0062 pass=0 beep=0 ent=1 ctx=0062~text 0062|-~end events=1 failed=0~
-test a.kmn a.kmx a.keys
-@+ 'a' > \\~'b' c x \\~+ 'c' > 'd'~
+test a.kmn out a.keys
+@+ 'a' > \~'b' c x \~+ 'c' > 'd'~
 [K_C]
-0 0 146
+0 146
 1 del=0 ins=0064 pass=0 beep=0 ent=1 ctx=0064~text 0064|-~end events=1 failed=0~
-test a.kmn a.kmx a.keys
+test a.kmn out a.keys
 @+ 'a' > 'b'~
 
-0 0 122
+0 122
 text -|-~end events=0 failed=0~
-compile a.kmn a.kmx
+compile a.kmn out
 @+ 'a' > 'b'~
 [K_F99]
-0 0 122
+0 122
 compiled stores=0 groups=1 rules=1 bytes=122~
-test a.kmn a.kmx a.keys
+test a.kmn out a.keys
 @+ 'a' > U+D800~
 [K_A]
-0 1 0
+1 0
 refused L04 line 3~
-compile a.kmn a.kmx
+compile a.kmn out
 @nul nul + 'a' > 'b'~
 
-0 1 0
+1 0
 refused S10 line 3~
-test a.kmn a.kmx a.keys
+test a.kmn out a.keys
 @+ 'a' > 'b~
 
-0 1 0
+1 0
 refused L03 line 3~
-test a.kmn a.kmx a.keys
+test a.kmn out a.keys
 @+ 'a' > any(q)~
 
-0 1 0
+1 0
 refused S06 line 3~
-test a.kmn a.kmx a.keys
+test a.kmn out a.keys
 
 [K_A]
-0 1 0
+1 0
 refused C01 line 1~
-compile a.kmn a.kmx
+compile a.kmn out
 @+ 'a' > call(d)~any(q) + 'b' > 'c'~
 
-0 1 0
+1 0
 refused C05 line 4~
-test a.kmn a.kmx a.keys
+test a.kmn out a.keys
 @+ 'a' > call(d)~
 [K_A]
-0 1 0
+1 0
 refused C11 line 3~
-compile a.kmn a.kmx
+compile a.kmn out
 @store(&version) '5.0'~
 
-0 1 0
+1 0
 refused C12 line 3~
-compile a.kmn a.kmx
-store(v) 'a' \\~'e' \\~'i' c vowels \\~@+ any(v) > 'x'~
+compile a.kmn out
+store(v) 'a' \~'e' \~'i' c vowels \~@+ any(v) > 'x'~
 
-0 0 194
+0 194
 compiled stores=1 groups=1 rules=3 bytes=194~
-test a.kmn a.kmx a.keys
+test a.kmn out a.keys
 @+ 'a' > 'x'~+ [K_A] > 'y'~
 [K_A]
-0 0 146
+0 146
 1 del=0 ins=0078 pass=0 beep=0 ent=1 ctx=0078~text 0078|-~end events=1 failed=0~
-test a.kmn a.kmx a.keys
-@store(v) \"aea\"~store(w) \"xyz\"~any(v) + '1' > index(w,1)~
+test a.kmn out a.keys
+@store(v) "aea"~store(w) "xyz"~any(v) + '1' > index(w,1)~
 [K_A] [K_1]
-0 0 184
+0 184
 1 del=0 ins=0061 pass=0 beep=0 ent=1 ctx=0061~2 del=1 ins=0078 pass=0 beep=0 ent=1 ctx=0078~text 0078|-~end events=2 failed=0~
-test a.kmn a.kmx a.keys
+test a.kmn out a.keys
 store(k) [K_A] [SHIFT K_A]~store(o) 'xy'~@+ any(k) > index(o,1)~
 [K_A] [SHIFT K_A]
-0 0 206
+0 206
 1 del=0 ins=0078 pass=0 beep=0 ent=1 ctx=0078~2 del=0 ins=0079 pass=0 beep=0 ent=1 ctx=0078.0079~text 0078.0079|-~end events=2 failed=0~
-compile a.kmn a.kmx
+compile a.kmn out
 store(&bitmap) 'p.ico'~@+ 'a' > 'b'~
 
-0 0 150
+0 150
 compiled stores=1 groups=1 rules=1 bytes=150~
-compile d/a.kmn a.kmx
+compile d/a.kmn out
 store(&bitmap) 'p.ico'~@+ 'a' > 'b'~
 
-0 0 154
+0 154
 compiled stores=1 groups=1 rules=1 bytes=154~
-compile a.kmn a.kmx
+compile a.kmn out
 store(&bitmap) 'q.ico'~@+ 'a' > 'b'~
 
-0 3 0
+3 0
 
-test a.kmn a.kmx a.keys
+test a.kmn out a.keys
 @+ 'a' > 'b'~
 [K_A]~[K_QQ]~
-0 1 0
+1 0
 refused P03 line 2~
-test a.kmn a.kmx a.keys
+test a.kmn out a.keys
 @+ 'a' > 'b'~
-[K_A]~expect \"c\"~
-0 6 122
+[K_A]~expect "c"~
+6 122
 1 del=0 ins=0062 pass=0 beep=0 ent=1 ctx=0062~expect failed line=2~text 0062|-~end events=1 failed=1~
-test a.kmn a.kmx a.keys
+test a.kmn out a.keys
 @+ 'a' > 'b'~
-expect \"\"~[K_A] [K_A]~caret 1~edit 1 2 'yz'~expect 'byz'~caret 3~option o '1'~
-0 0 122
+expect ""~[K_A] [K_A]~caret 1~edit 1 2 'yz'~expect 'byz'~caret 3~option o '1'~
+0 122
 1 del=0 ins=0062 pass=0 beep=0 ent=1 ctx=0062~2 del=0 ins=0062 pass=0 beep=0 ent=1 ctx=0062.0062~3 del=0 ins=- pass=0 beep=0 ent=0 ctx=0062~4 del=0 ins=- pass=0 beep=0 ent=0 ctx=0062~5 del=0 ins=- pass=0 beep=0 ent=0 ctx=0062.0079.007A~6 del=0 ins=- pass=0 beep=0 ent=0 ctx=0062.0079.007A~text 0062.0079.007A|-~end events=6 failed=0~
-test a.kmn a.kmx a.keys
+test a.kmn out a.keys
 @+ 'a' > 'b'~
 expect 'x'~caret 5~
-0 1 122
+1 122
 expect failed line=1~refused E1 event 1~
-test a.kmn a.kmx a.keys
+test a.kmn out a.keys
 @+ 'a' > 'b'~
 [K_A]~edit 1 0 'x'~
-0 1 122
+1 122
 1 del=0 ins=0062 pass=0 beep=0 ent=1 ctx=0062~refused E1 event 2~
-test a.kmn a.kmx a.keys
+test a.kmn out a.keys
 @+ 'a' > 'b'~
 [K_QQ]~
-0 1 0
+1 0
 refused P03 line 1~
-test a.kmn a.kmx a.keys
+test a.kmn out a.keys
 @+ 'a' > 'b'~
 caret 0 0
-0 1 0
+1 0
 refused P08 line 1~
-test a.kmn a.kmx a.keys
+test a.kmn out a.keys
 @+ 'a' > 'b'~
-edit 0 x \"a\"~
-0 1 0
+edit 0 x "a"~
+1 0
 refused P05 line 1~
 test a.kmn
 @+ 'a' > 'b'~
 [K_A]
-0 2 0
+2 0
 
 Test a.kmn a.kmx a.keys
 @+ 'a' > 'b'~
 [K_A]
-0 2 0
+2 0
 
-compile a.kmn a.kmx a.keys
+compile a.kmn out a.keys
 @+ 'a' > 'b'~
 [K_A]
-0 2 0
+2 0
 
-test a.kmn a.kmx b.keys
+test a.kmn out b.keys
 @+ 'a' > 'b'~
 [K_A]
-0 3 0
+3 0
 
-test b.kmn a.kmx a.keys
+test b.kmn out a.keys
 @+ 'a' > 'b'~
 [K_A]
-0 3 0
+3 0
 
-test a.kmn a.kmx a.keys
+test a.kmn out a.keys
 @+ 'a' > 'b'~
 [K_A]
-2 4 122
+4 122 0 2
 1 del=0 ins=0062 pass=0 beep=0 ent=1 ctx=0062~
-compile a.kmn a.kmx
+compile a.kmn out
 @+ 'a' > 'b'~
 
-1 4 122
-";
+4 122 0 1
 
-/// Runs on a compiled file, each in six lines: the words, the source of the file, the pieces of it that stand in `a.kmx`, the
-/// script, the exit status, and what is printed. `FROM-TO` is a part of the file, and four hexadecimal digits are a unit.
-const FILE_RUNS: &str = "\
-verify a.kmx
+test a.kmn out a.keys
 @+ 'a' > 'b'~
-0-122
+[K_A]~
+3 0 1
+
+test a.kmn out a.keys
+@+ 'a' > 'b'~
+[K_A]~
+3 0 2
+
+test a.kmn out a.keys
+@+ 'a' > 'b'~
+[K_A]~
+4 61 3
+
+test a.kmn out a.keys
+@+ 'a' > 'b'~
+[K_A]~
+4 122 0 1
+
+test a.kmn out a.keys
+@store(v) "aea"~store(w) "x"~any(v) + '1' > index(w,1)
+[K_E] [K_1]
+0 180
+1 del=0 ins=0065 pass=0 beep=0 ent=1 ctx=0065~2 del=1 ins=- pass=0 beep=0 ent=1 ctx=-~text -|-~end events=2 failed=0~
+test a.kmn out a.keys
+@+ '`' > dk(g)~dk(g) + 'a' > U+00E0
+[K_BKQUOTE] [K_A]
+0 158
+1 del=0 ins=- pass=0 beep=0 ent=1 ctx=d1~2 del=0 ins=00E0 pass=0 beep=0 ent=1 ctx=00E0~text 00E0|-~end events=2 failed=0~
+test a.kmn out a.keys
+@+ '`' > dk(g)~dk(g) + 'a' > U+00E0
+[K_X] [K_BKQUOTE]~caret 0~caret 1~[K_A]
+0 158
+1 del=0 ins=0078 pass=0 beep=0 ent=1 ctx=0078~2 del=0 ins=- pass=0 beep=0 ent=1 ctx=0078.d1~3 del=0 ins=- pass=0 beep=0 ent=0 ctx=-~4 del=0 ins=- pass=0 beep=0 ent=0 ctx=0078~5 del=0 ins=0061 pass=0 beep=0 ent=1 ctx=0078.0061~text 0078.0061|-~end events=5 failed=0~
+test a.kmn out a.keys
+store(o) "0"~@if(o = "1") + 'a' > 'x'~+ 'a' > 'y'~+ 's' > set(o = "1")~+ 'v' > save(o)~+ 'r' > reset(o)~+ 'z' > set(o = "0")
+[K_A] [K_S] [K_A] [K_R]~option o "1"~[K_Z] [K_R] [K_A] [K_Z] [K_V]
+0 326
+1 del=0 ins=0079 pass=0 beep=0 ent=1 ctx=0079~2 del=0 ins=- pass=0 beep=0 ent=1 ctx=0079~opt o 0031~3 del=0 ins=0078 pass=0 beep=0 ent=1 ctx=0079.0078~4 del=0 ins=- pass=0 beep=0 ent=1 ctx=0079.0078~opt o 0030~5 del=0 ins=- pass=0 beep=0 ent=0 ctx=0079.0078~opt o 0031~save o 0031~6 del=0 ins=- pass=0 beep=0 ent=1 ctx=0079.0078~opt o 0030~7 del=0 ins=- pass=0 beep=0 ent=1 ctx=0079.0078~opt o 0031~8 del=0 ins=0078 pass=0 beep=0 ent=1 ctx=0079.0078.0078~9 del=0 ins=- pass=0 beep=0 ent=1 ctx=0079.0078.0078~opt o 0030~10 del=0 ins=- pass=0 beep=0 ent=1 ctx=0079.0078.0078~save o 0030~text 0079.0078.0078|-~end events=10 failed=0~
+test a.kmn out a.keys
+@+ 'a' > 'x' use(main)
+[K_A]
+0 128
+1 del=0 ins=⟨0078.×49⟩0078 pass=0 beep=0 ent=50 ctx=⟨0078.×49⟩0078~text ⟨0078.×49⟩0078|-~end events=1 failed=0~
+test a.kmn out a.keys
+@+ '`' > dk(g)
+[K_BKQUOTE]⟨[K_A]×64⟩[K_BKSP]
+0 126
+?64 del=0 ins=0061 pass=0 beep=0 ent=1 ctx=d1.⟨0061.×62⟩0061~65 del=0 ins=0061 pass=0 beep=0 ent=1 ctx=⟨0061.×63⟩0061~66 del=1 ins=- pass=0 beep=0 ent=1 ctx=⟨0061.×62⟩0061~
+test a.kmn out a.keys
+store(z) 'z'~@+ 'q' > use(t) use(t) use(t) use(n)~group(t)~⟨any(z) ×40⟩> nul~group(n)~nul > 'N'
+edit 0 0 '⟨z×130⟩'~caret 130~[K_Q]
+0 518
+1 del=0 ins=- pass=0 beep=0 ent=0 ctx=-~2 del=0 ins=- pass=0 beep=0 ent=0 ctx=⟨007A.×63⟩007A~3 del=120 ins=- pass=0 beep=0 ent=5 ctx=⟨007A.×9⟩007A~text ⟨007A.×9⟩007A|-~end events=3 failed=0~
+test a.kmn out a.keys
+@+ '`' > dk(g)~dk(g) + 'a' > U+00E0
+[K_X] [K_BKQUOTE]~edit 0 0 "yyy"
+0 158
+1 del=0 ins=0078 pass=0 beep=0 ent=1 ctx=0078~2 del=0 ins=- pass=0 beep=0 ent=1 ctx=0078.d1~3 del=0 ins=- pass=0 beep=0 ent=0 ctx=0079.0079.0079.0078~text 0079.0079.0079.0078|-~end events=3 failed=0~
+test a.kmn out a.keys
+@+ '`' > dk(g)~dk(g) + 'a' > U+00E0
+edit 0 0 '⟨x×70⟩'~caret 70~[K_BKQUOTE]~edit 0 0 '⟨y×100⟩'~[K_A]
+0 158
+?4 del=0 ins=- pass=0 beep=0 ent=0 ctx=⟨0078.×63⟩d1~5 del=0 ins=00E0 pass=0 beep=0 ent=1 ctx=⟨0078.×63⟩00E0~end events=5 failed=0~
+compile a.kmn out
+@any(q) + 'a' > 'b'
+
+1
+refused C05 line 3~
+compile a.kmn out
+store(v) 'ab'~@any(v) any(v) + '1' > index(v,4)
+
+1
+refused C08 line 4~
+compile a.kmn out
+store(v) 'ab'~@any(v) any(v) + '1' > index(v,3)
+
+1
+refused C09 line 4~
+test a.kmn out a.keys
+@+ 'a' > 'x' return 'y'~match > 'z'
+[K_A]
+0 132
+1 del=0 ins=0078 pass=0 beep=0 ent=1 ctx=0078~text 0078|-~end events=1 failed=0~
+test a.kmn out a.keys
+@+ 'a' > use(t) 'b'~group(t)~nomatch > 'n' beep
+[K_A]
+0 164
+1 del=0 ins=006E.0062 pass=0 beep=1 ent=2 ctx=006E.0062~text 006E.0062|-~end events=1 failed=0~
+test a.kmn out a.keys
+@+ 'a' > '⟨x×1023⟩' use(main)
+[K_A]
+0 2172
+1 del=0 ins=⟨0078.×4095⟩0078 pass=0 beep=0 ent=5 ctx=⟨0078.×63⟩0078~text ⟨0078.×4095⟩0078|-~end events=1 failed=0~
+test a.kmn out a.keys
+@+ 'a' > '⟨x×1024⟩' use(main)
+[K_A]
+1
+refused C17 line 3~
+test a.kmn out a.keys
+@store(o) 'ab'~if(o = "ab") any(o) + '1' > set(o = "ba") index(o,2)
+[K_A] [K_1]
+0 212
+1 del=0 ins=0061 pass=0 beep=0 ent=1 ctx=0061~2 del=1 ins=0062 pass=0 beep=0 ent=1 ctx=0062~opt o 0062.0061~text 0062|-~end events=2 failed=0~
+compile a.kmn out
+@store(o) "0"~if(o = "1") + any(o) > 'x'
+
+1
+refused C13 line 4~
+compile a.kmn out
+SAMPLE
+
+0 1638
+compiled stores=13 groups=3 rules=31 bytes=1638~
+test a.kmn out a.keys
+SAMPLE
+[K_QUOTE] [K_A] [T_flip]~[K_BKQUOTE] [SHIFT K_E]~[K_HYPHEN] [K_HYPHEN]~expect U+00E0 U+00C8 U+2013~[CTRL ALT K_Q] [SHIFT K_QUOTE] [K_BKSP]~[T_flip]
+0 1638
+1 del=0 ins=- pass=0 beep=0 ent=2 ctx=d1~2 del=0 ins=00E1 pass=0 beep=0 ent=2 ctx=00E1~3 del=1 ins=00E0 pass=0 beep=0 ent=3 ctx=00E0~4 del=0 ins=- pass=0 beep=0 ent=2 ctx=00E0.d2~5 del=0 ins=00C8 pass=0 beep=0 ent=2 ctx=00E0.00C8~6 del=0 ins=002D pass=0 beep=0 ent=2 ctx=00E0.00C8.002D~7 del=1 ins=2013 pass=0 beep=0 ent=2 ctx=00E0.00C8.2013~8 del=0 ins=- pass=0 beep=0 ent=2 ctx=00E0.00C8.2013~opt quotes 0031~save quotes 0031~9 del=0 ins=201C pass=0 beep=0 ent=2 ctx=00E0.00C8.2013.201C~10 del=1 ins=- pass=0 beep=0 ent=1 ctx=00E0.00C8.2013~11 del=0 ins=- pass=0 beep=1 ent=3 ctx=00E0.00C8.2013~text 00E0.00C8.2013|-~end events=11 failed=0~"##;
+
+/// Runs on compiled files, and on what was made of them.
+const FILE_RUNS: &str = r##"verify a.kmx
+@+ 'a' > 'b'~ ⇒ 0-122
 
 0
 valid version=0A00 stores=0 groups=1 rules=1~
 verify a.kmx
-@+ 'a' > 'b'~
-0-63
+@+ 'a' > 'b'~ ⇒ 0-63
 
 1
 refused V01 at 63~
 verify a.kmx
-@+ 'a' > 'b'~
-0-120
+@+ 'a' > 'b'~ ⇒ 0-120
 
 1
 refused V10 at 100~
 verify a.kmx
-@+ 'a' > 'b'~
-0-118 FFFF 000F 0001 0000
+@+ 'a' > 'b'~ ⇒ 0-118 FFFF 000F 0001 0000
 
 1
 refused V14 at 118 code 0F~
 verify a.kmx
-@+ 'a' > 'b'~
-0-118 FFFF 0013 0001 0001 0000
+@+ 'a' > 'b'~ ⇒ 0-118 FFFF 0013 0001 0001 0000
 
 1
 refused V12 at 118~
 verify a.kmx
-@+ 'a' > 'b'~
-0-118 FFFF 0005 0000
+@+ 'a' > 'b'~ ⇒ 0-118 FFFF 0005 0000
 
 1
 refused V11 at 118~
 verify a.kmx
-@+ 'c' > 'x'~'a' + 'c' > 'y'~
-0-88 108-128 88-108 128-150
+@+ 'c' > 'x'~'a' + 'c' > 'y'~ ⇒ 0-88 108-128 88-108 128-150
 
 0
 valid version=0A00 stores=0 groups=1 rules=2~
 verify a.kmx
-store(k) [K_A] [SHIFT K_A]~store(o) 'xy'~@+ any(k) > index(o,1)~
-0-68 0000 0000 72-80 0000 0000 84-88 0000 0000 92-206
+store(k) [K_A] [SHIFT K_A]~store(o) 'xy'~@+ any(k) > index(o,1)~ ⇒ 0-68 0000 0000 72-80 0000 0000 84-88 0000 0000 92-206
 
 0
 valid version=0A00 stores=2 groups=1 rules=2~
 verify b.kmx
-@+ 'a' > 'b'~
-0-122
+@+ 'a' > 'b'~ ⇒ 0-122
 
 3
 
 verify a.kmx a.keys
-@+ 'a' > 'b'~
-0-122
+@+ 'a' > 'b'~ ⇒ 0-122
 
 2
 
 play a.kmx a.keys
-@+ 'c' > 'x'~'a' + 'c' > 'y'~
-0-88 108-128 88-108 128-150
+@+ 'c' > 'x'~'a' + 'c' > 'y'~ ⇒ 0-88 108-128 88-108 128-150
 [K_A] [K_C]
 0
 1 del=0 ins=0061 pass=0 beep=0 ent=1 ctx=0061~2 del=0 ins=0078 pass=0 beep=0 ent=1 ctx=0061.0078~text 0061.0078|-~end events=2 failed=0~
 play a.kmx a.keys
-store(k) [K_A] [SHIFT K_A]~store(o) 'xy'~@+ any(k) > index(o,1)~
-0-68 0000 0000 72-80 0000 0000 84-88 0000 0000 92-206
+store(k) [K_A] [SHIFT K_A]~store(o) 'xy'~@+ any(k) > index(o,1)~ ⇒ 0-68 0000 0000 72-80 0000 0000 84-88 0000 0000 92-206
 [K_A] [SHIFT K_A]
 0
 1 del=0 ins=0078 pass=0 beep=0 ent=1 ctx=0078~2 del=0 ins=0079 pass=0 beep=0 ent=1 ctx=0078.0079~text 0078.0079|-~end events=2 failed=0~
 play a.kmx a.keys
-@+ [T_one] > 'x'~+ [T_two] > 'y'~
-0-9999
+@+ [T_one] > 'x'~+ [T_two] > 'y'~ ⇒ 0-9999
 [t_TWO]~expect 'x'
 6
 1 del=0 ins=0079 pass=0 beep=0 ent=1 ctx=0079~expect failed line=2~text 0079|-~end events=1 failed=1~
 play a.kmx a.keys
-@+ 'a' > 'b'~
-0-122
+@+ 'a' > 'b'~ ⇒ 0-122
 [T_one]
 1
 refused P03 line 1~
 play a.kmx a.keys
-@+ 'a' > 'b'~
-0-122
+@+ 'a' > 'b'~ ⇒ 0-122
 caret 5
 1
 refused E1 event 1~
 play a.kmx a.keys
-@+ 'a' > 'b'~
-0-63
+@+ 'a' > 'b'~ ⇒ 0-63
 [T_one]
 1
 refused V01 at 63~
 play a.kmx b.keys
-@+ 'a' > 'b'~
-0-122
+@+ 'a' > 'b'~ ⇒ 0-122
 
 3
 
 play a.kmx
-@+ 'a' > 'b'~
-0-122
+@+ 'a' > 'b'~ ⇒ 0-122
 
 2
 
-";
+verify a.kmx
+@+ 'a' > 'b'~ ⇒ 0-118 FFFF 0011 0001 0000
 
-/// The file of `SOURCE`.
+1
+refused V13 at 118~
+verify a.kmx
+@+ 'a' > 'b'~ ⇒ 5800 2-122
+
+1
+refused V02 at 0~
+verify a.kmx
+@+ 'a' > 'b'~ ⇒ 0-4 0B00 0000 8-122
+
+1
+refused V03 at 4~
+verify a.kmx
+@+ 'a' > 'b'~ ⇒ 0-48 0020 0000 52-122
+
+1
+refused V04 at 48~
+verify a.kmx
+@+ 'a' > 'b'~ ⇒ 0-28 03E9 0000 32-122
+
+1
+refused V15 at 28~
+verify a.kmx
+@+ 'a' > 'b'~ ⇒ 0-44 FFFF FFFF 48-122
+
+1
+refused V05 at 44~
+verify a.kmx
+@+ 'a' > 'b'~ ⇒ 0-44 0001 0000 48-122
+
+1
+refused V06 at 44~
+verify a.kmx
+@+ 'a' > 'b'~ ⇒ 0-40 0001 0000 44-122
+
+1
+refused V06 at 40~
+verify a.kmx
+@+ 'a' > 'b'~ ⇒ 0-24 0001 0000 28-32 007A 0000 36-122
+
+1
+refused V07 at 32~
+verify a.kmx
+@+ 'a' > 'b'~ ⇒ 0-36 0070 0000 40-122
+
+1
+refused V08 at 36~
+verify a.kmx
+@+ 'a' > 'b'~ ⇒ 0-56 007A 0000 0001 0000 64-122
+
+1
+refused V16 at 56~
+verify a.kmx
+@+ 'a' > 'b'~ ⇒ 0-80 86A1 0001 84-122
+
+1
+refused V15 at 80~
+verify a.kmx
+@+ 'a' > 'b'~ ⇒ 0-68 0070 0000 72-122
+
+1
+refused V09 at 68~
+verify a.kmx
+@+ 'a' > 'b'~ ⇒ 0-64 007A 0000 68-122
+
+1
+refused V10 at 64~
+verify a.kmx
+@+ 'a' > 'b'~ ⇒ 0-96 0400 0000 100-122
+
+1
+refused V14 at 96 code 0A~
+verify a.kmx
+@+ 'a' > 'b'~ ⇒ 0-118 D800 0000
+
+1
+refused V11 at 118~
+verify a.kmx
+@+ 'a' > 'b'~ ⇒ 0-118 FFFF 0008 1389 0000
+
+0
+valid version=0A00 stores=0 groups=1 rules=1~
+play a.kmx a.keys
+@+ 'a' > 'b'~ ⇒ 0-118 FFFF 0008 1389 0000
+[K_A]
+0
+1 del=0 ins=- pass=0 beep=0 ent=1 ctx=d5001~text -|-~end events=1 failed=0~"##;
+
+/// Runs on long inputs.
+const LONG_RUNS: &str = r##"test a.kmn out a.keys
+@+ 'a' > 'b'
+⟨[K_F5]~×100001⟩
+1
+refused P07 line 100001~
+compile a.kmn out
+⟨ ×4194305⟩
+
+1
+refused L05 line 1~"##;
+
+/// The keyboard of `SAMPLE`.
+const SAMPLE: &str = r##"c Acute and grave vowels
+store(&version) '10.0'
+store(&name) 'Sample Accents'
+store(&copyright) '(c) Example'
+store(&bitmap) 'sample.ico'
+store(&targets) 'any'
+store(&layoutfile) 'sample.keyman-touch-layout'
+store(&keyboardversion) '1.0'
+begin Unicode > use(main)
+store(plain) 'aeiouAEIOU'
+store(acute) U+00E1 U+00E9 U+00ED U+00F3 U+00FA U+00C1 U+00C9 U+00CD U+00D3 U+00DA
+store(grave) U+00E0 U+00E8 U+00EC U+00F2 U+00F9 U+00C0 U+00C8 U+00CC U+00D2 U+00D9
+store(quotes) "0"
+group(main) using keys
++ "'" > dk(acute)
++ '`' > dk(grave)
+dk(acute) + any(plain) > index(acute, 2)
+dk(grave) + any(plain) > index(grave, 2)
+dk(acute) + "'" > "'"
+any(acute) + [K_BKSP] > index(plain, 1) dk(acute)
++ [T_flip] > use(flip)
+if(quotes = "1") + '"' > U+201C
++ [CTRL ALT K_Q] > set(quotes = "1") save(quotes)
++ '-' > '-'
+match > use(after)
+group(flip)
+any(acute) > index(grave, 1)
+any(grave) > index(acute, 1)
+nomatch > beep
+group(after)
+'--' > U+2013
+"##;
+
+/// The file of the first run.
 const FILE: [u8; 122] = [
     0x4B, 0x58, 0x54, 0x53, 0x00, 0x0A, 0x00, 0x00, 0x00, 0x00, 0x00, 0x00, 0x00, 0x00, 0x00, 0x00,
     0x00, 0x00, 0x00, 0x00, 0x00, 0x00, 0x00, 0x00, 0x00, 0x00, 0x00, 0x00, 0x01, 0x00, 0x00, 0x00,
@@ -333,6 +577,37 @@ const FILE: [u8; 122] = [
     0x00, 0x00, 0x00, 0x00, 0x76, 0x00, 0x00, 0x00, 0x00, 0x00, 0x00, 0x00, 0x6D, 0x00, 0x61, 0x00,
     0x69, 0x00, 0x6E, 0x00, 0x00, 0x00, 0x62, 0x00, 0x00, 0x00,
 ];
+
+/// A run as its row has it.
+#[derive(Drop)]
+struct Run<'a> {
+    words: &'a str,
+    source: &'a str,
+    script: &'a str,
+    ends: &'a str,
+    printed: &'a str,
+}
+
+/// How a run ends: the exit status and the size of the file `out`, and the calls of folder and sink that fail in it.
+#[derive(Drop)]
+struct Ends {
+    status: u32,
+    size: u32,
+    folder_call: u32,
+    sink_call: u32,
+}
+
+fn ends_of(line: &str) -> Ends {
+    let mut numbers = line
+        .split(' ')
+        .map(|number| number.parse::<u32>().unwrap_or(u32::MAX));
+    Ends {
+        status: numbers.next().unwrap_or(0),
+        size: numbers.next().unwrap_or(0),
+        folder_call: numbers.next().unwrap_or(0),
+        sink_call: numbers.next().unwrap_or(0),
+    }
+}
 
 fn seq(alloc: Global, bytes: &[u8]) -> Result<Seq<u8>, Fail>
     ensures { IfOk result (λ copy. copy ≡ bytes.now) }
@@ -349,81 +624,103 @@ fn words(alloc: Global, text: &str) -> Result<Vec<Text>, Fail> {
     Ok(words)
 }
 
-/// A text with its stand-ins replaced.
-fn written_out(alloc: Global, text: &str) -> Result<String, Fail> {
-    let mut out = String::new(alloc);
+/// Runs the words of a line.
+fn ended(
+    alloc: Global,
+    line: &str,
+    folder: &mut MemoryFolder,
+    sink: &mut MemorySink,
+) -> Result<Status, Fail> {
+    let words = words(alloc, line)?;
+    Ok(run(alloc, words.as_slice(), folder, sink))
+}
+
+/// Writes a text with its stand-ins replaced.
+fn write_text(out: &mut String, text: &str) -> Result<(), AllocError> {
     for c in text.chars() {
         match c {
             '~' => out.push('\n')?,
             '^' => out.push('\r')?,
+            '§' => out.push('\u{FEFF}')?,
             '@' => out.push_str("begin Unicode > use(main)\ngroup(main) using keys\n")?,
             _ => out.push(c)?,
         }
     }
+    Ok(())
+}
+
+fn write_copies(out: &mut String, text: &str, count: u32) -> Result<(), AllocError> {
+    for _ in 0..count {
+        write_text(out, text)?;
+    }
+    Ok(())
+}
+
+/// Writes a piece of a text: a text, and perhaps copies of another.
+fn write_piece(out: &mut String, piece: &str) -> Result<(), Fail> {
+    match piece.split_once('⟨') {
+        Some((text, copies)) => {
+            write_text(out, text)?;
+            let (copied, count) = copies.split_once('×').ok_or("copies without a count")?;
+            let count = count
+                .parse::<u32>()
+                .ok()
+                .ok_or("a count that is no number")?;
+            Ok(write_copies(out, copied, count)?)
+        }
+        None => Ok(write_text(out, piece)?),
+    }
+}
+
+/// A text with its stand-ins and copies written out.
+fn written_out(alloc: Global, text: &str) -> Result<String, Fail> {
+    let mut out = String::new(alloc);
+    for piece in text.split('⟩') {
+        write_piece(&mut out, piece)?;
+    }
     Ok(out)
 }
 
-/// A folder with a script `a.keys`, and the source as `a.kmn` beside a picture of four bytes, and as `d/a.kmn` beside one of
-/// eight.
-fn folder(alloc: Global, source: &[u8], script: &[u8]) -> Result<MemoryFolder, Fail> {
+/// A source written out.
+fn source_of(alloc: Global, text: &str) -> Result<String, Fail> {
+    if text == "SAMPLE" {
+        return written_out(alloc, SAMPLE);
+    }
+    written_out(alloc, text)
+}
+
+/// A folder with a compiled file `a.kmx`, a script `a.keys`, and the source as `a.kmn` beside a picture of four bytes, and as
+/// `d/a.kmn` beside one of eight. The call of this number fails, and none for 0.
+fn folder(
+    alloc: Global,
+    source: &str,
+    file: &[u8],
+    script: &str,
+    failing: u32,
+) -> Result<MemoryFolder, Fail> {
+    let source = source_of(alloc, source)?;
+    let script = written_out(alloc, script)?;
     let mut files = Vec::new(alloc);
-    files.push((seq(alloc, b"a.kmn")?, seq(alloc, source)?))?;
-    files.push((seq(alloc, b"a.keys")?, seq(alloc, script)?))?;
+    files.push((seq(alloc, b"a.kmn")?, seq(alloc, source.as_bytes())?))?;
+    files.push((seq(alloc, b"a.kmx")?, seq(alloc, file)?))?;
+    files.push((seq(alloc, b"a.keys")?, seq(alloc, script.as_bytes())?))?;
     files.push((seq(alloc, b"p.ico")?, seq(alloc, &[0, 1, 2, 3])?))?;
-    files.push((seq(alloc, b"d/a.kmn")?, seq(alloc, source)?))?;
+    files.push((seq(alloc, b"d/a.kmn")?, seq(alloc, source.as_bytes())?))?;
     files.push((
         seq(alloc, b"d/p.ico")?,
         seq(alloc, &[0, 1, 2, 3, 4, 5, 6, 7])?,
     ))?;
-    Ok(MemoryFolder::new(alloc, Seq::from_vec(files), Seq::new(alloc)))
+    files.push((seq(alloc, b"sample.ico")?, seq(alloc, &[0, 1, 2, 3])?))?;
+    let fails = Vec::from_slice(alloc, &[failing])?;
+    Ok(MemoryFolder::new(alloc, Seq::from_vec(files), Seq::from_vec(fails)))
 }
 
-/// The put that fails, the exit status and the size of the file, of a line of numbers.
-fn numbers_of(text: &str) -> (u32, u8, usize) {
-    let mut numbers = text.split(' ');
-    let failing = numbers
-        .next()
-        .and_then(|n| n.parse().ok())
-        .unwrap_or(u32::MAX);
-    let status = numbers
-        .next()
-        .and_then(|n| n.parse().ok())
-        .unwrap_or(u8::MAX);
-    let size = numbers
-        .next()
-        .and_then(|n| n.parse().ok())
-        .unwrap_or(usize::MAX);
-    (failing, status, size)
-}
-
-#[test]
-fn runs(rt: HostRuntime) -> Result<(), Fail> {
-    let alloc = rt.alloc();
-    let mut lines = RUNS.split('\n');
-    let mut count = 0;
-    while let (Some(line), Some(source), Some(script), Some(numbers), Some(printed)) = (
-        lines.next(),
-        lines.next(),
-        lines.next(),
-        lines.next(),
-        lines.next(),
-    ) {
-        let source = written_out(alloc, source)?;
-        let script = written_out(alloc, script)?;
-        let printed = written_out(alloc, printed)?;
-        let (failing, status, size) = numbers_of(numbers);
-        let mut folder = folder(alloc, source.as_bytes(), script.as_bytes())?;
-        let mut sink = MemorySink::new(alloc, Seq::from_vec(Vec::from_slice(alloc, &[failing])?));
-        let words = words(alloc, line)?;
-        let ended = run(alloc, words.as_slice(), &mut folder, &mut sink);
-        assert_eq!(rt; ended.number(), status, "{line}: {source}");
-        assert_eq!(rt; sink.written(), printed.as_bytes(), "{line}: {source}");
-        let written = folder.file(b"a.kmx").map_or(0, |bytes| bytes.len());
-        assert_eq!(rt; written, size, "{line}: {source}");
-        count = u32::saturating_add(count, 1);
-    }
-    assert_eq!(rt; count, 39);
-    Ok(())
+/// The file that a source is compiled to.
+fn compiled(alloc: Global, source: &str) -> Result<Seq<u8>, Fail> {
+    let mut folder = folder(alloc, source, b"", "", 0)?;
+    let mut sink = MemorySink::new(alloc, Seq::new(alloc));
+    ended(alloc, "compile a.kmn out", &mut folder, &mut sink)?;
+    seq(alloc, folder.file(b"out").unwrap_or(&[]))
 }
 
 /// The bytes that pieces make of a file.
@@ -442,121 +739,123 @@ fn pieced(alloc: Global, file: &[u8], pieces: &str) -> Result<Seq<u8>, Fail> {
     Ok(Seq::from_vec(bytes))
 }
 
-/// The file that a source is compiled to.
-fn compiled(alloc: Global, source: &[u8]) -> Result<Seq<u8>, Fail> {
-    let mut folder = folder(alloc, source, b"")?;
-    let mut sink = MemorySink::new(alloc, Seq::new(alloc));
-    let words = words(alloc, "compile a.kmn a.kmx")?;
-    run(alloc, words.as_slice(), &mut folder, &mut sink);
-    seq(alloc, folder.file(b"a.kmx").unwrap_or(&[]))
+/// The folder in which a run begins.
+fn folder_of(alloc: Global, row: &Run, failing: u32) -> Result<MemoryFolder, Fail> {
+    match row.source.split_once(" ⇒ ") {
+        Some((source, pieces)) => {
+            let file = compiled(alloc, source)?;
+            let file = pieced(alloc, file.as_slice(), pieces)?;
+            folder(alloc, source, file.as_slice(), row.script, failing)
+        }
+        None => folder(alloc, row.source, b"", row.script, failing),
+    }
+}
+
+/// Whether a line is among those of a text.
+fn has_line(text: &[u8], line: &str) -> bool {
+    text.split(|byte| *byte == b'\n')
+        .any(|other| other == line.as_bytes())
+}
+
+/// Whether a text is the one that is wanted or, where that begins with `?`, has each of its lines.
+fn is_printed(text: &[u8], wanted: &str) -> bool {
+    match wanted.strip_prefix('?') {
+        Some(lines) => lines.lines().all(|line| has_line(text, line)),
+        None => text == wanted.as_bytes(),
+    }
+}
+
+/// Whether a run ends and prints as its row says.
+fn is_right(alloc: Global, row: &Run) -> Result<bool, Fail> {
+    let ends = ends_of(row.ends);
+    let printed = written_out(alloc, row.printed)?;
+    let mut folder = folder_of(alloc, row, ends.folder_call)?;
+    let fails = Vec::from_slice(alloc, &[ends.sink_call])?;
+    let mut sink = MemorySink::new(alloc, Seq::from_vec(fails));
+    let status = ended(alloc, row.words, &mut folder, &mut sink)?;
+    let size = folder.file(b"out").map_or(0, |bytes| bytes.len());
+    Ok(
+        u32::from(status.number()) == ends.status
+            && size == ends.size as usize
+            && is_printed(sink.written(), printed.as_str()),
+    )
+}
+
+/// Fails at the first run of a table that isn't right.
+fn check_runs(rt: &(impl Abort + Alloc<A = Global>), table: &str) -> Result<(), Fail> {
+    let mut lines = table.lines();
+    while let Some(words) = lines.next() {
+        let row = Run {
+            words,
+            source: lines.next().unwrap_or(""),
+            script: lines.next().unwrap_or(""),
+            ends: lines.next().unwrap_or(""),
+            printed: lines.next().unwrap_or(""),
+        };
+        assert!(rt; is_right(rt.alloc(), &row)?, "{words}: {}", row.source);
+    }
+    Ok(())
+}
+
+#[test]
+fn runs(rt: HostRuntime) -> Result<(), Fail> {
+    check_runs(&rt, RUNS)
+}
+
+#[test]
+fn long_runs(rt: HostRuntime) -> Result<(), Fail> {
+    check_runs(&rt, LONG_RUNS)
 }
 
 #[test]
 fn runs_on_files(rt: HostRuntime) -> Result<(), Fail> {
-    let alloc = rt.alloc();
-    let mut lines = FILE_RUNS.split('\n');
-    let mut count = 0;
-    while let (
-        Some(line),
-        Some(source),
-        Some(pieces),
-        Some(script),
-        Some(status),
-        Some(printed),
-    ) = (
-        lines.next(),
-        lines.next(),
-        lines.next(),
-        lines.next(),
-        lines.next(),
-        lines.next(),
-    ) {
-        let source = written_out(alloc, source)?;
-        let script = written_out(alloc, script)?;
-        let printed = written_out(alloc, printed)?;
-        let file = compiled(alloc, source.as_bytes())?;
-        let mut files = Vec::new(alloc);
-        files.push((
-            seq(alloc, b"a.kmx")?,
-            pieced(alloc, file.as_slice(), pieces)?,
-        ))?;
-        files.push((seq(alloc, b"a.keys")?, seq(alloc, script.as_bytes())?))?;
-        let mut folder = MemoryFolder::new(alloc, Seq::from_vec(files), Seq::new(alloc));
-        let mut sink = MemorySink::new(alloc, Seq::new(alloc));
-        let words = words(alloc, line)?;
-        let ended = run(alloc, words.as_slice(), &mut folder, &mut sink);
-        assert_eq!(rt;
-            ended.number(),
-            status.parse::<u8>().unwrap_or(u8::MAX),
-            "{line} {pieces}"
-        );
-        assert_eq!(rt; sink.written(), printed.as_bytes(), "{line} {pieces}");
-        count = u32::saturating_add(count, 1);
-    }
-    assert_eq!(rt; count, 18);
-    Ok(())
+    check_runs(&rt, FILE_RUNS)
+}
+
+/// Whether the first source is compiled to these bytes.
+fn is_compiled_to(alloc: Global, file: &[u8]) -> Result<bool, Fail> {
+    Ok(compiled(alloc, "@+ 'a' > 'b'~")?.as_slice() == file)
 }
 
 #[test]
 fn first_file(rt: HostRuntime) -> Result<(), Fail> {
-    let alloc = rt.alloc();
-    let source = written_out(alloc, "@+ 'a' > 'b'~")?;
-    let mut folder = folder(alloc, source.as_bytes(), b"")?;
-    let mut sink = MemorySink::new(alloc, Seq::new(alloc));
-    let words = words(alloc, "compile a.kmn a.kmx")?;
-    let status = run(alloc, words.as_slice(), &mut folder, &mut sink);
-    assert_eq!(rt; status, Status::Done);
-    assert_eq!(rt; folder.file(b"a.kmx"), Some(FILE.as_slice()));
+    assert!(rt; is_compiled_to(rt.alloc(), &FILE)?);
     Ok(())
 }
 
-/// Fails where a script of `count` such lines and a last one, on the keyboard of one rule, isn't refused at an event whose
-/// line is the last of `lines`.
-fn refused_after(
-    rt: &impl Abort,
-    alloc: Global,
-    line: &str,
-    count: usize,
-    last: &str,
-    lines: usize,
-) -> Result<(), Fail> {
-    let source = written_out(alloc, "@+ 'a' > 'b'~")?;
+/// Whether edits that each put 4,096 characters at the start of the text, so many times, and the last line behind them, are
+/// refused with this printed.
+fn is_refused_behind(alloc: Global, count: u32, last: &str, printed: &str) -> Result<bool, Fail> {
     let mut script = String::new(alloc);
     for _ in 0..count {
-        script.push_str(line)?;
+        write_piece(&mut script, "edit 0 0 '⟨x×4096")?;
+        script.push_str("'\n")?;
     }
     script.push_str(last)?;
-    let mut folder = folder(alloc, source.as_bytes(), script.as_bytes())?;
-    let mut sink = MemorySink::new(alloc, Seq::new(alloc));
-    let words = words(alloc, "test a.kmn a.kmx a.keys")?;
-    let status = run(alloc, words.as_slice(), &mut folder, &mut sink);
-    assert_eq!(rt; status, Status::Refused);
-    let ends = sink.written().iter().filter(|byte| **byte == b'\n').count();
-    assert_eq!(rt; ends, lines);
-    let refusal = format!(in alloc; "refused E2 event {lines}\n")?;
-    assert!(rt; sink.written().ends_with(refusal.as_bytes()));
-    assert!(rt; folder.file(b"a.kmx").is_some());
+    is_right(
+        alloc,
+        &Run {
+            words: "test a.kmn out a.keys",
+            source: "@+ 'a' > 'b'~",
+            script: script.as_str(),
+            ends: "1 122",
+            printed,
+        },
+    )
+}
+
+/// A text that grows to its limit: the key that finds too long a text is refused, and the edit that would make one.
+#[test]
+fn long_texts(rt: HostRuntime) -> Result<(), Fail> {
+    let printed = "?243 del=0 ins=- pass=0 beep=0 ent=0 ctx=-~refused E2 event 244~";
+    assert!(rt; is_refused_behind(rt.alloc(), 243, "[K_A]\n", printed)?);
+    let printed = "?244 del=0 ins=- pass=0 beep=0 ent=0 ctx=-~refused E2 event 245~";
+    assert!(rt; is_refused_behind(rt.alloc(), 245, "", printed)?);
     Ok(())
 }
 
-/// A text that grows by 4,096 characters with each edit: the key that finds too long a text is refused, and the edit that
-/// would make one, after the lines of the events before it.
-#[test]
-fn long_texts(rt: HostRuntime) -> Result<(), Fail> {
-    let alloc = rt.alloc();
-    let mut edit = String::from_str(alloc, "edit 0 0 '")?;
-    for _ in 0..4_096 {
-        edit.push('x')?;
-    }
-    edit.push_str("'\n")?;
-    refused_after(&rt, alloc, edit.as_str(), 243, "[K_A]\n", 244)?;
-    refused_after(&rt, alloc, edit.as_str(), 245, "", 245)
-}
-
-/// A picture that passes its limit by one byte.
-#[test]
-fn long_picture(rt: HostRuntime) -> Result<(), Fail> {
-    let alloc = rt.alloc();
+/// Whether a picture that passes its limit by one byte is refused, and nothing written.
+fn is_long_picture_refused(alloc: Global) -> Result<bool, Fail> {
     let source = written_out(alloc, "store(&bitmap) 'p.ico'~@+ 'a' > 'b'~")?;
     let mut picture = Vec::new(alloc);
     for _ in 0..1_048_577 {
@@ -567,10 +866,16 @@ fn long_picture(rt: HostRuntime) -> Result<(), Fail> {
     files.push((seq(alloc, b"p.ico")?, Seq::from_vec(picture)))?;
     let mut folder = MemoryFolder::new(alloc, Seq::from_vec(files), Seq::new(alloc));
     let mut sink = MemorySink::new(alloc, Seq::new(alloc));
-    let words = words(alloc, "compile a.kmn a.kmx")?;
-    let status = run(alloc, words.as_slice(), &mut folder, &mut sink);
-    assert_eq!(rt; status, Status::Refused);
-    assert_eq!(rt; sink.written(), b"refused C24 size 1048577\n".as_slice());
-    assert!(rt; folder.file(b"a.kmx").is_none());
+    let status = ended(alloc, "compile a.kmn out", &mut folder, &mut sink)?;
+    Ok(
+        status == Status::Refused
+            && sink.written() == b"refused C24 size 1048577\n".as_slice()
+            && folder.file(b"out").is_none(),
+    )
+}
+
+#[test]
+fn long_picture(rt: HostRuntime) -> Result<(), Fail> {
+    assert!(rt; is_long_picture_refused(rt.alloc())?);
     Ok(())
 }
