@@ -1,0 +1,4 @@
+mod LoadPrograms
+mod LoadRules
+mod LoadScripts
+mod LoadSteps

@@ -1,0 +1,43 @@
+-- The keyboard that the source of a load means, and the presses of its script.
+use Rattle.std.specs.Prelude.{ℕ, zero, suc, ◌+◌, true, List, [], ◌∷◌, codes, None}
+use Rattle.kmn_base.specs.declared.events.Event.{Event}
+use Rattle.kmn_base.specs.declared.events.Event.TheVariants as event
+use Rattle.kmn_base.specs.declared.keys.KeyPress.{KeyPress}
+use Rattle.kmn_base.specs.declared.keys.RuleKey.TheVariants as key
+use Rattle.rule_model.specs.Keyboard.{Named, IsChar, PutChar, KeyPattern, OneKey, RuleMeaning, GroupMeaning, Keyboard, Best}
+
+-- the key K_A, with no shift key
+abbrev pub key_a : KeyPattern
+key_a = OneKey (key.Virtual 0x4000 65)
+
+-- the first rule puts the first character; each rule behind it takes what the rule before it puts, and puts the next one
+abbrev pub load_rule : ℕ → RuleMeaning
+load_rule zero = record { line = 3; context = []; key = key_a; output = PutChar 0x4E00 ∷ [] }
+load_rule (suc i) = record { line = i + 4; context = IsChar (0x4E00 + i) ∷ []; key = key_a; output = PutChar (0x4E00 + suc i) ∷ [] }
+
+-- so many rules from the one of a number on
+abbrev pub rules_from : ℕ → ℕ → List RuleMeaning
+rules_from i zero = []
+rules_from i (suc count) = load_rule i ∷ rules_from (suc i) count
+
+-- the keyboard of a load: one group with the first rule and so many behind it
+abbrev pub load_group : ℕ → GroupMeaning
+load_group n = record { name = codes "main"; using_keys = true; rules = rules_from 0 (suc n); on_match = None; on_nomatch = None }
+
+abbrev pub load_keyboard : ℕ → Keyboard
+load_keyboard n = record { start = Named (codes "main"); stores = []; groups = load_group n ∷ []; dictionary = []; choice = Best }
+
+abbrev pub press_a : KeyPress
+press_a = record { code = 65; mods = 0 }
+
+abbrev pub press_space : KeyPress
+press_space = record { code = 32; mods = 0 }
+
+-- so many presses of K_A, and one of K_SPACE
+abbrev pub presses : ℕ → List Event
+presses zero = event.Key press_space ∷ []
+presses (suc count) = event.Key press_a ∷ presses count
+
+-- K_A for each rule, the first one too, and K_SPACE
+abbrev pub load_events : ℕ → List Event
+load_events n = presses (suc n)

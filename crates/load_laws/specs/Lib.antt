@@ -1,0 +1,4 @@
+pub mod Keyboards
+pub mod Plays
+pub mod Programs
+pub mod Scripts

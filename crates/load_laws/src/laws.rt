@@ -1,0 +1,20 @@
+ghost use Rattle.load_laws.specs.Plays.{LoadsPlay};
+ghost use Rattle.load_laws.specs.Programs.{ProgramsMean};
+ghost use Rattle.load_laws.specs.Scripts.{ScriptsAreRead};
+
+/// The program of a load means its keyboard.
+#[tactic(auto, using(crate::proofs::LoadPrograms::programs_mean))]
+pub fn programs_mean()
+    ensures { ProgramsMean }
+{}
+
+/// The script of a load is read as its presses.
+pub fn scripts_are_read()
+    ensures { ScriptsAreRead }
+{}
+
+/// These presses are played on the keyboard of a load without a refusal: each puts one item, and two characters stand in the end.
+#[tactic(auto, using(crate::proofs::LoadSteps::loads_play))]
+pub fn loads_play()
+    ensures { LoadsPlay }
+{}

@@ -1,0 +1,9 @@
+//! What the load of a number comes to: the laws of its program, its keyboard and its script.
+//!
+//! It stands on the definitions of `rule_model`, `load_maker` and `play_script`, and has no code: a layer above calls a function
+//! with an empty body for the law in its contract, or cites the lemmas in `proofs/`.
+#![tactic(auto)]
+
+mod laws;
+
+pub use laws::{loads_play, programs_mean, scripts_are_read};
