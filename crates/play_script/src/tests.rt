@@ -4,7 +4,7 @@ use crate::{
     ScriptError, end_line, expect_line, line_of, read_script, refused_event_line, text_line,
     value_line,
 };
-use kmn_base::{Code, Element, Event, Item, Outcome, Seq, Text};
+use kmn_base::{Code, Element, Event, Item, Outcome, Refusal, Text};
 use rule_model::Entry;
 use std::alloc::Global;
 use std::test::Fail;
@@ -156,22 +156,29 @@ fn shown_entries(alloc: Global, entries: &[Entry]) -> Result<String, Fail> {
     Ok(shown)
 }
 
-/// What a script gives, as a row has it.
-fn shown(alloc: Global, read: Result<Seq<Entry>, ScriptError>) -> Result<String, Fail> {
-    match read {
-        Ok(entries) => shown_entries(alloc, entries.as_slice()),
-        Err(ScriptError::Refused(refusal)) => Ok(format!(in alloc;
-            "{} {}",
-            refusal.code, refusal.line
-        )?),
-        Err(error) => Err(error.into()),
+/// Whether a row has the code and the line of a refusal.
+fn is_refusal(refusal: Refusal, wanted: &str) -> bool {
+    match wanted.split_once(' ') {
+        Some((code, line)) => {
+            refusal.code.text() == code.as_bytes() && line.parse::<u32>().ok() == Some(refusal.line)
+        }
+        None => false,
     }
+}
+
+/// Whether entries are those of a row.
+fn are_entries(alloc: Global, entries: &[Entry], wanted: &str) -> Result<bool, Fail> {
+    let shown = shown_entries(alloc, entries)?;
+    Ok(shown.as_str() == wanted)
 }
 
 /// Whether a script gives what a row says.
 fn gives(alloc: Global, script: &[u8], names: &KeyDictionary, wanted: &str) -> Result<bool, Fail> {
-    let given = shown(alloc, read_script(alloc, script, names))?;
-    Ok(given.as_str() == wanted)
+    match read_script(alloc, script, names) {
+        Ok(entries) => are_entries(alloc, entries.as_slice(), wanted),
+        Err(ScriptError::Refused(refusal)) => Ok(is_refusal(refusal, wanted)),
+        Err(error) => Err(error.into()),
+    }
 }
 
 /// Whether a row says what its script gives.
