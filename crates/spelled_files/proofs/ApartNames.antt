@@ -22,7 +22,7 @@ use Rattle.decompile_laws.proofs.Apart.{same-turned, filled, EachApart, AreApart
 use Rattle.spelled_files.proofs.StatedNames.{named-cons}
 use Rattle.spelled_files.proofs.UnrefusedRules.{no-else, no-earlier, no-line, no-broken}
 
-or-none : (a b : Bool) → a ≡ false → b ≡ false → (a || b) ≡ false
+pub or-none : (a b : Bool) → a ≡ false → b ≡ false → (a || b) ≡ false
 or-none true b e f = absurd (cc)
 or-none false b e f = f
 
@@ -30,7 +30,7 @@ or-none false b e f = f
 abbrev pub Later : List (Option (List ℕ)) → List ℕ → Type 0
 Later calls y = same_name y [] ≡ false → EachApart y calls
 
-named-none : (x : List ℕ) → is_named [] x ≡ false
+pub named-none : (x : List ℕ) → is_named [] x ≡ false
 unfolding is_named
 named-none x = refl
 

@@ -11,5 +11,6 @@ pub mod SpelledRules
 pub mod StatedNames
 pub mod TameNames
 pub mod UnpassedLimits
+pub mod UnrefusedNames
 pub mod UnrefusedRules
 pub mod WrittenOut

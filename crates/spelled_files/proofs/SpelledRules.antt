@@ -40,7 +40,7 @@ use Rattle.spelled_files.proofs.CalledNames.{HasText, GroupHasText, AreNamed, fr
 use Rattle.spelled_files.proofs.SpelledKeys.{keys_named}
 use Rattle.spelled_files.proofs.SpelledItems.{character, mark_name, key_as_spelled, value_spelled, IsSpelledPattern, context_spelled, IsSpelledOutput, output_spelled, some_spelled}
 
-all-at : (P : ℕ → Type 0) (xs : List ℕ) (n : ℕ) → All P xs → list_any (nat_eq n) xs ≡ true → P n
+pub all-at : (P : ℕ → Type 0) (xs : List ℕ) (n : ℕ) → All P xs → list_any (nat_eq n) xs ≡ true → P n
 all-at P [] n h a = absurd (cc)
 all-at P (x ∷ xs) n h a = by (nat_eq n x) refl a (λ g. all-at P xs n (All-tail P x xs h) g)
   where
@@ -49,14 +49,14 @@ all-at P (x ∷ xs) n h a = by (nat_eq n x) refl a (λ g. all-at P xs n (All-tai
     by false e g rest = rest g
 
 -- the front stores are at most two
-few-marks : (name : List ℕ) (count : ℕ) → length (mark_store name count) ≤ 1
+pub few-marks : (name : List ℕ) (count : ℕ) → length (mark_store name count) ≤ 1
 few-marks name count = by (nat_eq count 0)
   where
     by : (b : Bool) → length (if b then [] else stated_marks name count ∷ []) ≤ 1
     by true = omega arith
     by false = omega arith
 
-few-keys : (name : List ℕ) (keys : List (List ℕ)) → length (key_store name keys) ≤ 1
+pub few-keys : (name : List ℕ) (keys : List (List ℕ)) → length (key_store name keys) ≤ 1
 few-keys name [] = omega arith
 few-keys name (k ∷ keys) = omega arith
 

@@ -39,7 +39,7 @@ or-second false b e = e
 named-first : (names : List (List ℕ)) (name : List ℕ) → is_named (name ∷ names) name ≡ true
 named-first names name = named-cons name names name ∙ ap (λ (b : Bool). b || is_named names name) (same-itself name)
 
-named-behind : (front names : List (List ℕ)) (name : List ℕ) → is_named names name ≡ true → is_named (front ++ names) name ≡ true
+pub named-behind : (front names : List (List ℕ)) (name : List ℕ) → is_named names name ≡ true → is_named (front ++ names) name ≡ true
 named-behind [] names name h = h
 named-behind (x ∷ front) names name h = named-cons x (front ++ names) name ∙ or-second (same_name name x) (is_named (front ++ names) name) (named-behind front names name h)
 

@@ -10,6 +10,7 @@ use Rattle.rule_model.specs.declared.tables.Group.{Group}
 use Rattle.rule_model.specs.declared.tables.Tables.{Tables}
 use Rattle.rule_model.specs.Tab.{tab}
 use Rattle.rule_model.specs.Trace.{trace}
+use Rattle.store_table.specs.Names.{names_refusal}
 use Rattle.rule_checker.specs.Refused.{refused}
 use Rattle.kmx_format.specs.File.{file_of}
 use Rattle.kmx_format.specs.TablesOf.{tables_of}
@@ -34,6 +35,11 @@ SpelledCanBeWrittenOut = (bytes : List ℕ) → IsPlayable (tables_of bytes) →
 abbrev pub SpelledIsSpelled : Type 0
 SpelledIsSpelled =
     (bytes : List ℕ) → IsPlayable (tables_of bytes) → HasTextNames (tables_of bytes) → unspelled bytes ≡ None → IsSpelled (back (tables_of bytes))
+
+-- no name of that program is refused: each is stated, and none twice
+abbrev pub SpelledNamesStand : Type 0
+SpelledNamesStand =
+    (bytes : List ℕ) → IsPlayable (tables_of bytes) → HasTextNames (tables_of bytes) → unspelled bytes ≡ None → names_refusal (back (tables_of bytes)) ≡ None
 
 -- the records of a file that a program compiles to stand in an order that a text can keep
 abbrev pub CompiledIsInOrder : Type 0

@@ -1,4 +1,4 @@
-ghost use Rattle.spelled_files.specs.Laws.{CompiledIsInOrder, SpelledCanBeWrittenOut, SpelledIsSpelled, TextKeepsMeaning};
+ghost use Rattle.spelled_files.specs.Laws.{CompiledIsInOrder, SpelledCanBeWrittenOut, SpelledIsSpelled, SpelledNamesStand, TextKeepsMeaning};
 
 /// The tables of a valid file that has a text can be written out as a program that means the same.
 #[tactic(auto, using(crate::proofs::WrittenOut::spelled_written_out))]
@@ -21,4 +21,9 @@ pub fn compiled_is_in_order()
 #[tactic(auto, using(crate::proofs::Meaning::text_keeps_meaning))]
 pub fn text_keeps_meaning()
     ensures { TextKeepsMeaning }
+{}
+
+/// No name of that program is refused.
+pub fn spelled_names_stand()
+    ensures { SpelledNamesStand }
 {}

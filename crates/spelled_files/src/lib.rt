@@ -8,6 +8,7 @@ mod laws;
 mod no_spelling;
 
 pub use laws::{
-    compiled_is_in_order, spelled_can_be_written_out, spelled_is_spelled, text_keeps_meaning,
+    compiled_is_in_order, spelled_can_be_written_out, spelled_is_spelled, spelled_names_stand,
+    text_keeps_meaning,
 };
 pub use no_spelling::NoSpelling;
