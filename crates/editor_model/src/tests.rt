@@ -111,63 +111,91 @@ fn answered(
     Ok(text)
 }
 
+/// Whether a row of `CARETS` is right.
+fn is_caret(alloc: Global, row: (&str, &str, u32, &str)) -> Result<bool, Fail> {
+    let (left, right, place, wanted) = row;
+    let mut editor = editor_of(alloc, left, right)?;
+    let answer = editor.caret(place);
+    Ok(answered(alloc, &editor, answer)?.as_str() == wanted)
+}
+
+/// Whether a row of `EDITS` is right.
+fn is_edit(alloc: Global, row: (&str, &str, u32, u32, &str, &str)) -> Result<bool, Fail> {
+    let (left, right, from, to, new, wanted) = row;
+    let mut editor = editor_of(alloc, left, right)?;
+    let new: Vec<char> = new.chars().collect(alloc)?;
+    let answer = editor.edit(alloc, from, to, new.as_slice());
+    Ok(answered(alloc, &editor, answer)?.as_str() == wanted)
+}
+
+/// Whether a row of `DEFAULTS` is right.
+fn is_default(alloc: Global, row: (&str, &str, u16, u16, &str)) -> Result<bool, Fail> {
+    let (left, right, code, mods, wanted) = row;
+    let mut editor = editor_of(alloc, left, right)?;
+    editor.reserve(alloc, 1)?;
+    editor.passed(KeyPress { code, mods });
+    Ok(shown(alloc, &editor)?.as_str() == wanted)
+}
+
 #[test]
-fn carets_and_edits(rt: HostRuntime) -> Result<(), Fail> {
+fn tables_of_changes(rt: HostRuntime) -> Result<(), Fail> {
     let alloc = rt.alloc();
-    for (left, right, place, wanted) in CARETS {
-        let mut editor = editor_of(alloc, left, right)?;
-        let answer = editor.caret(place);
-        let text = answered(alloc, &editor, answer)?;
-        assert_eq!(rt; text.as_str(), wanted, "{left}|{right} {place}");
+    for row in CARETS {
+        assert!(rt; is_caret(alloc, row)?, "{}|{} {}", row.0, row.1, row.2);
     }
-    for (left, right, from, to, new, wanted) in EDITS {
-        let mut editor = editor_of(alloc, left, right)?;
-        let new: Vec<char> = new.chars().collect(alloc)?;
-        let answer = editor.edit(alloc, from, to, new.as_slice());
-        let text = answered(alloc, &editor, answer)?;
-        assert_eq!(rt; text.as_str(), wanted, "{left}|{right} {from} {to}");
+    for row in EDITS {
+        assert!(rt;
+            is_edit(alloc, row)?,
+            "{}|{} {} {}",
+            row.0,
+            row.1,
+            row.2,
+            row.3
+        );
+    }
+    for row in DEFAULTS {
+        assert!(rt;
+            is_default(alloc, row)?,
+            "{}|{} {} {}",
+            row.0,
+            row.1,
+            row.2,
+            row.3
+        );
     }
     Ok(())
 }
 
-#[test]
-fn the_longest_text(rt: HostRuntime) -> Result<(), Fail> {
-    let alloc = rt.alloc();
+/// Whether a text of a million characters takes no more, and one in the place of another.
+fn keeps_its_length(alloc: Global) -> Result<bool, Fail> {
     let text = vec![in alloc; 'x'; 1_000_000]?;
     let mut editor = Editor::new(alloc);
     editor.edit(alloc, 0, 0, text.as_slice())?;
     let longer = editor.edit(alloc, 7, 7, &['y']);
-    assert!(rt; matches!(longer, Err(EditError::Length)));
-    assert!(rt; editor.try_edit(7, 8, 1).is_ok());
+    let tried = editor.try_edit(7, 8, 1);
     editor.edit(alloc, 7, 8, &['y'])?;
-    assert_eq!(rt; editor.left().len(), 0);
-    assert_eq!(rt; editor.right().len(), 1_000_000);
-    Ok(())
+    Ok(
+        matches!(longer, Err(EditError::Length))
+            && tried.is_ok()
+            && editor.left().len() == 0
+            && editor.right().len() == 1_000_000,
+    )
 }
 
-#[test]
-fn passed_keys(rt: HostRuntime) -> Result<(), Fail> {
-    for (left, right, code, mods, wanted) in DEFAULTS {
-        let mut editor = editor_of(rt.alloc(), left, right)?;
-        editor.reserve(rt.alloc(), 1)?;
-        editor.passed(KeyPress { code, mods });
-        let text = shown(rt.alloc(), &editor)?;
-        assert_eq!(rt; text.as_str(), wanted, "{left}|{right} {code} {mods}");
-    }
-    Ok(())
-}
-
-#[test]
-fn edits_before_the_caret(rt: HostRuntime) -> Result<(), Fail> {
-    let mut editor = editor_of(rt.alloc(), "abc", "de")?;
-    editor.reserve(rt.alloc(), 4_097)?;
-    let kept = editor.copy(rt.alloc())?;
+/// Whether a text is put in the place of two characters before the caret, and a copy made before stays as it was.
+fn replaces_two(alloc: Global) -> Result<bool, Fail> {
+    let mut editor = editor_of(alloc, "abc", "de")?;
+    editor.reserve(alloc, 4_097)?;
+    let kept = editor.copy(alloc)?;
     if editor.left().len() >= 2 {
         editor.apply(2, &['x', 'y', 'z']);
     }
-    let text = shown(rt.alloc(), &editor)?;
-    assert_eq!(rt; text.as_str(), "axyz|de");
-    let text = shown(rt.alloc(), &kept)?;
-    assert_eq!(rt; text.as_str(), "abc|de");
+    Ok(shown(alloc, &editor)?.as_str() == "axyz|de" && shown(alloc, &kept)?.as_str() == "abc|de")
+}
+
+#[test]
+fn long_texts_and_copies(rt: HostRuntime) -> Result<(), Fail> {
+    assert!(rt; keeps_its_length(rt.alloc())?);
+    assert!(rt; replaces_two(rt.alloc())?);
     Ok(())
 }
