@@ -6,7 +6,7 @@ use Rattle.rule_model.specs.declared.program.Program.{Program}
 use Rattle.kmx_format.specs.TablesOf.{tables_of}
 use Rattle.kmx_format.specs.Playable.{IsPlayable}
 use Rattle.compile_laws.proofs.Whole.{meaning_kept}
-use Rattle.rule_checker.specs.Refused.{IsRead, refused}
+use Rattle.rule_checker.specs.Refused.{IsRead}
 use Rattle.checker_laws.proofs.Named.{well_named}
 use Rattle.program_text.specs.Programs.{program_text}
 use Rattle.program_text.proofs.Programs.{programs_read_back}

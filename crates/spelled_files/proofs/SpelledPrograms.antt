@@ -12,7 +12,6 @@ use Rattle.kmn_items.specs.declared.syntax.Where.TheVariants as section
 use Rattle.kmn_items.specs.declared.syntax.Seen.{Seen}
 use Rattle.kmn_items.specs.Item.{unseen}
 use Rattle.kmn_parser.specs.Line.{system_stores}
-use Rattle.rule_model.specs.declared.program.SrcItem.TheVariants as source
 use Rattle.rule_model.specs.declared.program.StoreDef.{StoreDef}
 use Rattle.rule_model.specs.declared.program.BeginDef.{BeginDef}
 use Rattle.rule_model.specs.declared.tables.Pat.{Pat}
@@ -254,10 +253,10 @@ numbered-along : (line : ℕ) (front : List (ℕ → StoreDef)) → length (numb
 numbered-along line [] = refl
 numbered-along line (store ∷ front) = ap suc (numbered-along (line + 1) front)
 
-front-append : (names : Names) (keys : All IsKeyName names.keys) (options : List ℕ) (xs ys : List (ℕ → StoreDef))
-    → AllByRecursion (IsFront names keys options) xs → AllByRecursion (IsFront names keys options) ys → AllByRecursion (IsFront names keys options) (xs ++ ys)
-front-append names keys options [] ys h k = k
-front-append names keys options (x ∷ xs) ys h k = (h.0, front-append names keys options xs ys h.1 k)
+front-append : (called : Names) (keys : All IsKeyName called.keys) (options : List ℕ) (xs ys : List (ℕ → StoreDef))
+    → AllByRecursion (IsFront called keys options) xs → AllByRecursion (IsFront called keys options) ys → AllByRecursion (IsFront called keys options) (xs ++ ys)
+front-append called keys options [] ys h k = k
+front-append called keys options (x ∷ xs) ys h k = (h.0, front-append called keys options xs ys h.1 k)
 
 few-marks : (name : List ℕ) (count : ℕ) → length (mark_store name count) ≤ 1
 few-marks name count = by (nat_eq count 0)

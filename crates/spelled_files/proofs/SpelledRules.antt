@@ -5,7 +5,6 @@ use Rattle.std.specs.List.{list_any, AllByRecursion}
 use Rattle.std.proofs.lemmas.Bool.{or_parts, eqb-true}
 use Rattle.std.proofs.lemmas.List.{length-map}
 use Rattle.std.proofs.lemmas.List.Elements.{All-head, All-tail, All-drop, All-from_recursion, recursion_from_All}
-use Rattle.kmn_items.specs.declared.syntax.Where.TheVariants as section
 use Rattle.kmn_items.specs.Item.{unseen}
 use Rattle.rule_model.specs.declared.program.RuleDef.{RuleDef}
 use Rattle.rule_model.specs.declared.program.RuleKind.{RuleKind}
