@@ -22,12 +22,14 @@ use Rattle.rule_model.specs.declared.tables.Out.{Out}
 use Rattle.rule_model.specs.declared.tables.Out.TheVariants as output
 use Rattle.rule_model.specs.declared.tables.Rule.{Rule}
 use Rattle.rule_model.specs.declared.tables.Group.{Group}
+use Rattle.rule_model.specs.declared.tables.Tables.{Tables}
 use Rattle.kmx_format.specs.Writable.{is_any, is_matched, PointsTo, PointsBack, PointsInto, needs_context, IsWritableKey, IsWritableRule}
-use Rattle.kmx_format.specs.Playable.{IsPlayableGroup}
+use Rattle.kmx_format.specs.TablesOf.{tables_of}
+use Rattle.kmx_format.specs.Playable.{IsPlayable, IsPlayableGroup}
 use Rattle.store_table.specs.First.{or_else, broken, first_code, at_line, earlier, first_of}
-use Rattle.rule_checker.specs.Items.{Known, is_pattern_item, is_any_item, passes, points_to, is_key_place, misses_pattern, misses_any, is_far, index_code, context_at_code, context_item_code, context_code, key_code, key_index_code, rule_output_code, match_output_code, rule_code, rule_refusal, rules_refusal}
+use Rattle.rule_checker.specs.Items.{Known, known, is_pattern_item, is_any_item, passes, points_to, is_key_place, misses_pattern, misses_any, is_far, index_code, context_at_code, context_item_code, context_code, key_code, key_index_code, rule_output_code, match_output_code, rule_code, rule_refusal, rules_refusal}
 use Rattle.decompile_laws.specs.Items.{Names, store_called, back_pattern, back_output, back_key, some_items}
-use Rattle.decompile_laws.specs.Back.{back_rule, back_rules, back_statement, match_line, nomatch_line, back_group, back_groups}
+use Rattle.decompile_laws.specs.Back.{back_rule, back_rules, back_statement, match_line, nomatch_line, back_group, back_groups, names_for, written_stores, written_begins, back}
 use Rattle.decompile_laws.proofs.Choosing.{choose-else}
 
 not-true : (b : Bool) → b ≡ true → not b ≡ false
@@ -250,3 +252,10 @@ module _ (names : Names) where
       none_of_all (rules_refusal known) (HasFineRules known)
       (λ (before : List GroupDef) (group : GroupDef) h. none_of_all (rule_refusal known) (IsFine known) (λ (before : List RuleDef) (rule : RuleDef) e. no-line rule.line (rule_code known rule.kind rule) e) [] group.rules h)
       [] (back_groups names line called groups) (groups-fine known stores count line called groups can)
+
+pub spelled_rules_stand : (bytes : List ℕ) → IsPlayable (tables_of bytes) → first_of (rules_refusal (known (back (tables_of bytes)))) [] (back (tables_of bytes)).groups ≡ None
+unfolding back
+spelled_rules_stand bytes can =
+    let tables : Tables = tables_of bytes in
+    no_rule_refused (names_for tables) (known (back tables)) (length tables.stores) (length tables.groups) (1 + length (written_stores tables) + length (written_begins tables))
+    (names_for tables).groups tables.groups can.groups

@@ -1,5 +1,5 @@
 -- The laws of files that have a text.
-use Rattle.std.specs.Prelude.{◌≡◌, ℕ, ◌≤◌, true, List, length, None}
+use Rattle.std.specs.Prelude.{◌≡◌, ℕ, ◌≤◌, true, List, [], length, None}
 use Rattle.std.specs.List.{All}
 use Rattle.std.specs.Str.{is_utf8}
 use Rattle.kmn_base.specs.declared.events.Event.{Event}
@@ -10,7 +10,9 @@ use Rattle.rule_model.specs.declared.tables.Group.{Group}
 use Rattle.rule_model.specs.declared.tables.Tables.{Tables}
 use Rattle.rule_model.specs.Tab.{tab}
 use Rattle.rule_model.specs.Trace.{trace}
+use Rattle.store_table.specs.First.{first_of}
 use Rattle.store_table.specs.Names.{names_refusal}
+use Rattle.rule_checker.specs.Items.{known, rules_refusal}
 use Rattle.rule_checker.specs.Refused.{refused}
 use Rattle.kmx_format.specs.File.{file_of}
 use Rattle.kmx_format.specs.TablesOf.{tables_of}
@@ -40,6 +42,10 @@ SpelledIsSpelled =
 abbrev pub SpelledNamesStand : Type 0
 SpelledNamesStand =
     (bytes : List ℕ) → IsPlayable (tables_of bytes) → HasTextNames (tables_of bytes) → unspelled bytes ≡ None → names_refusal (back (tables_of bytes)) ≡ None
+
+-- no rule of the program that a valid file is written out as is refused for an item
+abbrev pub SpelledRulesStand : Type 0
+SpelledRulesStand = (bytes : List ℕ) → IsPlayable (tables_of bytes) → first_of (rules_refusal (known (back (tables_of bytes)))) [] (back (tables_of bytes)).groups ≡ None
 
 -- the records of a file that a program compiles to stand in an order that a text can keep
 abbrev pub CompiledIsInOrder : Type 0

@@ -1,4 +1,4 @@
-ghost use Rattle.spelled_files.specs.Laws.{CompiledIsInOrder, SpelledCanBeWrittenOut, SpelledIsSpelled, SpelledNamesStand, TextKeepsMeaning};
+ghost use Rattle.spelled_files.specs.Laws.{CompiledIsInOrder, SpelledCanBeWrittenOut, SpelledIsSpelled, SpelledNamesStand, SpelledRulesStand, TextKeepsMeaning};
 
 /// The tables of a valid file that has a text can be written out as a program that means the same.
 #[tactic(auto, using(crate::proofs::WrittenOut::spelled_written_out))]
@@ -26,4 +26,9 @@ pub fn text_keeps_meaning()
 /// No name of that program is refused.
 pub fn spelled_names_stand()
     ensures { SpelledNamesStand }
+{}
+
+/// No rule of the program that a valid file is written out as is refused for an item.
+pub fn spelled_rules_stand()
+    ensures { SpelledRulesStand }
 {}
