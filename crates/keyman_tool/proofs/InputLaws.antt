@@ -25,7 +25,7 @@ use Rattle.keyman_tool.specs.Inputs.{by_line, file_from, pictured_within, unless
 use Rattle.keyman_tool.specs.Orders.{file_work, picture_work}
 use Rattle.keyman_tool.specs.Run.{HasRead}
 use Rattle.keyman_tool.specs.Seen.{FolderView, FolderState, seen_folder}
-use Rattle.keyman_tool.specs.Steps.{StopCounts, GivesBy, Gives, IsCompiled, read_stop, compile_stop, script_stop, itself}
+use Rattle.keyman_tool.specs.Steps.{StopCounts, GivesBy, Gives, States, IsCompiled, read_stop, compile_stop, script_stop, itself}
 use Rattle.keyman_tool.specs.Work.{Reading, Work, given, and_then, reads, comes_to}
 use Rattle.keyman_tool.specs.Work.Reading.{Bytes, Over}
 use Rattle.keyman_tool.specs.Work.Work.{Give, Refuse, Read}
@@ -33,26 +33,19 @@ use Rattle.keyman_tool.proofs.AskedLaws.{first_none, first_all}
 use Rattle.keyman_tool.proofs.RunLaws.{gives_value, gives_refused, gives_no_memory}
 use Rattle.keyman_tool.proofs.WorkLaws.{reading_within, reading_over, reads_found, comes_found, comes_given, and_then_assoc}
 
--- the answer of the work behind a read, which reads no more
-abbrev pub StatesBy : {A B : Type 0} → (A → B) → Result B Reason → Result A Stop → Type 0
-StatesBy seen stated (Ok value) = stated ≡ Ok (seen value)
-StatesBy seen stated (Err (stop.Refused why)) = stated ≡ Err why
-StatesBy seen stated (Err stop.ReadFault) = ⊥
-StatesBy seen stated (Err stop.Memory) = Unit {0}
-
 -- work that goes on by a reading to what this states, and reads no more
 pub record Concludes {B : Type 0} (next : Reading → Work B) (stated : Reading → Result B Reason) : Type 0 where
   pub reads_none : (files : Files) (reading : Reading) → reads files (next reading) ≡ []
   pub comes : (files : Files) (reading : Reading) → comes_to files (next reading) ≡ Some (stated reading)
 
 module _ {A B : Type 0} (seen : A → B) (wanted : List Ask) (before after : FolderState) where
-  states_by : (end : Option (Result B Reason)) (stated : Result B Reason) (result : Result A Stop) → end ≡ Some stated → HasRead wanted before after → StatesBy seen stated result → GivesBy seen wanted end before after result
+  states_by : (end : Option (Result B Reason)) (stated : Result B Reason) (result : Result A Stop) → end ≡ Some stated → HasRead wanted before after → States seen stated result → GivesBy seen wanted end before after result
   states_by end stated (Ok value) is h states = (is ∙ ap Some states, h)
   states_by end stated (Err (stop.Refused why)) is h states = (is ∙ ap Some states, h)
   states_by end stated (Err stop.ReadFault) is h states = absurd states
   states_by end stated (Err stop.Memory) is h states = record { asked = first_all wanted before.calls after.calls h.asked; files = h.files }
 
-states_counts : {A B : Type 0} (seen : A → B) (stated : Result B Reason) (before after : ℕ) (result : Result A Stop) → after ≡ before → StatesBy seen stated result → StopCounts before after result
+states_counts : {A B : Type 0} (seen : A → B) (stated : Result B Reason) (before after : ℕ) (result : Result A Stop) → after ≡ before → States seen stated result → StopCounts before after result
 states_counts seen stated before after (Ok value) same states = same
 states_counts seen stated before after (Err (stop.Refused why)) same states = same
 states_counts seen stated before after (Err stop.ReadFault) same states = absurd states
@@ -62,7 +55,7 @@ states_counts seen stated before after (Err stop.Memory) same states = same
 pub gives_answered : {F A B : Type 0} (seen : A → B) (name : List ℕ) (limit : ℕ) (next : Reading → Work B) (stated : Reading → Result B Reason) (folders : FolderView F) (folder after : F) (bytes : List ℕ) (result : Result A Stop)
     → Concludes next stated → folders.faults after ≡ folders.faults folder → folders.told after ≡ folders.told folder
     → (IsTrue (folders.told folder) → Reads (folders.files folder) (folders.files after) (folders.calls folder) (folders.calls after) name limit (Ok bytes))
-    → StatesBy seen (stated (Bytes bytes)) result → Gives seen (Read name limit next) folders folder after result
+    → States seen (stated (Bytes bytes)) result → Gives seen (Read name limit next) folders folder after result
 gives_answered seen name limit next stated folders folder after bytes result concludes faults told answers states = record {
   counts = states_counts seen (stated (Bytes bytes)) (folders.faults folder) (folders.faults after) result faults states;
   told = told;
@@ -118,16 +111,16 @@ pub given_concludes : {B : Type 0} (stated : Reading → Result B Reason) → Co
 given_concludes stated = record { reads_none = λ files reading. none_read files (stated reading); comes = λ files reading. comes_given files (stated reading) }
 
 -- what lines state that were read
-pub value_stated : {A : Type 0} (read : Result A Refusal) (value : A) → read ≡ Ok value → StatesBy itself (by_line read) (Ok value)
+pub value_stated : {A : Type 0} (read : Result A Refusal) (value : A) → read ≡ Ok value → States itself (by_line read) (Ok value)
 value_stated read value is = ap by_line is
 
-pub error_stated : {A : Type 0} (read : Result A Refusal) (error : CompileError) → Answers read (Err error) → StatesBy {A = A} itself (by_line read) (Err (compile_stop error))
+pub error_stated : {A : Type 0} (read : Result A Refusal) (error : CompileError) → Answers read (Err error) → States {A = A} itself (by_line read) (Err (compile_stop error))
 error_stated read (compile.Refused refusal) h = ap by_line h
 error_stated read (compile.TooLarge code size) h = absurd h
 error_stated read compile.Memory h = tt
 
 -- what a script states that breaks a rule
-pub broken_stated : {A : Type 0} (read : Result A Refusal) (error : ScriptError) → ScriptAnswers read (Err error) → StatesBy {A = A} itself (by_line read) (Err (script_stop error))
+pub broken_stated : {A : Type 0} (read : Result A Refusal) (error : ScriptError) → ScriptAnswers read (Err error) → States {A = A} itself (by_line read) (Err (script_stop error))
 broken_stated read (script.Refused refusal) h = ap by_line h
 broken_stated read script.Memory h = tt
 

@@ -3,6 +3,7 @@ pub mod BesideLaws
 pub mod FileRuns
 pub mod Hexadecimal
 pub mod InputLaws
+mod LayoutLaws
 pub mod MeaningLaws
 pub mod OwnNames
 pub mod PlayingLaws

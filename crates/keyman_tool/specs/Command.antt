@@ -10,13 +10,16 @@ pub data Request : Type 0 where
   Test : (source file keys : List ℕ) → Request
   Verify : (file : List ℕ) → Request
   Play : (file keys : List ℕ) → Request
+  Layout : (source layout : List ℕ) → Request
 
--- `verify FILE`, `compile SOURCE FILE`, `play FILE KEYS` or `test SOURCE FILE KEYS`; all other words ask for nothing
+-- `verify FILE`, `compile SOURCE FILE`, `play FILE KEYS`, `layout SOURCE LAYOUT` or `test SOURCE FILE KEYS`; all other words
+-- ask for nothing
 abbrev pub request_of : List (List ℕ) → Option Request
 request_of (word ∷ file ∷ []) = if bytes_eq word (codes "verify") then Some (Verify file) else None
 request_of (word ∷ first ∷ second ∷ []) =
     if bytes_eq word (codes "compile") then Some (Compile first second)
     else if bytes_eq word (codes "play") then Some (Play first second)
+    else if bytes_eq word (codes "layout") then Some (Layout first second)
     else None
 request_of (word ∷ source ∷ file ∷ keys ∷ []) = if bytes_eq word (codes "test") then Some (Test source file keys) else None
 request_of _ = None
@@ -31,3 +34,4 @@ requested (command.Compile source file) = Compile source.now file.now
 requested (command.Test source file keys) = Test source.now file.now keys.now
 requested (command.Verify file) = Verify file.now
 requested (command.Play file keys) = Play file.now keys.now
+requested (command.Layout source layout) = Layout source.now layout.now

@@ -60,6 +60,14 @@ valid_line tables = concat (
 abbrev pub verify_ending : Tables → Ending
 verify_ending tables = record { status = status.Done; file = None; printed = valid_line tables }
 
+-- what is printed of a layout that keeps all rules: the count of its keys
+unfoldable pub sound_line : ℕ → List ℕ
+sound_line count = concat (codes "layout sound keys=" ∷ decimal count ∷ codes "\n" ∷ [])
+
+-- the check of a layout prints its line
+abbrev pub layout_ending : ℕ → Ending
+layout_ending count = record { status = status.Done; file = None; printed = sound_line count }
+
 -- a play ends with the refusal of an event, or with expected texts that differed, or well
 abbrev pub ended_status : Option (ℕ × Code) → ℕ → Status
 ended_status (Some refused) failed = status.Refused

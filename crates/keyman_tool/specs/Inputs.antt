@@ -1,7 +1,7 @@
 -- What the inputs of a command state.
 use Rattle.std.specs.Prelude.{ℕ, List, Option, Some, None, Result, Ok, Err}
 use Rattle.kmn_base.specs.declared.codes.Code.{Code}
-use Rattle.kmn_base.specs.declared.codes.Code.TheVariants.{C24, L05, P06, V15}
+use Rattle.kmn_base.specs.declared.codes.Code.TheVariants.{C24, L05, P06, T7, V15}
 use Rattle.kmn_base.specs.declared.refusals.Refusal.{Refusal}
 use Rattle.rule_model.specs.declared.program.Program.{Program}
 use Rattle.rule_model.specs.declared.script.Entry.{Entry}
@@ -15,6 +15,9 @@ use Rattle.play_script.specs.Entries.{entries}
 use Rattle.kmx_format.specs.TablesOf.{tables_of}
 use Rattle.kmx_verifier.specs.declared.faults.Fault.{Fault}
 use Rattle.kmx_verifier.specs.FaultOf.{fault_of}
+use Rattle.touch_layout.specs.Faults.{fault, whole_layout}
+use Rattle.touch_layout.specs.Layout.{key_count, layout_fault}
+use Rattle.touch_layout.specs.declared.faults.LayoutFault.{LayoutFault}
 use Rattle.keyman_tool.specs.declared.reason.Reason.{Reason}
 use Rattle.keyman_tool.specs.declared.reason.Reason.TheVariants as reason
 use Rattle.keyman_tool.specs.Work.{Reading}
@@ -70,3 +73,13 @@ unless_faulty tables (Some fault) = Err (reason.File fault)
 -- the tables of a valid file, or the first fault
 abbrev pub tables_of_file : List ℕ → Result Tables Reason
 tables_of_file bytes = unless_faulty (tables_of bytes) (fault_of bytes)
+
+-- the count of a layout's keys, unless a rule is broken
+abbrev pub unless_broken : ℕ → Option LayoutFault → Result ℕ Reason
+unless_broken count None = Ok count
+unless_broken count (Some broken) = Err (reason.Layout broken)
+
+-- the count of the keys of a touch layout that keeps all rules for the keyboard of tables, else the first rule that it breaks
+abbrev pub keys_of : Tables → Reading → Result ℕ Reason
+keys_of tables (Bytes layout) = unless_broken (key_count layout) (layout_fault layout tables)
+keys_of tables (Over size) = Err (reason.Layout (fault T7 whole_layout))

@@ -6,13 +6,14 @@ use Rattle.rule_model.specs.Tab.{tab}
 use Rattle.rule_model.specs.declared.program.Program.{Program}
 use Rattle.rule_model.specs.declared.script.Entry.{Entry}
 use Rattle.rule_model.specs.declared.tables.Tables.{Tables}
+use Rattle.compile_laws.specs.Ordered.{compiled_tables}
 use Rattle.kmn_compiler.specs.Picture.{picture_name}
 use Rattle.kmn_compiler.specs.declared.compiling.Compiled.{Compiled}
 use Rattle.keyman_tool.specs.Beside.{beside}
 use Rattle.keyman_tool.specs.Command.{Request}
-use Rattle.keyman_tool.specs.Command.Request.{Compile, Play, Test, Verify}
-use Rattle.keyman_tool.specs.Endings.{Ending, Job, compile_ending, play_ending, test_ending, verify_ending, words_ending}
-use Rattle.keyman_tool.specs.Inputs.{Pictured, file_from, picture_of, pictured_within, program_of, script_of, bytes_of, tables_of_file}
+use Rattle.keyman_tool.specs.Command.Request.{Compile, Layout, Play, Test, Verify}
+use Rattle.keyman_tool.specs.Endings.{Ending, Job, compile_ending, layout_ending, play_ending, test_ending, verify_ending, words_ending}
+use Rattle.keyman_tool.specs.Inputs.{Pictured, file_from, keys_of, picture_of, pictured_within, program_of, script_of, bytes_of, tables_of_file}
 use Rattle.keyman_tool.specs.Work.{Work, given, and_then}
 use Rattle.keyman_tool.specs.Work.Work.{Give, Read}
 
@@ -90,6 +91,18 @@ bytes_play_work bytes keys = and_then (given (tables_of_file bytes)) (λ tables.
 abbrev pub play_work : (file keys : List ℕ) → Work Ending
 play_work file keys = and_then (bytes_work file) (λ bytes. bytes_play_work bytes keys)
 
+-- read a touch layout, and count its keys where it keeps all rules for the keyboard of tables
+abbrev pub keys_work : Tables → (layout : List ℕ) → Work ℕ
+keys_work tables layout = Read layout TEXT_BYTES (λ reading. given (keys_of tables reading))
+
+-- read a touch layout and check it for the keyboard of tables, print the count of its keys
+abbrev pub tables_layout_work : Tables → (layout : List ℕ) → Work Ending
+tables_layout_work tables layout = and_then (keys_work tables layout) (λ count. Give (layout_ending count))
+
+-- `layout SOURCE LAYOUT`: read and compile the source with its picture, read and check the layout, print the count of its keys
+abbrev pub layout_work : (source layout : List ℕ) → Work Ending
+layout_work source layout = and_then (program_work source) (λ pictured. tables_layout_work (compiled_tables pictured.program) layout)
+
 -- the work that words ask for
 abbrev pub work_of : Option Request → Work Ending
 work_of None = Give words_ending
@@ -97,3 +110,4 @@ work_of (Some (Compile source file)) = compile_work source file
 work_of (Some (Test source file keys)) = test_work source file keys
 work_of (Some (Verify file)) = verify_work file
 work_of (Some (Play file keys)) = play_work file keys
+work_of (Some (Layout source layout)) = layout_work source layout

@@ -6,6 +6,7 @@ use Rattle.kmn_base.specs.CodeTexts.{code_text}
 use Rattle.kmn_base.specs.declared.codes.Code.{Code}
 use Rattle.kmx_verifier.specs.declared.faults.Fault.{Fault}
 use Rattle.rule_model.specs.Lines.{refusal_line}
+use Rattle.touch_layout.specs.declared.faults.LayoutFault.{LayoutFault}
 use Rattle.keyman_tool.specs.declared.reason.Reason.{Reason}
 use Rattle.keyman_tool.specs.declared.reason.Reason.TheVariants as reason
 
@@ -21,8 +22,19 @@ named_code unit = if nat_eq unit 0 then [] else codes " code " ++ (replicate (2 
 unfoldable pub fault_line : Fault → List ℕ
 fault_line fault = concat (codes "refused " ∷ code_text fault.code ∷ codes " at " ∷ decimal fault.at ∷ named_code fault.unit ∷ codes "\n" ∷ [])
 
+-- the rule that a touch layout breaks, and the place: platform, layer, row and key, 0 where none is meant
+unfoldable pub place_line : LayoutFault → List ℕ
+place_line fault = concat (
+    codes "refused " ∷ code_text fault.code
+    ∷ codes " platform " ∷ decimal fault.platform
+    ∷ codes " layer " ∷ decimal fault.layer
+    ∷ codes " row " ∷ decimal fault.row
+    ∷ codes " key " ∷ decimal fault.key
+    ∷ codes "\n" ∷ [])
+
 -- a reason's line
 abbrev pub reason_line : Reason → List ℕ
 reason_line (reason.Line refusal) = refusal_line refusal
 reason_line (reason.Size code size) = size_line code size
 reason_line (reason.File fault) = fault_line fault
+reason_line (reason.Layout fault) = place_line fault

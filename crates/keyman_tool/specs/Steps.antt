@@ -14,6 +14,8 @@ use Rattle.kmx_format.specs.TablesOf.{tables_of}
 use Rattle.kmx_format.specs.Writable.{IsFile, IsWritable}
 use Rattle.play_script.specs.declared.errors.ScriptError.{ScriptError}
 use Rattle.play_script.specs.declared.errors.ScriptError.TheVariants as script
+use Rattle.touch_layout.specs.declared.faults.LayoutError.{LayoutError}
+use Rattle.touch_layout.specs.declared.faults.LayoutError.TheVariants as layout
 use Rattle.kmn_compiler.specs.declared.compiling.Compiled.{Compiled}
 use Rattle.keyman_tool.specs.declared.preparing.Prepared.{Prepared}
 use Rattle.keyman_tool.specs.declared.preparing.Stop.{Stop}
@@ -41,6 +43,11 @@ abbrev pub script_stop : ScriptError → Stop
 script_stop (script.Refused refusal) = stop.Refused (reason.Line refusal)
 script_stop script.Memory = stop.Memory
 
+-- why a run stops where a layout breaks a rule
+abbrev pub layout_stop : LayoutError → Stop
+layout_stop (layout.Refused fault) = stop.Refused (reason.Layout fault)
+layout_stop layout.Memory = stop.Memory
+
 -- a refusal at line 1
 abbrev pub first_line : Code → Reason
 first_line code = reason.Line (record { line = 1; code = code })
@@ -62,6 +69,13 @@ GivesBy seen wanted end before after (Ok value) = (end ≡ Some (Ok (seen value)
 GivesBy seen wanted end before after (Err (stop.Refused why)) = (end ≡ Some (Err why)) × HasRead wanted before after
 GivesBy seen wanted end before after (Err stop.ReadFault) = HasFailedToRead wanted before after
 GivesBy seen wanted end before after (Err stop.Memory) = HasBegunToRead wanted before after
+
+-- what a step answers that reads nothing: the stated value, which is seen as a value, or the stated reason
+abbrev pub States : {A B : Type 0} → (A → B) → Result B Reason → Result A Stop → Type 0
+States seen stated (Ok value) = stated ≡ Ok (seen value)
+States seen stated (Err (stop.Refused why)) = stated ≡ Err why
+States seen stated (Err stop.ReadFault) = ⊥
+States seen stated (Err stop.Memory) = Unit {0}
 
 -- work that only reads, from one state of a folder to another, with this answer
 pub record Gives {F A B : Type 0} (seen : A → B) (work : Work B) (folders : FolderView F) (folder folder_after : F) (result : Result A Stop) : Type 0 where

@@ -22,6 +22,10 @@ pub enum Command<'a> {
         file: &'a [u8],
         keys: &'a [u8],
     },
+    Layout {
+        source: &'a [u8],
+        layout: &'a [u8],
+    },
 }
 
 /// The command that the words are, None where they are none. Words compare exactly.
@@ -48,7 +52,7 @@ fn verify_command<'a>(word: &[u8], file: &'a Text) -> Option<Command<'a>>
     })
 }
 
-/// The command of two files, `compile` or `play`, None for another word.
+/// The command of two files, `compile`, `play` or `layout`, None for another word.
 fn command_of_two<'a>(word: &[u8], first: &'a Text, second: &'a Text) -> Option<Command<'a>>
     ensures { option_map requested result ≡ request_of (word.now ∷ first.now ∷ second.now ∷ []) }
 {
@@ -62,6 +66,12 @@ fn command_of_two<'a>(word: &[u8], first: &'a Text, second: &'a Text) -> Option<
         return Some(Command::Play {
             file: first.as_slice(),
             keys: second.as_slice(),
+        });
+    }
+    if word == b"layout".as_slice() {
+        return Some(Command::Layout {
+            source: first.as_slice(),
+            layout: second.as_slice(),
         });
     }
     None

@@ -8,6 +8,7 @@ ghost use Rattle.keyman_tool.specs.Endings.{compiled_line};
 ghost use Rattle.rule_model.specs.Lines.{refusal_line};
 
 use crate::file_lines::fault_line;
+use crate::layouts::place_line;
 use crate::reason::Reason;
 use kmn_base::{Code, Memory, Refusal, Seq, Text};
 use kmn_compiler::Compiled;
@@ -46,6 +47,7 @@ pub fn reason_line(alloc: Global, why: Reason) -> Result<Text, Memory>
         Reason::Line(refusal) => refusal_line(alloc, refusal),
         Reason::Size { code, size } => size_line(alloc, code, size),
         Reason::File(fault) => fault_line(alloc, fault),
+        Reason::Layout(fault) => place_line(alloc, fault),
     }
 }
 

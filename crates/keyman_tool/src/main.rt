@@ -11,6 +11,7 @@ mod command;
 mod file_keys;
 mod file_lines;
 mod file_names;
+mod layouts;
 mod lines;
 mod playing;
 mod preparing;

@@ -235,7 +235,7 @@ fn script_stop(error: ScriptError) -> Stop
 }
 
 /// Why a run stops where an input was not read. A longer one than its limit is refused for this reason.
-fn read_stop(error: ReadError, long: Reason) -> Stop
+pub fn read_stop(error: ReadError, long: Reason) -> Stop
     ensures { result ≡ read_stop long error }
 {
     match error {

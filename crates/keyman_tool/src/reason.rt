@@ -1,7 +1,8 @@
 use kmn_base::{Code, Refusal};
 use kmx_verifier::Fault;
+use touch_layout::LayoutFault;
 
-/// Why a source, a script or a file is refused before anything is written.
+/// Why a source, a script, a file or a layout is refused before anything is written.
 #[derive(Clone, Copy, Debug, PartialEq, Eq)]
 pub enum Reason {
     /// A rule is broken in a line.
@@ -10,4 +11,6 @@ pub enum Reason {
     Size { code: Code, size: u64 },
     /// A compiled file breaks a rule at a place.
     File(Fault),
+    /// A touch layout breaks a rule at a place.
+    Layout(LayoutFault),
 }

@@ -6,8 +6,8 @@ ghost use Rattle.rule_model.specs.Trace.{trace};
 ghost use Rattle.rule_model.specs.Transcript.{events_of, transcript};
 ghost use Rattle.keyman_tool.specs.Asked.{AsksBy};
 ghost use Rattle.keyman_tool.specs.Command.{is_form, request_of};
-ghost use Rattle.keyman_tool.specs.Endings.{asked, ends, compiled_line, valid_line, play_status};
-ghost use Rattle.keyman_tool.specs.Orders.{bytes_play_work, compile_work, play_work, tables_play_work, test_work, verify_work, work_of};
+ghost use Rattle.keyman_tool.specs.Endings.{asked, ends, compiled_line, sound_line, valid_line, play_status};
+ghost use Rattle.keyman_tool.specs.Orders.{bytes_play_work, compile_work, layout_work, play_work, tables_layout_work, tables_play_work, test_work, verify_work, work_of};
 ghost use Rattle.keyman_tool.specs.Inputs.{tables_of_file};
 ghost use Rattle.keyman_tool.specs.Reasons.{reason_line};
 ghost use Rattle.keyman_tool.specs.Run.{Does, FaultCounts, FileMeans, Leaves};
@@ -16,6 +16,7 @@ ghost use Rattle.keyman_tool.specs.Steps.{IsCompiled, Tells, TellsFile, TellsSto
 
 use crate::command::{Command, command_of};
 use crate::file_lines::valid_line;
+use crate::layouts::{read_keys, sound_line};
 use crate::lines::{compiled_line, reason_line};
 use crate::playing::play;
 use crate::preparing::{Prepared, Stop, prepare, read_and_compile, read_file, read_own_entries};
@@ -26,7 +27,7 @@ use kmn_base::Text;
 use kmn_compiler::Compiled;
 use kmn_outside::{Folder, Sink, WriteError};
 use kmx_verifier::{Verified, VerifyError, verify};
-use rule_model::Entry;
+use rule_model::{Entry, Tables};
 use std::alloc::Global;
 
 /// Runs the command that the words are, over a folder and a sink. The order of its work is `work_of` of the words.
@@ -53,6 +54,9 @@ pub fn run<F: Folder, S: Sink>(alloc: Global, words: &[Text], folder: &mut F, ou
         Some(Command::Test { source, file, keys }) => test(alloc, source, file, keys, folder, out),
         Some(Command::Verify { file }) => verify_file(alloc, file, folder, out),
         Some(Command::Play { file, keys }) => play_on_file(alloc, file, keys, folder, out),
+        Some(Command::Layout { source, layout }) => {
+            check_layout(alloc, source, layout, folder, out)
+        }
         None => Status::Words,
     }
 }
@@ -184,6 +188,52 @@ fn play_on_valid<'a, F: Folder, S: Sink>(
     match read_own_entries(alloc, file, keys, folder) {
         Ok(entries) => tell_played(alloc, file, entries.as_slice(), out),
         Err(stop) => tell_stop(alloc, stop, out),
+    }
+}
+
+/// Compiles a source, checks a touch layout against its tables, and prints the count of the layout's keys.
+fn check_layout<F: Folder, S: Sink>(
+    alloc: Global,
+    source: &[u8],
+    layout: &[u8],
+    folder: &mut F,
+    out: &mut S,
+) -> Status
+    ensures { Does (layout_work source.now layout.now) F.Folder folder.old folder.new S.Sink out.old out.new result }
+{
+    match read_and_compile(alloc, source, folder) {
+        Ok(compiled) => check_beside(alloc, &compiled.tables, layout, folder, out),
+        Err(stop) => tell_stop(alloc, stop, out),
+    }
+}
+
+/// Reads a touch layout and checks it against tables, and prints the count of its keys.
+fn check_beside<F: Folder, S: Sink>(
+    alloc: Global,
+    tables: &Tables,
+    layout: &[u8],
+    folder: &mut F,
+    out: &mut S,
+) -> Status
+    ensures { Does (tables_layout_work tables.now layout.now) F.Folder folder.old folder.new S.Sink out.old out.new result }
+{
+    match read_keys(alloc, layout, tables, folder) {
+        Ok(count) => tell_sound(alloc, count, out),
+        Err(stop) => tell_stop(alloc, stop, out),
+    }
+}
+
+/// Prints the count of the keys of a layout.
+#[tactic(auto, using(crate::proofs::PrintingLaws::none_begun))]
+fn tell_sound<S: Sink>(alloc: Global, count: u32, out: &mut S) -> Status
+    ensures { Tells Status.Done (sound_line count) S.Sink out.old out.new result }
+{
+    let Ok(line) = sound_line(alloc, count) else {
+        return Status::Memory;
+    };
+    match put_all(out, line.as_slice()) {
+        Ok(()) => Status::Done,
+        Err(error) => write_status(error),
     }
 }
 

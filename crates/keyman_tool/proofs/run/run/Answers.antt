@@ -1,6 +1,6 @@
 use Rattle.std.proofs.Common.{◌≡◌, Option, Some, rules}
 use Rattle.keyman_tool.specs.Command.{Request, request_of}
-use Rattle.keyman_tool.specs.Command.Request.{Compile, Play, Test, Verify}
+use Rattle.keyman_tool.specs.Command.Request.{Compile, Layout, Play, Test, Verify}
 use Rattle.keyman_tool.proofs.MeaningLaws.{run_asks, run_means}
 use Rattle.keyman_tool.proofs.run.run.Goals as goal
 
@@ -51,3 +51,15 @@ returns-in-Some-Play-clause-means g c =
     let request : Option Request = Some (Play c.in-Some-Play.file.now c.in-Some-Play.keys.now) in
     let is : request ≡ request_of c.args.words.now = search rules in
     run_means request (request_of c.args.words.now) g.F.Folder _ _ g.S.Sink _ _ c.play_on_file.result is c.play_on_file.ensures
+
+pub returns-in-Some-Layout-clause-asked : goal.returns-in-Some-Layout-clause-asked
+returns-in-Some-Layout-clause-asked g c =
+    let request : Option Request = Some (Layout c.in-Some-Layout.source.now c.in-Some-Layout.layout.now) in
+    let is : request ≡ request_of c.args.words.now = search rules in
+    run_asks request (request_of c.args.words.now) g.F.Folder _ _ g.S.Sink _ _ c.check_layout.result is c.check_layout.ensures
+
+pub returns-in-Some-Layout-clause-means : goal.returns-in-Some-Layout-clause-means
+returns-in-Some-Layout-clause-means g c =
+    let request : Option Request = Some (Layout c.in-Some-Layout.source.now c.in-Some-Layout.layout.now) in
+    let is : request ≡ request_of c.args.words.now = search rules in
+    run_means request (request_of c.args.words.now) g.F.Folder _ _ g.S.Sink _ _ c.check_layout.result is c.check_layout.ensures
