@@ -18,6 +18,8 @@ mod own_keys;
 mod page;
 mod source_names;
 mod system;
+#[cfg(test)]
+mod tests;
 mod text;
 mod used;
 mod writing;
