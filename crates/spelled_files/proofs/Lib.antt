@@ -1,5 +1,6 @@
 pub mod ApartNames
 pub mod CalledNames
+pub mod CalledOptions
 pub mod CompiledOrder
 pub mod KnownNames
 pub mod Meaning
@@ -9,8 +10,10 @@ pub mod SpelledKeys
 pub mod SpelledPrograms
 pub mod SpelledRules
 pub mod StatedNames
+pub mod StoreCodes
 pub mod TameNames
 pub mod UnpassedLimits
 pub mod UnrefusedNames
 pub mod UnrefusedRules
+pub mod UnrefusedStores
 pub mod WrittenOut

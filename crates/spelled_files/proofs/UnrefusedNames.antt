@@ -74,7 +74,7 @@ fresh-at taken zero (suc k) (name ∷ names) f less before = record { free = f.0
 fresh-at taken (suc i) zero (name ∷ names) f less before = absurd (omega arith)
 fresh-at taken (suc i) (suc k) (name ∷ names) f less before = fresh-at taken i k names f.2 (omega arith) (omega arith)
 
-some-at : (taken : List (List ℕ)) (i : ℕ) (names : List (List ℕ)) → AreFree taken names → i < length names → same_name (unwrap_or (slice_get names i) []) [] ≡ false
+pub some-at : (taken : List (List ℕ)) (i : ℕ) (names : List (List ℕ)) → AreFree taken names → i < length names → same_name (unwrap_or (slice_get names i) []) [] ≡ false
 some-at taken i [] f less = absurd (omega arith)
 some-at taken zero (name ∷ names) f less = f.0.some
 some-at taken (suc i) (name ∷ names) f less = some-at taken i names f.2 (omega arith)
@@ -176,25 +176,25 @@ apart-from before (x ∷ names) d h = (none-before before h, apart-from (before 
     tails (b ∷ bs) h = (h.0.1, tails bs h.1)
 
 module _ (tables : Tables) (can : IsPlayable tables) (said : IsSayable tables) (written : CanBeWrittenOut tables) (texts : HasTextNames tables) where
-  abbrev names : Names
+  abbrev pub names : Names
   names = names_for tables
 
-  abbrev taken : List (List ℕ)
+  abbrev pub taken : List (List ℕ)
   taken = map own_name tables.stores
 
-  abbrev front_count : ℕ
+  abbrev pub front_count : ℕ
   front_count = length (mark_stores tables ++ key_stores tables)
 
   small : 1 + (length tables.stores + 2 + length taken) < 2 ^ 64
   small = let most = can.store_count in let same = length-map tables.stores own_name in omega (arith, most, same)
 
-  free-all : AreFree taken (free_stores tables)
+  pub free-all : AreFree taken (free_stores tables)
   free-all = free_names-free 115 [] taken (length tables.stores + 2) small
 
-  free-size : length (free_stores tables) ≡ length tables.stores + 2
+  pub free-size : length (free_stores tables) ≡ length tables.stores + 2
   free-size = free_names-count (115 ∷ []) taken (length tables.stores + 2) small
 
-  marks-few : length (mark_stores tables) ≤ 1
+  pub marks-few : length (mark_stores tables) ≤ 1
   marks-few = few-marks (unwrap_or (slice_get (free_stores tables) 0) []) (greatest_mark tables)
 
   keys-few : length (key_stores tables) ≤ 1
@@ -206,26 +206,26 @@ module _ (tables : Tables) (can : IsPlayable tables) (said : IsSayable tables) (
   behind-size : length tables.stores ≤ length (drop front_count (free_stores tables))
   behind-size = let size = free-size in let few = front-few in let l = length-drop front_count (free_stores tables) in omega (arith, size, few, l)
 
-  apart : AreApart names.stores
+  pub apart : AreApart names.stores
   apart = names_apart (named_stores tables) taken (drop front_count (free_stores tables)) [] 0 tables.stores (drop-free taken front_count (free_stores tables) free-all) behind-size (all-taken tables.stores)
 
   -- a front name that is used is told apart from those behind
-  fresh-later : (i : ℕ) → i < front_count → Later names.stores (unwrap_or (slice_get (free_stores tables) i) [])
+  pub fresh-later : (i : ℕ) → i < front_count → Later names.stores (unwrap_or (slice_get (free_stores tables) i) [])
   fresh-later i less some =
       let fresh = fresh-at taken i front_count (free_stores tables) free-all (let size = free-size in let few = front-few in omega (arith, size, few, less)) less in
       later (unwrap_or (slice_get (free_stores tables) i) []) (named_stores tables) (drop front_count (free_stores tables)) [] 0 tables.stores fresh.some fresh.others
       (inr (free-differs taken (unwrap_or (slice_get (free_stores tables) i) []) tables.stores fresh.free (all-taken tables.stores)))
 
-  one-mark : (name : List ℕ) (count : ℕ) → nat_eq count 0 ≡ false → length (mark_store name count) ≡ 1
+  pub one-mark : (name : List ℕ) (count : ℕ) → nat_eq count 0 ≡ false → length (mark_store name count) ≡ 1
   one-mark name count e = ap (λ (t : Bool). length (if t then [] else stated_marks name count ∷ [])) e
 
-  abbrev mark_name : List ℕ
+  abbrev pub mark_name : List ℕ
   mark_name = unwrap_or (slice_get (free_stores tables) 0) []
 
-  abbrev key_name : List ℕ
+  abbrev pub key_name : List ℕ
   key_name = unwrap_or (slice_get (free_stores tables) (length (mark_stores tables))) []
 
-  sizes-join : front_count ≡ length (mark_stores tables) + length (key_stores tables)
+  pub sizes-join : front_count ≡ length (mark_stores tables) + length (key_stores tables)
   sizes-join = length-append (mark_stores tables) (key_stores tables)
 
   front-names : (stated : Stated) → IsFront stated names.stores ([] ∷ []) (numbered 2 (mark_stores tables ++ key_stores tables))
@@ -247,7 +247,7 @@ module _ (tables : Tables) (can : IsPlayable tables) (said : IsSayable tables) (
   abbrev behind : List StoreDef
   behind = back_stores names (1 + length (front_stores tables)) names.stores tables.stores
 
-  calls : AreNamed (named_stores tables) 0 names.stores tables.stores
+  pub calls : AreNamed (named_stores tables) 0 names.stores tables.stores
   calls = calls_named tables can said written texts
 
   no-store-refused : (stated : Stated) → first_of (store_refusal stated) [] (written_stores tables) ≡ None

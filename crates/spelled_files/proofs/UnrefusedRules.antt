@@ -54,7 +54,7 @@ no-broken code true rows e f = absurd (cc)
 no-broken code false rows e f = f
 
 -- nothing is refused of statements that are refused behind no others
-none_of_all : {X : Type 0} (refusal : List X → X → Option Refusal) (P : X → Type 0) → ((before : List X) (x : X) → P x → refusal before x ≡ None)
+pub none_of_all : {X : Type 0} (refusal : List X → X → Option Refusal) (P : X → Type 0) → ((before : List X) (x : X) → P x → refusal before x ≡ None)
     → (before xs : List X) → AllByRecursion P xs → first_of refusal before xs ≡ None
 none_of_all refusal P each before [] h = refl
 none_of_all refusal P each before (x ∷ xs) h =

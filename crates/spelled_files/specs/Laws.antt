@@ -12,7 +12,7 @@ use Rattle.rule_model.specs.Tab.{tab}
 use Rattle.rule_model.specs.Trace.{trace}
 use Rattle.store_table.specs.First.{first_of}
 use Rattle.store_table.specs.Names.{names_refusal}
-use Rattle.rule_checker.specs.Items.{known, rules_refusal}
+use Rattle.rule_checker.specs.Items.{known, rules_refusal, items_refusal}
 use Rattle.rule_checker.specs.Refused.{refused}
 use Rattle.kmx_format.specs.File.{file_of}
 use Rattle.kmx_format.specs.TablesOf.{tables_of}
@@ -46,6 +46,11 @@ SpelledNamesStand =
 -- no rule of the program that a valid file is written out as is refused for an item
 abbrev pub SpelledRulesStand : Type 0
 SpelledRulesStand = (bytes : List ℕ) → IsPlayable (tables_of bytes) → first_of (rules_refusal (known (back (tables_of bytes)))) [] (back (tables_of bytes)).groups ≡ None
+
+-- no item of its stores and rules is refused, and no store for what it is
+abbrev pub SpelledItemsStand : Type 0
+SpelledItemsStand =
+    (bytes : List ℕ) → IsPlayable (tables_of bytes) → HasTextNames (tables_of bytes) → unspelled bytes ≡ None → items_refusal (back (tables_of bytes)) ≡ None
 
 -- the records of a file that a program compiles to stand in an order that a text can keep
 abbrev pub CompiledIsInOrder : Type 0

@@ -1,4 +1,4 @@
-ghost use Rattle.spelled_files.specs.Laws.{CompiledIsInOrder, SpelledCanBeWrittenOut, SpelledIsSpelled, SpelledNamesStand, SpelledRulesStand, TextKeepsMeaning};
+ghost use Rattle.spelled_files.specs.Laws.{CompiledIsInOrder, SpelledCanBeWrittenOut, SpelledIsSpelled, SpelledItemsStand, SpelledNamesStand, SpelledRulesStand, TextKeepsMeaning};
 
 /// The tables of a valid file that has a text can be written out as a program that means the same.
 #[tactic(auto, using(crate::proofs::WrittenOut::spelled_written_out))]
@@ -31,4 +31,9 @@ pub fn spelled_names_stand()
 /// No rule of the program that a valid file is written out as is refused for an item.
 pub fn spelled_rules_stand()
     ensures { SpelledRulesStand }
+{}
+
+/// No store and no rule of the program of a file that has a text is refused for an item, or for what it is.
+pub fn spelled_items_stand()
+    ensures { SpelledItemsStand }
 {}

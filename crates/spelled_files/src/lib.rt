@@ -8,7 +8,7 @@ mod laws;
 mod no_spelling;
 
 pub use laws::{
-    compiled_is_in_order, spelled_can_be_written_out, spelled_is_spelled, spelled_names_stand,
-    spelled_rules_stand, text_keeps_meaning,
+    compiled_is_in_order, spelled_can_be_written_out, spelled_is_spelled, spelled_items_stand,
+    spelled_names_stand, spelled_rules_stand, text_keeps_meaning,
 };
 pub use no_spelling::NoSpelling;
