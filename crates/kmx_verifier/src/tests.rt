@@ -2,7 +2,7 @@
 
 use crate::{Fault, VerifyError, verify};
 use kmn_base::{Code, RuleKey};
-use rule_model::Out;
+use rule_model::{Group, Out};
 use std::alloc::{AllocError, Global};
 use std::test::Fail;
 
@@ -141,49 +141,58 @@ fn given(alloc: Global, bytes: &[u8]) -> Result<String, AllocError> {
     }
 }
 
-#[test]
-fn changed_files(rt: HostRuntime) -> Result<(), Fail> {
-    for line in CHANGES.lines() {
-        let (changes, wanted) = line.split_once("> ").unwrap_or((line, ""));
-        let file = changed(rt.alloc(), changes)?;
-        let text = given(rt.alloc(), file.as_slice())?;
-        assert_eq!(rt; text.as_str(), wanted);
-    }
-    Ok(())
+/// Whether verifying a changed file gives what its line says.
+fn is_right(alloc: Global, line: &str) -> Result<bool, Fail> {
+    let (changes, wanted) = line.split_once("> ").unwrap_or((line, ""));
+    let file = changed(alloc, changes)?;
+    Ok(given(alloc, file.as_slice())?.as_str() == wanted)
 }
 
-#[test]
-fn tables_of_files(rt: HostRuntime) -> Result<(), Fail> {
-    let file = verify(rt.alloc(), &TWO_KEYS)?;
-    assert_eq!(rt;
-        (file.bytes(), file.tables().stores.len()),
-        (TWO_KEYS.as_slice(), 2)
-    );
-    assert_eq!(rt; (file.is_option(0), file.is_option(2)), (false, false));
-    let outputs = [(0x4000, 'x'), (0x4010, 'y')];
-    for group in file.tables().groups.as_slice() {
-        for (rule, (flags, c)) in group.rules.as_slice().iter().zip(outputs.iter()) {
-            let key = RuleKey::Virtual {
-                flags: *flags,
-                code: 0x41,
-            };
-            assert_eq!(rt; (rule.line, rule.key), (5, key));
-            assert_eq!(rt; rule.output.as_slice(), [Out::Char(*c)].as_slice());
-        }
-    }
-    Ok(())
+/// Whether the records of a group of the file of two keys put these characters, for A with these flags.
+fn are_records(group: &Group, outputs: &[(u32, char)]) -> bool {
+    group.rules.len() == outputs.len()
+        && group.rules.as_slice().iter().zip(outputs).all(|(rule, row)| {
+            rule.line == 5
+                && rule.key
+                    == RuleKey::Virtual {
+                        flags: row.0,
+                        code: 0x41,
+                    }
+                && rule.output.as_slice() == [Out::Char(row.1)].as_slice()
+        })
 }
 
-#[test]
-fn error_texts(rt: HostRuntime) -> Result<(), Fail> {
+/// Whether the tables of the file of two keys are what it says.
+fn has_tables(alloc: Global) -> Result<bool, Fail> {
+    let file = verify(alloc, &TWO_KEYS)?;
+    let groups = file.tables().groups.as_slice();
+    Ok(
+        file.bytes() == TWO_KEYS.as_slice()
+            && file.tables().stores.len() == 2
+            && !file.is_option(0)
+            && !file.is_option(2)
+            && groups.iter().all(|group| are_records(group, &[(0x4000, 'x'), (0x4010, 'y')])),
+    )
+}
+
+/// Whether errors are printed as they should be.
+fn are_printed(alloc: Global) -> Result<bool, Fail> {
     let fault = Fault {
         code: Code::V10,
         at: 100,
         unit: 0,
     };
-    let refused = format!(in rt.alloc(); "{}", VerifyError::Refused(fault))?;
-    assert_eq!(rt; refused.as_str(), "refused V10 at 100");
-    let memory = format!(in rt.alloc(); "{}", VerifyError::Memory)?;
-    assert_eq!(rt; memory.as_str(), "out of memory");
+    let refused = format!(in alloc; "{}", VerifyError::Refused(fault))?;
+    let memory = format!(in alloc; "{}", VerifyError::Memory)?;
+    Ok(refused.as_str() == "refused V10 at 100" && memory.as_str() == "out of memory")
+}
+
+#[test]
+fn files(rt: HostRuntime) -> Result<(), Fail> {
+    for line in CHANGES.lines() {
+        assert!(rt; is_right(rt.alloc(), line)?, "{line}");
+    }
+    assert!(rt; has_tables(rt.alloc())?);
+    assert!(rt; are_printed(rt.alloc())?);
     Ok(())
 }

@@ -3,7 +3,6 @@ use kmn_base::{Item, KeyPress, Memory, Outcome, RuleKey, Seq};
 use rule_model::{Group, Out, Pat, Rule, Tables};
 use std::alloc::Global;
 use std::fmt::Write;
-use std::process::Abort;
 use std::test::Fail;
 use virtual_keys::key_named;
 
@@ -84,31 +83,52 @@ fn shown(alloc: Global, outcome: Outcome, engine: &Engine) -> Result<String, Mem
     Ok(text)
 }
 
-/// Does one step on an engine and the text before the caret, which has to show what is wanted.
-fn played(
-    rt: &impl Abort,
+/// Reads another text before the caret; what the table writes of it.
+fn read_again(
+    alloc: Global,
+    engine: &mut Engine,
+    text: &mut Vec<char>,
+    new: &str,
+) -> Result<String, Fail> {
+    let mut line = String::new(alloc);
+    *text = new.chars().collect(alloc)?;
+    if text.len() < 0x1_0000_0000 {
+        engine.sync(alloc, text.as_slice())?;
+        show_context(&mut line, engine)?;
+    }
+    Ok(line)
+}
+
+/// Presses a key; what the table writes of it.
+fn pressed(
+    alloc: Global,
+    engine: &mut Engine,
+    text: &mut Vec<char>,
+    word: &str,
+) -> Result<String, Fail> {
+    let code = key_named(word.as_bytes()).unwrap_or(0);
+    if text.len() >= 0x1_0000_0000 {
+        return Ok(String::new(alloc));
+    }
+    let outcome = engine.key(alloc, text.as_slice(), KeyPress { code, mods: 0 })?;
+    text.truncate(text.len().saturating_sub(outcome.delete as usize));
+    text.extend_from_slice(engine.inserted())?;
+    Ok(shown(alloc, outcome, engine)?)
+}
+
+/// Does one step on an engine and the text before the caret; whether it shows what is wanted.
+fn shows(
     alloc: Global,
     engine: &mut Engine,
     text: &mut Vec<char>,
     step: &str,
-) -> Result<(), Fail> {
+) -> Result<bool, Fail> {
     let (word, wanted) = step.split_once(' ').unwrap_or((step, ""));
-    let mut line = String::new(alloc);
-    if let Some(new) = word.strip_prefix('=') {
-        *text = new.chars().collect(alloc)?;
-        assert!(rt; text.len() < 0x1_0000_0000);
-        engine.sync(alloc, text.as_slice())?;
-        show_context(&mut line, engine)?;
-    } else {
-        assert!(rt; text.len() < 0x1_0000_0000);
-        let code = key_named(word.as_bytes()).unwrap_or(0);
-        let outcome = engine.key(alloc, text.as_slice(), KeyPress { code, mods: 0 })?;
-        text.truncate(text.len().saturating_sub(outcome.delete as usize));
-        text.extend_from_slice(engine.inserted())?;
-        line = shown(alloc, outcome, engine)?;
-    }
-    assert_eq!(rt; line.as_str(), wanted);
-    Ok(())
+    let line = match word.strip_prefix('=') {
+        Some(new) => read_again(alloc, engine, text, new)?,
+        None => pressed(alloc, engine, text, word)?,
+    };
+    Ok(line.as_str() == wanted)
 }
 
 #[test]
@@ -120,7 +140,10 @@ fn worked_keyboards(rt: HostRuntime) -> Result<(), Fail> {
         let mut engine = Engine::of_tables(alloc, &tables)?;
         let mut text = Vec::new(alloc);
         for step in steps.split(" ; ") {
-            played(&rt, alloc, &mut engine, &mut text, step)?;
+            assert!(rt;
+                shows(alloc, &mut engine, &mut text, step)?,
+                "{records} {step}"
+            );
         }
     }
     Ok(())
