@@ -520,6 +520,69 @@ play a.kmx a.keys
 0
 1 del=0 ins=- pass=0 beep=0 ent=1 ctx=d5001~text -|-~end events=1 failed=0~"##;
 
+/// Runs that check touch layouts, which stand as the script.
+const LAYOUT_RUNS: &str = r##"layout a.kmn a.keys
+SAMPLE
+{"phone":{"font":"Sans","layer":[{"id":"default","row":[{"id":"1","key":[{"id":"K_A","text":"a","sk":[{"id":"U_00E1","text":"x"}]},{"id":"T_flip","text":"flip"},{"id":"K_SHIFT","text":"*Shift*","sp":"1","nextlayer":"shift"}]}]},{"id":"shift","row":[{"id":"1","key":[{"id":"K_A","text":"A"},{"id":"K_SHIFT","sp":"2","nextlayer":"default"},{"id":"T_pad","sp":"10","width":"50"}]}]}]}}
+0
+layout sound keys=7~
+layout a.kmn a.keys
+SAMPLE
+{"phone":{"font":"Sans","layer":[{"id":"default","row":[{"id":"1","key":[{"id":"K_A","text":"a","sk":[{"id":"U_00E1","text":"x"}]},{"id":"T_flop","text":"flip"},{"id":"K_SHIFT","text":"*Shift*","sp":"1","nextlayer":"shift"}]}]},{"id":"shift","row":[{"id":"1","key":[{"id":"K_A","text":"A"},{"id":"K_SHIFT","sp":"2","nextlayer":"default"},{"id":"T_pad","sp":"10","width":"50"}]}]}]}}
+1
+refused T5 platform 1 layer 1 row 1 key 2~
+layout a.kmn a.keys
+SAMPLE
+{"phone":{"font":"Sans","layer":[{"id":"default","row":[{"id":"1","key":[{"id":"K_A","text":"a","sk":[{"id":"U_00E1","text":"x"}]},{"id":"T_flip","text":"flip"},{"id":"K_SHIFT","text":"*Shift*","sp":"1","nextlayer":"numeric"}]}]},{"id":"shift","row":[{"id":"1","key":[{"id":"K_A","text":"A"},{"id":"K_SHIFT","sp":"2","nextlayer":"default"},{"id":"T_pad","sp":"10","width":"50"}]}]}]}}
+1
+refused T4 platform 1 layer 1 row 1 key 3~
+layout a.kmn a.keys
+SAMPLE
+{"phone":{"font":"Sans","layer":[{"id":"default","row":[{"id":"1","key":[{"id":"K_A","text":"a","sk":[{"id":"U_00E1","text":"x"}]},{"id":"T_flip","text":"flip"},{"id":"K_SHIFT","text":"*Shift*","sp":"1","nextlayer":"shift"}]}]},{"id":"default","row":[{"id":"1","key":[{"id":"K_A","text":"A"},{"id":"K_SHIFT","sp":"2","nextlayer":"default"},{"id":"T_pad","sp":"10","width":"50"}]}]}]}}
+1
+refused T6 platform 1 layer 2 row 0 key 0~
+layout a.kmn a.keys
+SAMPLE
+
+1
+refused T1 platform 0 layer 0 row 0 key 0~
+layout a.kmn a.keys
+SAMPLE
+{"phone":{"font":"Sans","layer":[{"id":"default","row":[{"id":"1","key":[{"id":"K_A","text":"a","flick":{"n":{"id":"K_ZZ"}},"sk":[{"id":"U_00E1","text":"x"}]},{"id":"T_flip","text":"flip"},{"id":"K_SHIFT","text":"*Shift*","sp":"1","nextlayer":"shift"}]}]},{"id":"shift","row":[{"id":"1","key":[{"id":"K_A","text":"A"},{"id":"K_SHIFT","sp":"2","nextlayer":"default"},{"id":"T_pad","sp":"10","width":"50"}]}]}]}}
+1
+refused T3 platform 1 layer 1 row 1 key 1~
+layout a.kmn a.keys
+SAMPLE
+{"phone":{"font":"Sans","layer":[{"id":"default","row":[{"id":"1","key":[{"id":"K_A","text":"a","sk":[{"id":"U_00E1","text":"x"}]},{"id":"T_flip","sk":{},"text":"flip"},{"id":"K_SHIFT","text":"*Shift*","sp":"1","nextlayer":"shift"}]}]},{"id":"shift","row":[{"id":"1","key":[{"id":"K_A","text":"A"},{"id":"K_SHIFT","sp":"2","nextlayer":"default"},{"id":"T_pad","sp":"10","width":"50"}]}]}]}}
+1
+refused T2 platform 1 layer 1 row 1 key 2~
+layout a.kmn a.keys
+@+ 'a' > 'b'~
+§{}
+0
+layout sound keys=0~
+layout a.kmn b.keys
+@+ 'a' > 'b'~
+
+3
+
+layout a.kmn b.keys
+
+
+1
+refused C01 line 1~
+layout a.kmn
+@+ 'a' > 'b'~
+
+2
+
+layout a.kmn a.keys
+@+ 'a' > 'b'~
+{}
+4 0 0 1
+
+"##;
+
 /// Runs on long inputs.
 const LONG_RUNS: &str = r##"test a.kmn out a.keys
 @+ 'a' > 'b'
@@ -800,6 +863,11 @@ fn check_runs(rt: &(impl Abort + Alloc<A = Global>), table: &str) -> Result<(), 
 #[test]
 fn runs(rt: HostRuntime) -> Result<(), Fail> {
     check_runs(&rt, RUNS)
+}
+
+#[test]
+fn layouts(rt: HostRuntime) -> Result<(), Fail> {
+    check_runs(&rt, LAYOUT_RUNS)
 }
 
 #[test]
