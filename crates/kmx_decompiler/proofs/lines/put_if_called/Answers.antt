@@ -1,9 +1,0 @@
-use Rattle.std.proofs.Common.{List, ℕ, Option, sym, ap, ◌∙◌}
-use Rattle.kmx_decompiler.specs.Pages.{with_text}
-use Rattle.kmx_decompiler.specs.Texts.{if_called}
-use Rattle.kmx_decompiler.proofs.MoreText.{with_no_text}
-use Rattle.kmx_decompiler.proofs.lines.put_if_called.Goals as goal
-
-pub returns-in-None : goal.returns-in-None
-returns-in-None c =
-    sym (ap (λ (called : Option (List ℕ)). with_text c.args.page.now (if_called c.args.names.now called c.args.store.now)) (sym c.in-None.ensures) ∙ with_no_text c.args.page.now)
