@@ -3,7 +3,6 @@
 use crate::text_of;
 use kmx_verifier::verify;
 use std::alloc::Global;
-use std::process::Abort;
 use std::test::Fail;
 
 /// The file of `+ 'a' > 'b'` in the group `main`.
