@@ -2,6 +2,8 @@ pub mod ApartNames
 pub mod CalledNames
 pub mod CalledOptions
 pub mod CompiledOrder
+pub mod CountedSizes
+pub mod FewItems
 pub mod KnownNames
 pub mod Meaning
 pub mod Sayable

@@ -1,0 +1,155 @@
+-- What the limits count of the program that tables are written out as is what the stores have that it compiles to.
+use Rattle.std.proofs.Common.{◌≡◌, ℕ, ◌≤◌, Bool, true, false, List, [], ◌∷◌, ◌++◌, length, map, None, refl, sym, ◌∙◌, ap, subst, arith}
+use Rattle.std.specs.Prelude.{All, ◌+◌, ◌||◌, flat_map, nat_lt, sum}
+use Rattle.std.specs.List.{list_any, AllByRecursion, join_with_byte}
+use Rattle.std.specs.Str.{bytes_eq, chars}
+use Rattle.std.proofs.lemmas.Bool.Decides.{nat_tests}
+use Rattle.std.proofs.lemmas.List.{length-map, map-append}
+use Rattle.std.proofs.lemmas.List.Concat.{flat_map-append, length-flat_map}
+use Rattle.std.proofs.lemmas.List.Sums.{sum-map}
+use Rattle.kmn_base.specs.declared.items.Element.TheVariants as element
+use Rattle.kmn_base.specs.declared.limits.TheConstants.{STORE_ELEMENTS, ALL_ELEMENTS, STORES}
+use Rattle.kmn_base.specs.Names.{same_name}
+use Rattle.kmn_parser.specs.ProgramLaws.{IsOwnKey}
+use Rattle.rule_model.specs.declared.program.SrcItem.{SrcItem}
+use Rattle.rule_model.specs.declared.program.StoreDef.{StoreDef}
+use Rattle.rule_model.specs.declared.program.RuleDef.{RuleDef}
+use Rattle.rule_model.specs.declared.program.Program.{Program}
+use Rattle.rule_model.specs.declared.tables.Store.{Store}
+use Rattle.rule_model.specs.declared.tables.Tables.{Tables}
+use Rattle.rule_model.specs.Tab.{distinct_onto}
+use Rattle.rule_model.specs.Naming.{names_of, stores_of, store_of, is_dropped, rule_items, source_items, stores_before, stores_after, all_rules, key_names}
+use Rattle.compile_laws.specs.Numbers.{item_values, values_of, value_store, dictionary_stores, compiled_stores}
+use Rattle.kmx_format.specs.Writable.{elements_of}
+use Rattle.kmx_format.specs.Playable.{IsPlayable}
+use Rattle.rule_checker.specs.Items.{Known, known, statement_elements}
+use Rattle.rule_checker.specs.Limits.{Statement, OfStore, OfRule, in_line_order, items_of, values_of_statement, statement_size, store_size, dictionary_size, sizes, have_many_elements, limits_refusal}
+use Rattle.rule_checker.specs.Refused.{IsRead}
+use Rattle.checker_laws.proofs.Sizes.{element_count, items_in_order, parted, joined_size}
+use Rattle.checker_laws.proofs.Reading.{own_keys_read}
+use Rattle.decompile_laws.specs.Names.{named_stores}
+use Rattle.decompile_laws.specs.Back.{back_stores, numbered, front_stores, names_for, written_stores, back}
+use Rattle.decompile_laws.specs.WrittenOut.{CanBeWrittenOut}
+use Rattle.decompile_laws.proofs.Linking.{IsSimple, stores-mapped}
+use Rattle.decompile_laws.proofs.Calls.{back-simple}
+use Rattle.decompile_laws.proofs.Stores.{the-calls}
+use Rattle.decompile_laws.proofs.FrontStores.{front-simple, numbered-simple}
+use Rattle.decompile_laws.proofs.Choosing.{choose-else, all_join}
+use Rattle.spelled_files.specs.Excess.{store_count, element_count as text_elements}
+use Rattle.spelled_files.proofs.Sayable.{IsSayable}
+use Rattle.spelled_files.proofs.FewItems.{statements, all_short, records_few, groups_few, marks_few}
+use Rattle.spelled_files.proofs.UnpassedLimits.{KeepsLimits, no_limit_passed}
+use Rattle.spelled_files.proofs.UnrefusedRules.{no-earlier}
+
+not-passed : (limit n : ℕ) → n ≤ limit → nat_lt limit n ≡ false
+not-passed limit n h = grind (arith, nat_tests, h)
+
+-- what is gathered from statements in the order of their lines, of rules alone and of stores alone
+module _ {Y : Type 0} (f : Statement → List Y) where
+  of-stores : (g : StoreDef → List Y) → ((s : StoreDef) → f (OfStore s) ≡ g s) → (stores : List StoreDef) → flat_map f (map OfStore stores) ≡ flat_map g stores
+  of-stores g same [] = refl
+  of-stores g same (s ∷ stores) = λ j. same s j ++ of-stores g same stores j
+
+  no-stores : ((s : StoreDef) → f (OfStore s) ≡ []) → (stores : List StoreDef) → flat_map f (map OfStore stores) ≡ []
+  no-stores none [] = refl
+  no-stores none (s ∷ stores) = λ j. none s j ++ no-stores none stores j
+
+  stores-alone : (g : StoreDef → List Y) → ((s : StoreDef) → f (OfStore s) ≡ g s) → ((r : RuleDef) → f (OfRule r) ≡ []) → (stores : List StoreDef) (rules : List RuleDef)
+      → flat_map f (in_line_order stores rules) ≡ flat_map g stores
+  stores-alone g same none stores [] = of-stores g same stores
+  stores-alone g same none stores (rule ∷ rules) =
+      flat_map-append f (map OfStore (stores_before rule.line stores)) (OfRule rule ∷ in_line_order (stores_after rule.line stores) rules)
+      ∙ (λ j. of-stores g same (stores_before rule.line stores) j ++ (none rule j ++ stores-alone g same none (stores_after rule.line stores) rules j))
+      ∙ sym (flat_map-append g (stores_before rule.line stores) (stores_after rule.line stores))
+      ∙ ap (flat_map g) (parted rule.line stores)
+
+values-in-order : (stores : List StoreDef) (rules : List RuleDef) → flat_map values_of_statement (in_line_order stores rules) ≡ flat_map item_values (flat_map rule_items rules)
+values-in-order stores [] = no-stores values_of_statement (λ s. refl) stores
+values-in-order stores (rule ∷ rules) =
+    flat_map-append values_of_statement (map OfStore (stores_before rule.line stores)) (OfRule rule ∷ in_line_order (stores_after rule.line stores) rules)
+    ∙ (λ j. no-stores values_of_statement (λ s. refl) (stores_before rule.line stores) j ++ (flat_map item_values (rule_items rule) ++ values-in-order (stores_after rule.line stores) rules j))
+    ∙ sym (flat_map-append item_values (rule_items rule) (flat_map rule_items rules))
+
+-- stores that name no other store have the sizes that are counted
+stores-sized : (facts : Known) (stores : List StoreDef) → AllByRecursion (IsSimple facts.names) stores → flat_map (store_size facts) stores ≡ map element_count (map (store_of facts.names []) stores)
+stores-sized facts [] h = refl
+stores-sized facts (s ∷ stores) h =
+    λ j. (choose-else (is_dropped s) [] (length (statement_elements facts s) ∷ []) h.0.0 ∙ ap (λ (t : Store). length t.elements ∷ []) (h.0.1 facts.stores)) j
+    ++ stores-sized facts stores h.1 j
+
+dictionary-sized : (keys : List (List ℕ)) → All IsOwnKey keys → dictionary_size keys ≡ map element_count (dictionary_stores keys)
+dictionary-sized [] own = refl
+dictionary-sized (name ∷ names) own =
+    ap (λ (n : ℕ). n ∷ []) (sym (length-map (chars (join_with_byte 32 (name ∷ names))) element.Char ∙ joined_size name names own))
+
+values-sized : (values : List (List ℕ)) → map length values ≡ map element_count (map value_store values)
+values-sized [] = refl
+values-sized (value ∷ values) = λ j. sym (length-map value element.Char) j ∷ values-sized values j
+
+module _ (tables : Tables) (can : IsPlayable tables) (out : CanBeWrittenOut tables) where
+  abbrev program : Program
+  program = back tables
+
+  simple : AllByRecursion (IsSimple (names_of program)) (written_stores tables)
+  simple =
+      all_join (IsSimple (names_of program)) (numbered 1 (front_stores tables)) (back_stores (names_for tables) (1 + length (front_stores tables)) (names_for tables).stores tables.stores)
+      (numbered-simple (names_of program) 1 (front_stores tables) (front-simple (names_of program) tables))
+      (back-simple (names_of program) (names_for tables) (named_stores tables) (1 + length (front_stores tables)) 0 (names_for tables).stores tables.stores (the-calls tables can out))
+
+  stores-counted : flat_map (statement_size (known program)) (statements tables can) ≡ map element_count (stores_of program)
+  unfolding known stores_of back
+  stores-counted =
+      stores-alone (statement_size (known program)) (store_size (known program)) (λ s. refl) (λ r. refl) (written_stores tables) (all_rules program)
+      ∙ stores-sized (known program) (written_stores tables) simple
+      ∙ ap (map element_count) (sym (stores-mapped (names_of program) [] (written_stores tables) simple))
+
+  pub counted_sizes : IsRead program → sizes (known program) (statements tables can) ≡ map element_count (compiled_stores program)
+  unfolding names_of values_of
+  counted_sizes read =
+      let all = statements tables can in
+      let items : flat_map items_of all ≡ source_items program = items_in_order program.stores (all_rules program) in
+      let keys : distinct_onto same_name [] (flat_map key_names (flat_map items_of all)) ≡ (names_of program).keys = ap (λ (xs : List SrcItem). distinct_onto same_name [] (flat_map key_names xs)) items in
+      let values : distinct_onto bytes_eq [] (flat_map values_of_statement all) ≡ values_of program = ap (distinct_onto bytes_eq []) (values-in-order program.stores (all_rules program)) in
+      (λ j. stores-counted j ++ (dictionary_size (keys j) ++ map length (values j)))
+      ∙ (λ j. map element_count (stores_of program) ++ (dictionary-sized (names_of program).keys (own_keys_read program read.statements) j ++ values-sized (values_of program) j))
+      ∙ sym (map-append element_count (stores_of program) (dictionary_stores (names_of program).keys ++ map value_store (values_of program))
+      ∙ ap (λ (ns : List ℕ). map element_count (stores_of program) ++ ns) (map-append element_count (dictionary_stores (names_of program).keys) (map value_store (values_of program))))
+
+  -- all limits are kept, where no store that it compiles to has too many elements
+  abbrev pub AreShortStores : Type 0
+  AreShortStores = list_any (nat_lt STORE_ELEMENTS) (map element_count (compiled_stores program)) ≡ false
+
+  both-none : (a b : Bool) → a ≡ false → b ≡ false → (a || b) ≡ false
+  both-none true b e f = absurd (cc)
+  both-none false b e f = f
+
+  few-stores : IsSayable tables → length (compiled_stores program) ≤ STORES
+  unfolding store_count
+  few-stores said = said.small.stores
+
+  few-elements : IsSayable tables → length (flat_map elements_of (compiled_stores program)) ≤ ALL_ELEMENTS
+  unfolding text_elements
+  few-elements said = said.small.elements
+
+  pub keeps_limits : IsSayable tables → IsRead program → AreShortStores → KeepsLimits (known program) (statements tables can)
+  keeps_limits said read short =
+      let counted = counted_sizes read in
+      let stores = few-stores said in
+      let elements = few-elements said in
+      let l = ap length counted in
+      let m = length-map (compiled_stores program) element_count in
+      let total = sum-map element_count (compiled_stores program) in
+      let flat = length-flat_map elements_of (compiled_stores program) in
+      record {
+        elements = subst (λ (ns : List ℕ). have_many_elements ns ≡ false) (sym counted)
+            (both-none (list_any (nat_lt STORE_ELEMENTS) (map element_count (compiled_stores program))) (nat_lt ALL_ELEMENTS (sum (map element_count (compiled_stores program)))) short
+            (not-passed ALL_ELEMENTS (sum (map element_count (compiled_stores program))) (omega (arith, elements, total, flat))));
+        stores = omega (arith, stores, l, m);
+        marks = marks_few tables can said out;
+        records = records_few tables can;
+      }
+
+  pub limits_unpassed : IsSayable tables → IsRead program → AreShortStores → limits_refusal program ≡ None
+  unfolding limits_refusal
+  limits_unpassed said read short =
+      no-earlier _ _ (no_limit_passed (known program) [] (statements tables can) (keeps_limits said read short) (all_short tables can)) (groups_few tables can)
