@@ -18,4 +18,5 @@ pub mod UnpassedLimits
 pub mod UnrefusedNames
 pub mod UnrefusedRules
 pub mod UnrefusedStores
+pub mod UnrefusedTexts
 pub mod WrittenOut
