@@ -7,6 +7,7 @@ pub mod FewItems
 pub mod KnownNames
 pub mod Meaning
 pub mod Sayable
+pub mod ShortValues
 pub mod SpelledItems
 pub mod SpelledKeys
 pub mod SpelledPrograms
