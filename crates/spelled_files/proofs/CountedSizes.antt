@@ -87,10 +87,10 @@ values-sized [] = refl
 values-sized (value ∷ values) = λ j. sym (length-map value element.Char) j ∷ values-sized values j
 
 module _ (tables : Tables) (can : IsPlayable tables) (out : CanBeWrittenOut tables) where
-  abbrev program : Program
+  abbrev pub program : Program
   program = back tables
 
-  simple : AllByRecursion (IsSimple (names_of program)) (written_stores tables)
+  pub simple : AllByRecursion (IsSimple (names_of program)) (written_stores tables)
   simple =
       all_join (IsSimple (names_of program)) (numbered 1 (front_stores tables)) (back_stores (names_for tables) (1 + length (front_stores tables)) (names_for tables).stores tables.stores)
       (numbered-simple (names_of program) 1 (front_stores tables) (front-simple (names_of program) tables))

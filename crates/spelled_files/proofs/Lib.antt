@@ -7,6 +7,8 @@ pub mod FewItems
 pub mod KnownNames
 pub mod Meaning
 pub mod Sayable
+pub mod ShortStores
+pub mod ShortTexts
 pub mod ShortValues
 pub mod SpelledItems
 pub mod SpelledKeys
