@@ -34,8 +34,13 @@ mixed_program : Program
 mixed_program = record {
   stores =
       record { line = 1; system = 0; name = codes "s1"; items = source.Dead (codes "1") ∷ source.Dead (codes "2") ∷ [] }
-      ∷ record { line = 2; system = 0; name = codes "k"; items = source.Char 0x61 ∷ source.Key (record { flags = 0x4010; code = 65; name = [] })
-      ∷ source.Key (record { flags = 0x4000; code = 0; name = codes "T_x" }) ∷ [] }
+      ∷ record {
+        line = 2;
+        system = 0;
+        name = codes "k";
+        items = source.Char 0x61 ∷ source.Key (record { flags = 0x4010; code = 65; name = [] })
+            ∷ source.Key (record { flags = 0x4000; code = 0; name = codes "T_x" }) ∷ [];
+      }
       ∷ record { line = 3; system = 1; name = []; items = source.Char 0x61 ∷ [] } ∷ record { line = 4; system = 0; name = codes "U+0041"; items = [] } ∷ [];
   begins = record { line = 5; unicode = true; group = codes "main" } ∷ record { line = 6; unicode = false; group = codes "other" } ∷ [];
   groups =

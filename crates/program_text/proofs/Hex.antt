@@ -33,7 +33,7 @@ digit-byte byte low high e f g h k =
     let plain = in_word-plain byte 0 (in_word-far byte 0 low e f g k) in
     record {
       safe = and_from _ _ (and_from _ _ (ap not (or-both _ _ (or-both _ _ plain.blank plain.quote) plain.alone))
-      (ap not (or-both _ _ (ne_eqb byte 10 (omega arith)) (ne_eqb byte 13 (omega arith))))) (ap not (ne_eqb byte 92 h));
+          (ap not (or-both _ _ (ne_eqb byte 10 (omega arith)) (ne_eqb byte 13 (omega arith))))) (ap not (ne_eqb byte 92 h));
       ascii = and_from _ _ (lt-ltb 0 byte (omega arith)) (lt-ltb byte 128 (omega arith));
     }
 
@@ -79,6 +79,7 @@ glyph-digit n h = elim (cases_lt n 10) [
 ] where
   ltb-no : (n : ℕ) → 10 ≤ n → nat_lt n 10 ≡ false
   ltb-no n g = grind (arith, g)
+
   and-no : (a b : Bool) → b ≡ false → (a && b) ≡ false
   and-no true b e = e
   and-no false b e = refl
@@ -112,9 +113,9 @@ forbidden-not byte bytes e =
     let high : byte < 128 = ltb-true byte 128 two.1 in
     or-both _ _ (ne_eqb byte 0 (omega arith)) (and-no _ _ (ne_eqb 239 byte (omega arith)))
   where
-  and-no : (a b : Bool) → a ≡ false → (a && b) ≡ false
-  and-no true b e = absurd cc
-  and-no false b e = refl
+    and-no : (a b : Bool) → a ≡ false → (a && b) ≡ false
+    and-no true b e = absurd cc
+    and-no false b e = refl
 
 pub ascii-allowed : (bytes : List ℕ) → list_all is_ascii_byte bytes ≡ true → has_forbidden bytes ≡ false
 ascii-allowed [] e = refl
@@ -192,16 +193,16 @@ number-back first c digits rest u ascii blank few many all value valid e =
           ∙ ap value_fault value ∙ valid;
     }
   where
-  number-closed : (first : ℕ) (rest : List ℕ) → ((first == 85) || (first == 117)) ≡ true → not (is_closed (first ∷ rest)) ≡ false
-  number-closed first rest u = grind (arith, u)
+    number-closed : (first : ℕ) (rest : List ℕ) → ((first == 85) || (first == 117)) ≡ true → not (is_closed (first ∷ rest)) ≡ false
+    number-closed first rest u = grind (arith, u)
 
 pub number_back : (c : ℕ) (text rest : List ℕ) → IsNumberText c text → ends_word rest ≡ true → IsReadBack (record { kind = kind.Number c; text = text }) rest
 number_back c text rest is e =
     subst (λ (xs : List ℕ). IsReadBack (record { kind = kind.Number c; text = xs }) rest) (sym is.is) (cased is.upper)
   where
-  cased : (upper : Bool) → IsReadBack (record { kind = kind.Number c; text = (if upper then 85 else 117) ∷ 43 ∷ is.digits }) rest
-  cased true = number-back 85 c is.digits rest refl refl refl is.some is.few is.all is.value is.valid e
-  cased false = number-back 117 c is.digits rest refl refl refl is.some is.few is.all is.value is.valid e
+    cased : (upper : Bool) → IsReadBack (record { kind = kind.Number c; text = (if upper then 85 else 117) ∷ 43 ∷ is.digits }) rest
+    cased true = number-back 85 c is.digits rest refl refl refl is.some is.few is.all is.value is.valid e
+    cased false = number-back 117 c is.digits rest refl refl refl is.some is.few is.all is.value is.valid e
 
 scalar-small : (c : ℕ) → scalar c ≡ true → c < 0x11_0000
 scalar-small c e = elim (scalar_cases c e) [

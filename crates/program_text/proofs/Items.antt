@@ -183,9 +183,9 @@ all-mapped flags (row ∷ rows) e =
       | false ↦ all-mapped flags rows two.1
     ]
   where
-  choose-and : (a b : Bool) → a ≡ true → b ≡ true → (a && b) ≡ true
-  choose-and true b e f = f
-  choose-and false b e f = absurd cc
+    choose-and : (a b : Bool) → a ≡ true → b ≡ true → (a && b) ≡ true
+    choose-and true b e f = f
+    choose-and false b e f = absurd cc
 
 table-words : list_all (λ row. is_modifier row.0) shift_flags ≡ true
 unfolding shift_flags same_name

@@ -82,5 +82,5 @@ free_rule_read line context output first cok ook some =
     ∙ ap (earliest None) (free-body line last (length c) (length c) t context (first ∷ output) c taken (items_read section.Context unseen context cok last 0) (not-less (length c))
     (ap (read_items section.Output unseen last 0 (length c + 1)) behind ∙ items_read section.Output unseen (first ∷ output) ook last (length c + 1)))
   where
-  not-less : (n : ℕ) → nat_lt n n ≡ false
-  not-less n = grind arith
+    not-less : (n : ℕ) → nat_lt n n ≡ false
+    not-less n = grind arith

@@ -152,17 +152,17 @@ begins_other (x ∷ xs) = not ((to_ascii_lowercase x == 116) || (to_ascii_lowerc
 letters-differ : (x a : ℕ) → not ((x == 116) || (x == 117)) ≡ true → ((a == 116) || (a == 117)) ≡ true → (x == a) ≡ false
 letters-differ x a e f = ne_eqb x a (λ same. clash same)
   where
-  clash : x ≡ a → ⊥
-  clash same = let g : ((x == 116) || (x == 117)) ≡ true = subst (λ (k : ℕ). ((k == 116) || (k == 117)) ≡ true) (sym same) f in let h : ((x == 116) || (x == 117)) ≡ false = not-off _ e in let k : true ≡ false = sym g ∙ h in absurd cc
+    clash : x ≡ a → ⊥
+    clash same = let g : ((x == 116) || (x == 117)) ≡ true = subst (λ (k : ℕ). ((k == 116) || (k == 117)) ≡ true) (sym same) f in let h : ((x == 116) || (x == 117)) ≡ false = not-off _ e in let k : true ≡ false = sym g ∙ h in absurd cc
 
 name-differs : (row : List ℕ) (a : ℕ) (rest : List ℕ) → begins_other row ≡ true → ((to_ascii_lowercase a == 116) || (to_ascii_lowercase a == 117)) ≡ true → same_name row (a ∷ rest) ≡ false
 unfolding same_name
 name-differs [] a rest e f = refl
 name-differs (x ∷ xs) a rest e f = and-first (to_ascii_lowercase x == to_ascii_lowercase a) _ (letters-differ (to_ascii_lowercase x) (to_ascii_lowercase a) e f)
   where
-  and-first : (p q : Bool) → p ≡ false → (p && q) ≡ false
-  and-first true q h = absurd cc
-  and-first false q h = refl
+    and-first : (p q : Bool) → p ≡ false → (p && q) ≡ false
+    and-first true q h = absurd cc
+    and-first false q h = refl
 
 none-named : (rows : List (List ℕ × ℕ)) (a : ℕ) (rest : List ℕ) → list_all (λ row. begins_other row.0) rows ≡ true → ((to_ascii_lowercase a == 116) || (to_ascii_lowercase a == 117)) ≡ true
     → named_in rows (a ∷ rest) ≡ None
@@ -190,8 +190,8 @@ pub record IsOwnName (name : List ℕ) : Type 0 where
 second-plus : (b : ℕ) → (to_ascii_lowercase b == 95) ≡ true → (b == 43) ≡ false
 second-plus b e = ne_eqb b 43 (λ same. clash (subst (λ (k : ℕ). (to_ascii_lowercase k == 95) ≡ true) same e))
   where
-  clash : (to_ascii_lowercase 43 == 95) ≡ true → ⊥
-  clash f = absurd cc
+    clash : (to_ascii_lowercase 43 == 95) ≡ true → ⊥
+    clash f = absurd cc
 
 own-name : (name : List ℕ) → begins_own name ≡ true → IsOwnName name
 own-name [] e = absurd cc

@@ -89,8 +89,8 @@ compared-long lead name sign value =
 value-long : (value : List ℕ) → length (value_token value).text ≡ 2 + length (encodes value)
 value-long value = quotes (if list_any (λ c. c == 34) value then 39 else 34)
   where
-  quotes : (quote : ℕ) → length (quote ∷ (encodes value ++ quote ∷ [])) ≡ 2 + length (encodes value)
-  quotes quote = let a : length (encodes value ++ quote ∷ []) ≡ length (encodes value) + 1 = length-append (encodes value) (quote ∷ []) in omega (arith, a)
+    quotes : (quote : ℕ) → length (quote ∷ (encodes value ++ quote ∷ [])) ≡ 2 + length (encodes value)
+    quotes quote = let a : length (encodes value ++ quote ∷ []) ≡ length (encodes value) + 1 = length-append (encodes value) (quote ∷ []) in omega (arith, a)
 
 -- a comparison or a setting has all bytes of its value besides
 test-least : (lead name : List ℕ) (sign : LineToken) (value : List ℕ) → IsSpelledName name → length lead + length sign.text + 6 + length (encodes value) ≤ length (printed (compared lead name sign value))

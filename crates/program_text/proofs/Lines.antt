@@ -22,4 +22,3 @@ joined-sound place seen (i ∷ items) (ok, stands, more) = item_sound place true
 pub spaced-sound : (place : Where) (seen : Seen) (items : List SrcItem) (rest : List (Option LineToken)) → ArePrinted place seen items → AreSound true true rest → AreSound true true (spaced_items items rest)
 spaced-sound place seen [] rest ok sound = sound
 spaced-sound place seen (i ∷ items) rest (ok, stands, more) sound = item_sound place true true i (None ∷ spaced_items items rest) ok refl (spaced-sound place _ items rest more sound)
-

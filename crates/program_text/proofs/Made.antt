@@ -60,4 +60,3 @@ made p =
     ∙ fold-append (record { stores = p.stores; begins = []; groups = [] }) (map statement.Begin p.begins) (group_statements p.groups)
     ∙ ap (λ (q : Program). fold with_statement q (group_statements p.groups)) (fold-begins (record { stores = p.stores; begins = []; groups = [] }) p.begins)
     ∙ fold-groups (record { stores = p.stores; begins = p.begins; groups = [] }) p.groups
-

@@ -51,9 +51,9 @@ number-first (a ∷ b ∷ c ∷ bytes) e =
     let one = and_parts ((a == 85) || (a == 117)) (b == 43) two.0 in
     letter (a == 85) refl one.0 (eqb-true b 43 one.1)
   where
-  letter : (t : Bool) → (a == 85) ≡ t → (t || (a == 117)) ≡ true → b ≡ 43 → (upper : Bool) × (a ∷ b ∷ c ∷ bytes ≡ (if upper then 85 else 117) ∷ 43 ∷ c ∷ bytes)
-  letter true h k f = (true, λ i. eqb-true a 85 h i ∷ f i ∷ c ∷ bytes)
-  letter false h k f = (false, λ i. eqb-true a 117 k i ∷ f i ∷ c ∷ bytes)
+    letter : (t : Bool) → (a == 85) ≡ t → (t || (a == 117)) ≡ true → b ≡ 43 → (upper : Bool) × (a ∷ b ∷ c ∷ bytes ≡ (if upper then 85 else 117) ∷ 43 ∷ c ∷ bytes)
+    letter true h k f = (true, λ i. eqb-true a 85 h i ∷ f i ∷ c ∷ bytes)
+    letter false h k f = (false, λ i. eqb-true a 117 k i ∷ f i ∷ c ∷ bytes)
 
 number-name : (name : List ℕ) → starts_number name ≡ true → is_some (token_fault name) ≡ false → IsNumberText (hex_value 0 (drop 2 name)) name
 number-name name number faultless =

@@ -148,9 +148,16 @@ rules-print using number (rule ∷ rules) lines statements (at, ok, rest) more =
 -- groups
 group-line : (group : GroupDef) → IsPrintedName group.name → (using : Bool) → AreSound true true (group_pieces (record group { using_keys = using }))
 unfolding begins_forbidden
-group-line group ok true =
-    ((refl, refl), (refl, λ e. refl), (refl, tt, name_sound true group.name (Some closing ∷ None ∷ Some (word (codes "using")) ∷ None ∷ Some (word (codes "keys")) ∷ []) ok refl
-    (λ c. (refl, tt, ((refl, refl), (refl, λ e. refl), ((refl, refl), (refl, λ e. refl), refl))))))
+group-line group ok true = (
+  (refl, refl),
+  (refl, λ e. refl),
+  (
+    refl,
+    tt,
+    name_sound true group.name (Some closing ∷ None ∷ Some (word (codes "using")) ∷ None ∷ Some (word (codes "keys")) ∷ []) ok refl
+        (λ c. (refl, tt, ((refl, refl), (refl, λ e. refl), ((refl, refl), (refl, λ e. refl), refl)))),
+  ),
+)
 group-line group ok false = ((refl, refl), (refl, λ e. refl), (refl, tt, name_sound true group.name (Some closing ∷ []) ok refl (λ c. (refl, tt, refl))))
 
 read-group : (before : LastGroup) (number : ℕ) (group : GroupDef) → IsPrintedName group.name → (using : Bool) → group.line ≡ number

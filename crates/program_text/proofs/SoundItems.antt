@@ -77,18 +77,46 @@ item_sound place blank clean (source.Enter name) rest ok ends more = ((refl, ref
 item_sound place blank clean (source.Save name) rest ok ends more = ((refl, refl), (refl, λ e. refl), (refl, tt, call-sound true name rest ok more))
 item_sound place blank clean (source.Reset name) rest ok ends more = ((refl, refl), (refl, λ e. refl), (refl, tt, call-sound true name rest ok more))
 item_sound place blank clean (source.ContextAt offset) rest ok ends more = ((refl, refl), (refl, λ e. refl), (refl, tt, ((ok.is_word, ok.still), (refl, λ e. absurd cc), (refl, tt, more))))
-item_sound place blank clean (source.Index name offset) rest (ok, k) ends more =
-    ((refl, refl), (refl, λ e. refl), (refl, tt, name_sound true name (Some comma ∷ Some (word (decimal offset)) ∷ Some closing ∷ rest) ok refl
-    (λ c. (refl, tt, ((k.is_word, k.still), (refl, λ e. absurd cc), (refl, tt, more))))))
-item_sound place blank clean (source.Equal name value) rest ok ends more =
-    ((refl, refl), (refl, λ e. refl), (refl, tt, name_sound true name (None ∷ Some equal ∷ None ∷ Some (value_token value) ∷ Some closing ∷ rest) ok.named refl
-    (λ c. (refl, tt, (ok.sound, tt, (refl, tt, more))))))
-item_sound place blank clean (source.Unequal name value) rest ok ends more =
-    ((refl, refl), (refl, λ e. refl), (refl, tt, name_sound true name (None ∷ Some unequal ∷ None ∷ Some (value_token value) ∷ Some closing ∷ rest) ok.named refl
-    (λ c. (refl, tt, (ok.sound, tt, (refl, tt, more))))))
-item_sound place blank clean (source.Set name value) rest ok ends more =
-    ((refl, refl), (refl, λ e. refl), (refl, tt, name_sound true name (None ∷ Some equal ∷ None ∷ Some (value_token value) ∷ Some closing ∷ rest) ok.named refl
-    (λ c. (refl, tt, (ok.sound, tt, (refl, tt, more))))))
+item_sound place blank clean (source.Index name offset) rest (ok, k) ends more = (
+  (refl, refl),
+  (refl, λ e. refl),
+  (
+    refl,
+    tt,
+    name_sound true name (Some comma ∷ Some (word (decimal offset)) ∷ Some closing ∷ rest) ok refl
+        (λ c. (refl, tt, ((k.is_word, k.still), (refl, λ e. absurd cc), (refl, tt, more)))),
+  ),
+)
+item_sound place blank clean (source.Equal name value) rest ok ends more = (
+  (refl, refl),
+  (refl, λ e. refl),
+  (
+    refl,
+    tt,
+    name_sound true name (None ∷ Some equal ∷ None ∷ Some (value_token value) ∷ Some closing ∷ rest) ok.named refl
+        (λ c. (refl, tt, (ok.sound, tt, (refl, tt, more)))),
+  ),
+)
+item_sound place blank clean (source.Unequal name value) rest ok ends more = (
+  (refl, refl),
+  (refl, λ e. refl),
+  (
+    refl,
+    tt,
+    name_sound true name (None ∷ Some unequal ∷ None ∷ Some (value_token value) ∷ Some closing ∷ rest) ok.named refl
+        (λ c. (refl, tt, (ok.sound, tt, (refl, tt, more)))),
+  ),
+)
+item_sound place blank clean (source.Set name value) rest ok ends more = (
+  (refl, refl),
+  (refl, λ e. refl),
+  (
+    refl,
+    tt,
+    name_sound true name (None ∷ Some equal ∷ None ∷ Some (value_token value) ∷ Some closing ∷ rest) ok.named refl
+        (λ c. (refl, tt, (ok.sound, tt, (refl, tt, more)))),
+  ),
+)
 item_sound place blank clean source.Context rest ok ends more = ((refl, refl), (ends, λ e. refl), more)
 item_sound place blank clean source.Nul rest ok ends more = ((refl, refl), (ends, λ e. refl), more)
 item_sound place blank clean source.Beep rest ok ends more = ((refl, refl), (ends, λ e. refl), more)

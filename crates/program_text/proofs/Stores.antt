@@ -82,10 +82,10 @@ written-name row e =
       keeps = refl;
     }
   where
-  word-kind : (name : List ℕ) → IsTokenText kind.Word (38 ∷ name) → IsTokenText (name_kind (38 ∷ name)) (38 ∷ name)
-  word-kind [] is = is
-  word-kind (a ∷ []) is = is
-  word-kind (a ∷ b ∷ bytes) is = is
+    word-kind : (name : List ℕ) → IsTokenText kind.Word (38 ∷ name) → IsTokenText (name_kind (38 ∷ name)) (38 ∷ name)
+    word-kind [] is = is
+    word-kind (a ∷ []) is = is
+    word-kind (a ∷ b ∷ bytes) is = is
 
 system-name-read : (store : StoreDef) → IsSpelledStore store → store.system ≢ 0 → IsReadName store.system store.name (store_name store)
 system-name-read store ok other =

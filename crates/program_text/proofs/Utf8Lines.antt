@@ -88,9 +88,10 @@ using-texts false = tt
 
 groups-lines : (line : ℕ) (groups : List GroupDef) → AreSpelledGroups line groups → AreLines (flat_map group_lines groups)
 groups-lines line [] ok = tt
-groups-lines line (group ∷ groups) (at, named, rules, more) =
-    ((ascii (codes "group") refl, (ascii (40 ∷ []) refl, (named.utf8, (ascii (41 ∷ []) refl, using-texts group.using_keys)))),
-    lines-append (map rule_line group.rules) (flat_map group_lines groups) (rules-lines group.using_keys (line + 1) group.rules rules) (groups-lines (line + 1 + length group.rules) groups more))
+groups-lines line (group ∷ groups) (at, named, rules, more) = (
+  (ascii (codes "group") refl, (ascii (40 ∷ []) refl, (named.utf8, (ascii (41 ∷ []) refl, using-texts group.using_keys)))),
+  lines-append (map rule_line group.rules) (flat_map group_lines groups) (rules-lines group.using_keys (line + 1) group.rules rules) (groups-lines (line + 1 + length group.rules) groups more),
+)
 
 pub program_utf8 : (p : Program) → IsSpelled p → is_utf8 (sheet (program_lines p)) ≡ true
 program_utf8 p ok =

@@ -120,9 +120,11 @@ key-name-text key ok = elim (nat_eq key.code 0) as (λ b. nat_eq key.code 0 ≡ 
 ] refl
 
 key-texts : (key : KeyName) → IsSpelledKey key → AreTexts (item_pieces (source.Key key))
-key-texts key ok =
-    (ascii (91 ∷ []) refl, words-texts (flag_words key.flags) (Some (word (key_text key)) ∷ Some bracket_closing ∷ []) (kept-ascii key.flags shift_flags flags-ascii)
-    (key-name-text key ok, (ascii (93 ∷ []) refl, tt)))
+key-texts key ok = (
+  ascii (91 ∷ []) refl,
+  words-texts (flag_words key.flags) (Some (word (key_text key)) ∷ Some bracket_closing ∷ []) (kept-ascii key.flags shift_flags flags-ascii)
+      (key-name-text key ok, (ascii (93 ∷ []) refl, tt)),
+)
 
 char-text : (c : ℕ) → is_utf8 (char_text c) ≡ true
 char-text c = ascii (char_text c) (and_from true _ refl (and_from true _ refl (digits-ascii (hex_text (hex_count c) c) (digits-hex (hex_count c) c))))

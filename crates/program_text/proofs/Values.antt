@@ -41,9 +41,9 @@ none-passes : (P : ℕ → Bool) (xs : List ℕ) → list_all (λ x. not (P x)) 
 none-passes P [] e = refl
 none-passes P (x ∷ xs) e = let two = and_parts (not (P x)) _ e in or_from _ _ (not-off (P x) two.0) (none-passes P xs two.1)
   where
-  not-off : (b : Bool) → not b ≡ true → b ≡ false
-  not-off true e = absurd cc
-  not-off false e = refl
+    not-off : (b : Bool) → not b ≡ true → b ≡ false
+    not-off true e = absurd cc
+    not-off false e = refl
 
 all-fail : (P : ℕ → Bool) (xs : List ℕ) → list_any P xs ≡ false → list_all (λ x. not (P x)) xs ≡ true
 all-fail P [] e = refl
@@ -85,8 +85,8 @@ char-allowed c rest ok more =
     (λ e. byte-allowed (240 + c / 262144) _ (omega arith) (omega arith)
     (byte-allowed (128 + c / 4096 % 64) _ (omega arith) (omega arith) (byte-allowed (128 + c / 64 % 64) _ (omega arith) (omega arith) (byte-allowed (128 + c % 64) rest (omega arith) (omega arith) more))))))
   where
-  last-one : (c : ℕ) → c < 65536 → 239 ≡ 224 + c / 4096 → 191 ≡ 128 + c / 64 % 64 → 191 ≡ 128 + c % 64 → c ≡ 0xFFFF
-  last-one c low f g h = omega (arith, low, f, g, h)
+    last-one : (c : ℕ) → c < 65536 → 239 ≡ 224 + c / 4096 → 191 ≡ 128 + c / 64 % 64 → 191 ≡ 128 + c % 64 → c ≡ 0xFFFF
+    last-one c low f g h = omega (arith, low, f, g, h)
 
 chars-allowed : (cs rest : List ℕ) → All IsCharacter cs → has_forbidden rest ≡ false → has_forbidden (encodes cs ++ rest) ≡ false
 chars-allowed [] rest all more = more
@@ -123,8 +123,8 @@ chosen : (value : List ℕ) (double : Bool) → list_any (λ c. c == 34) value �
     → IsTokenText kind.Quoted ((if double then 39 else 34) ∷ (encodes value ++ (if double then 39 else 34) ∷ []))
 chosen value true is ok = (false, value-quoted 39 value (omega arith) (omega arith) ok (single-only is ok.one_quote))
   where
-  single-only : list_any (λ c. c == 34) value ≡ true → (list_any (λ c. c == 34) value && list_any (λ c. c == 39) value) ≡ false → list_any (λ c. c == 39) value ≡ false
-  single-only e f = sym (ap (λ b. b && list_any (λ c. c == 39) value) e) ∙ f
+    single-only : list_any (λ c. c == 34) value ≡ true → (list_any (λ c. c == 34) value && list_any (λ c. c == 39) value) ≡ false → list_any (λ c. c == 39) value ≡ false
+    single-only e f = sym (ap (λ b. b && list_any (λ c. c == 39) value) e) ∙ f
 chosen value false is ok = (true, value-quoted 34 value (omega arith) (omega arith) ok is)
 
 pub spelled_value : (value : List ℕ) → IsSpelledValue value → IsPrintedValue value

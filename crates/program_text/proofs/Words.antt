@@ -175,24 +175,31 @@ sign_back token byte rest is u n b q s k f =
 pub opening_back : (rest : List ℕ) → IsReadBack opening rest
 unfolding begins_forbidden
 opening_back rest = sign_back opening 40 rest refl refl refl refl refl refl refl refl
+
 pub closing_back : (rest : List ℕ) → IsReadBack closing rest
 unfolding begins_forbidden
 closing_back rest = sign_back closing 41 rest refl refl refl refl refl refl refl refl
+
 pub bracket_opening_back : (rest : List ℕ) → IsReadBack bracket_opening rest
 unfolding begins_forbidden
 bracket_opening_back rest = sign_back bracket_opening 91 rest refl refl refl refl refl refl refl refl
+
 pub bracket_closing_back : (rest : List ℕ) → IsReadBack bracket_closing rest
 unfolding begins_forbidden
 bracket_closing_back rest = sign_back bracket_closing 93 rest refl refl refl refl refl refl refl refl
+
 pub arrow_back : (rest : List ℕ) → IsReadBack arrow rest
 unfolding begins_forbidden
 arrow_back rest = sign_back arrow 62 rest refl refl refl refl refl refl refl refl
+
 pub plus_back : (rest : List ℕ) → IsReadBack plus rest
 unfolding begins_forbidden
 plus_back rest = sign_back plus 43 rest refl refl refl refl refl refl refl refl
+
 pub equal_back : (rest : List ℕ) → IsReadBack equal rest
 unfolding begins_forbidden
 equal_back rest = sign_back equal 61 rest refl refl refl refl refl refl refl refl
+
 pub comma_back : (rest : List ℕ) → IsReadBack comma rest
 unfolding begins_forbidden
 comma_back rest = sign_back comma 44 rest refl refl refl refl refl refl refl refl
