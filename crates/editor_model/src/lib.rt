@@ -8,8 +8,6 @@
 
 mod editor;
 mod error;
-#[cfg(test)]
-mod tests;
 
 pub use editor::Editor;
 pub use error::EditError;

@@ -1,8 +1,4 @@
-pub mod Calls
 pub mod FewParts
-pub mod FlagLaws
-pub mod Folds
-pub mod FreeNames
 pub mod FrontCounts
 pub mod FrontPuts
 pub mod FrontTexts
@@ -11,8 +7,6 @@ pub mod LineTexts
 pub mod Marks
 pub mod MoreText
 pub mod OneByOne
-pub mod OwnNames
 pub mod Puts
-pub mod SourceTokens
 pub mod StoreTexts
 pub mod WholeTexts

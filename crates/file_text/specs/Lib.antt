@@ -1,9 +1,5 @@
-pub mod Calling
-pub mod Flags
-pub mod Free
 pub mod LongTexts
 pub mod OneByOne
 pub mod Pages
-pub mod SourceNames
 pub mod Texts
 pub mod Whole

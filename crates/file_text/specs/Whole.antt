@@ -1,23 +1,11 @@
 -- The text of tables, part by part.
-use Rattle.std.specs.Prelude.{◌≡◌, ℕ, List, [], ◌++◌, length, map, codes, unwrap_or, slice_get}
-use Rattle.rule_model.specs.declared.tables.Group.{Group}
+use Rattle.std.specs.Prelude.{◌≡◌, ℕ, List, [], ◌++◌, length, unwrap_or, slice_get}
 use Rattle.rule_model.specs.declared.tables.Tables.{Tables}
 use Rattle.rule_model.specs.Tab.{tab_dictionary}
-use Rattle.decompile_laws.specs.Items.{Names}
 use Rattle.decompile_laws.specs.Marks.{greatest_mark}
-use Rattle.decompile_laws.specs.Names.{named_stores, store_names, group_names, free_names}
 use Rattle.decompile_laws.specs.Back.{names_for, free_stores, mark_stores}
 use Rattle.file_text.specs.declared.writing.Front.{Front}
 use Rattle.file_text.specs.Texts.{version_line, mark_line, key_line, stores_text, begins_text, groups_text}
-
--- the names of a text, where these free names are left for stores
-abbrev pub called_by : Tables → (free : List (List ℕ)) → Names
-called_by tables free = record {
-  stores = store_names (named_stores tables) free [] 0 tables.stores;
-  groups = group_names (free_names (codes "g") (map (λ (group : Group). group.name) tables.groups) (length tables.groups)) [] tables.groups;
-  keys = tab_dictionary tables.stores;
-  elements = tables.stores;
-}
 
 -- the version, the deadkeys and the keys
 abbrev pub front_text : Tables → List ℕ

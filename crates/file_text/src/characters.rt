@@ -1,16 +1,15 @@
 //! Characters as a source may have them: `U+` and digits, or in quotes.
 
-ghost use Rattle.std.specs.Prelude.{◌≡◌, ◌==◌, ◌<◌, filter_map, encode_utf8_all, if◌then◌else◌, IfOk, OnOk};
+ghost use Rattle.std.specs.Prelude.{◌≡◌, ◌==◌, ◌<◌, filter_map, if◌then◌else◌, OnOk};
 ghost use Rattle.std.specs.List.{list_any};
-ghost use Rattle.std.specs.String.{string_bytes};
 ghost use Rattle.rule_model.specs.Tab.{element_char};
 ghost use Rattle.program_text.specs.Texts.{hex_glyph, hex_text, hex_count, char_text};
 ghost use Rattle.file_text.specs.Pages.{with_text};
 ghost use Rattle.file_text.specs.Texts.{quoted_text};
 
 use crate::page::Page;
+use file_names::{has_character, text_of};
 use kmn_base::{Element, Memory};
-use std::alloc::Global;
 
 /// A hexadecimal digit in upper case.
 fn hex_glyph(digit: u32) -> u8
@@ -76,33 +75,6 @@ pub(crate) fn put_character(page: &mut Page, character: u32) -> Result<(), Memor
 {
     page.put(b"U+")?;
     put_digits(page, character)
-}
-
-/// Whether a character stands among elements.
-pub(crate) fn has_character(elements: &[Element], wanted: char) -> bool
-    ensures { result ≡ list_any (λ c. c == wanted) (filter_map element_char elements.now) }
-{
-    for element in elements {
-        if let Element::Char(c) = element {
-            if *c == wanted {
-                return true;
-            }
-        }
-    }
-    false
-}
-
-/// The characters of elements in UTF-8.
-pub(crate) fn text_of(alloc: Global, elements: &[Element]) -> Result<String, Memory>
-    ensures { IfOk result (λ text. string_bytes text ≡ encode_utf8_all (filter_map element_char elements.now)) }
-{
-    let mut text = String::new(alloc);
-    for element in elements {
-        if let Element::Char(c) = element {
-            text.push(*c)?;
-        }
-    }
-    Ok(text)
 }
 
 /// The quote that stands around the characters of elements: `'` where they have a `"`.

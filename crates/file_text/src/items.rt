@@ -7,9 +7,9 @@ ghost use Rattle.file_text.specs.Pages.{with_text};
 ghost use Rattle.file_text.specs.OneByOne.{with_flag_words};
 ghost use Rattle.file_text.specs.Texts.{call_text, index_text, compared_text, flag_text, virtual_text, element_text, pattern_text, output_text, key_text};
 
-use crate::called::Called;
 use crate::characters::{put_character, put_quoted};
 use crate::page::Page;
+use file_names::Called;
 use kmn_base::{Element, Memory, RuleKey};
 use rule_model::{Out, Pat};
 

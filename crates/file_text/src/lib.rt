@@ -1,27 +1,22 @@
 //! The text of a compiled file: the source that its tables go back to.
 //!
-//! It stands on `kmx_verifier`, whose `Verified` lends the tables of a valid file, and on `decompile_laws` and
-//! `program_text`, whose definitions say which program the tables go back to and which text that has. The layer above
-//! calls `text_of`: the text exactly, or its size where a source may not have so many bytes. Why a file has no text that a
-//! source could be, which `spelled_files` defines, isn't asked here yet.
+//! It stands on `kmx_verifier`, whose `Verified` lends the tables of a valid file, on `file_names`, which says what the
+//! text calls the stores, groups and keys of tables, and on `decompile_laws` and `program_text`, whose definitions say which
+//! program the tables go back to and which text that has. The layer above calls `text_of`: the text exactly, or its size
+//! where a source may not have so many bytes. A layer that has made the names itself, to ask what of the tables no source
+//! can say, makes the text by `page_of`, with what stands in `Front` before the file's own stores.
 #![tactic(auto)]
 
-mod called;
 mod characters;
-mod free_names;
 mod front;
-mod greatest;
 mod items;
 mod lines;
-mod naming;
-mod own_keys;
 mod page;
-mod source_names;
 mod system;
-#[cfg(test)]
-mod tests;
 mod text;
-mod used;
 mod writing;
 
+pub use page::Page;
+pub use system::version_text;
 pub use text::{TextError, text_of};
+pub use writing::{Front, front_count, front_of, page_of};

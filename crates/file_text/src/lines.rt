@@ -6,10 +6,10 @@ ghost use Rattle.file_text.specs.Pages.{with_text};
 ghost use Rattle.file_text.specs.OneByOne.{with_elements, with_context, with_outputs, with_rules, with_groups, with_stores};
 ghost use Rattle.file_text.specs.Texts.{outputs_text, some_outputs_text, rule_text, statement_text, group_text, store_text, begin_text, begins_text, call_text, if_called};
 
-use crate::called::Called;
 use crate::items::{put_call, put_element, put_key_part, put_output, put_pattern};
 use crate::page::Page;
 use crate::system::system_name;
+use file_names::Called;
 use kmn_base::{Element, Memory};
 use rule_model::{Group, Out, Pat, Rule, Store};
 

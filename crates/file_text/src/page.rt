@@ -10,10 +10,10 @@ use std::alloc::Global;
 
 /// A text while it is within the limit, and its size in bytes.
 #[derive(Drop)]
-pub(crate) struct Page {
-    pub(crate) alloc: Global,
-    pub(crate) text: Text,
-    pub(crate) size: u64,
+pub struct Page {
+    pub alloc: Global,
+    pub text: Text,
+    pub size: u64,
 }
 
 /// A size with so many bytes more. A text whose size no number of the type tells wants more memory than there is.

@@ -1,17 +1,8 @@
 //! Names and numbers that a text has for those of a file.
 
-ghost use Rattle.std.specs.Prelude.{◌≡◌, nat_eq};
-ghost use Rattle.std.specs.List.{list_any};
+ghost use Rattle.std.specs.Prelude.{◌≡◌};
 ghost use Rattle.program_text.specs.Statements.{system_name};
-ghost use Rattle.decompile_laws.specs.Names.{written_ids};
 ghost use Rattle.decompile_laws.specs.Back.{version_text};
-
-/// Whether a system store is written.
-pub(crate) fn is_written_system(system: u32) -> bool
-    ensures { result ≡ list_any (nat_eq system) written_ids }
-{
-    matches!(system, 1 | 2 | 3 | 6 | 7 | 17 | 24 | 35 | 36 | 38)
-}
 
 /// The name of a system store by its id: the first that a source can state for it.
 #[tactic(auto, unfolding(kmn_parser::specs::Line::system_stores))]
@@ -37,7 +28,7 @@ pub(crate) fn system_name(system: u32) -> &'static [u8]
 }
 
 /// The text of a version of the format.
-pub(crate) fn version_text(version: u16) -> &'static [u8]
+pub fn version_text(version: u16) -> &'static [u8]
     ensures { result.now ≡ version_text version }
 {
     match version {

@@ -9,7 +9,8 @@ ghost use Rattle.decompile_laws.specs.Back.{back};
 ghost use Rattle.file_text.specs.LongTexts.{IsTooLong};
 
 use crate::page::Page;
-use crate::writing::{called, free_stores, front_count, front_of, page_of};
+use crate::writing::{front_count, front_of, page_of};
+use file_names::{called_by, free_stores};
 use kmn_base::limits::TEXT_BYTES;
 use kmn_base::slices::behind;
 use kmn_base::{Memory, Text};
@@ -39,7 +40,7 @@ fn page_of_tables(alloc: Global, tables: &Tables) -> Result<Page, Memory>
     let indexed = IndexedTables::new(alloc, tables)?;
     let front = front_of(alloc, &indexed, tables)?;
     let left = behind(free.as_slice(), front_count(&front, tables));
-    let names = called(alloc, &indexed, tables, left)?;
+    let names = called_by(alloc, &indexed, tables, left)?;
     page_of(alloc, &front, &names, tables, free.as_slice())
 }
 

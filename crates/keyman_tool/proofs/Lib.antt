@@ -4,9 +4,12 @@ pub mod FileRuns
 pub mod Hexadecimal
 pub mod InputLaws
 mod LayoutLaws
+mod LoadLaws
 pub mod MeaningLaws
 pub mod OwnNames
 pub mod PlayingLaws
 pub mod PrintingLaws
 pub mod RunLaws
+mod StatedLoads
+mod TextLaws
 pub mod WorkLaws

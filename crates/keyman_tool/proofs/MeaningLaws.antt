@@ -30,7 +30,7 @@ use Rattle.keyman_tool.specs.declared.status.Status.{Status}
 use Rattle.keyman_tool.specs.declared.status.Status.TheVariants as status
 use Rattle.keyman_tool.specs.Asked.{Ask, write_of, answered, failed, AsksAll, AsksUntil, AsksBy, has_written, HasWritten}
 use Rattle.keyman_tool.specs.Command.{Request}
-use Rattle.keyman_tool.specs.Command.Request.{Compile, Layout, Play, Test, Verify}
+use Rattle.keyman_tool.specs.Command.Request.{Compile, Decompile, Layout, Load, Play, Test, Verify}
 use Rattle.keyman_tool.specs.Endings.{Ending, Job, asked, conclusion, refused_ending, compile_ending, test_ending, play_status, ends, file_asks, writes}
 use Rattle.keyman_tool.specs.Inputs.{Pictured, by_line, file_from, picture_of, pictured_within, program_of, unless_large}
 use Rattle.keyman_tool.specs.Orders.{source_work, picture_work, pictured_work, program_work, file_work, compiled_work, script_work, job_work, compile_work, test_work, work_of}
@@ -340,9 +340,11 @@ request_means : {F S : Type 0} (request : Option Request) (folders : FolderView 
     → Does (work_of request) folders folder after sinks out out_after how → IsTrue (folders.told folder) → FileMeans (seen_folder folders folder) (seen_folder folders after) request
 request_means None folders folder after sinks out out_after how does told = tt
 request_means (Some (Compile source file)) folders folder after sinks out out_after how does told = λ written. compile_means source file folders folder after sinks out out_after how does told written
+request_means (Some (Decompile file source)) folders folder after sinks out out_after how does told = tt
 request_means (Some (Verify file)) folders folder after sinks out out_after how does told = tt
 request_means (Some (Play file keys)) folders folder after sinks out out_after how does told = tt
 request_means (Some (Layout source layout)) folders folder after sinks out out_after how does told = tt
+request_means (Some (Load number)) folders folder after sinks out out_after how does told = tt
 request_means (Some (Test source file keys)) folders folder after sinks out out_after how does told = λ written. test_means source file keys folders folder after sinks out out_after how does told written
 
 pub run_means : {F S : Type 0} (request found : Option Request) (folders : FolderView F) (folder after : F) (sinks : SinkView S) (out out_after : S) (how : Status)

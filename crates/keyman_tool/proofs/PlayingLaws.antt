@@ -19,10 +19,8 @@ use Rattle.play_session.specs.declared.changes.Change.{Change}
 use Rattle.play_session.specs.declared.session.Step.{Step}
 use Rattle.play_session.specs.Answers.{step_of}
 use Rattle.play_session.specs.Printed.{IsSession, SessionsBegin, SessionsGoOn, ChangesArePrinted, change_line}
-use Rattle.play_session.specs.Changes.{is_newly_saved, store_changes, changes_from}
+use Rattle.play_session.specs.Changes.{Values, current_at, saved_at, is_newly_saved, store_changes, changes_from}
 use Rattle.play_session.specs.Session.{SessionState, first_session, happened, after_step, values_of}
-use Rattle.rule_engine.specs.declared.values.Values.{Values}
-use Rattle.rule_engine.specs.Values.{current_at, saved_at}
 use Rattle.rule_model.specs.Match.{same_value}
 use Rattle.rule_model.specs.Plain.{option_numbers}
 use Rattle.rule_model.specs.Tab.{tab_options, with_options}

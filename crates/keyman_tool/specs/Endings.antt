@@ -60,6 +60,14 @@ valid_line tables = concat (
 abbrev pub verify_ending : Tables → Ending
 verify_ending tables = record { status = status.Done; file = None; printed = valid_line tables }
 
+-- what is printed of a text that a file was decompiled to: its size
+unfoldable pub decompiled_line : List ℕ → List ℕ
+decompiled_line source = concat (codes "decompiled bytes=" ∷ decimal (length source) ∷ codes "\n" ∷ [])
+
+-- a decompilation writes the text and prints its line
+abbrev pub decompile_ending : List ℕ → List ℕ → Ending
+decompile_ending name source = record { status = status.Done; file = Some (name, source); printed = decompiled_line source }
+
 -- what is printed of a layout that keeps all rules: the count of its keys
 unfoldable pub sound_line : ℕ → List ℕ
 sound_line count = concat (codes "layout sound keys=" ∷ decimal count ∷ codes "\n" ∷ [])
@@ -67,6 +75,10 @@ sound_line count = concat (codes "layout sound keys=" ∷ decimal count ∷ code
 -- the check of a layout prints its line
 abbrev pub layout_ending : ℕ → Ending
 layout_ending count = record { status = status.Done; file = None; printed = sound_line count }
+
+-- a load prints its line
+abbrev pub load_ending : List ℕ → Ending
+load_ending line = record { status = status.Done; file = None; printed = line }
 
 -- a play ends with the refusal of an event, or with expected texts that differed, or well
 abbrev pub ended_status : Option (ℕ × Code) → ℕ → Status

@@ -1,5 +1,6 @@
 -- What the inputs of a command state.
 use Rattle.std.specs.Prelude.{ℕ, List, Option, Some, None, Result, Ok, Err}
+use Rattle.kmn_base.specs.Answers.{and_then}
 use Rattle.kmn_base.specs.declared.codes.Code.{Code}
 use Rattle.kmn_base.specs.declared.codes.Code.TheVariants.{C24, L05, P06, T7, V15}
 use Rattle.kmn_base.specs.declared.refusals.Refusal.{Refusal}
@@ -15,6 +16,10 @@ use Rattle.play_script.specs.Entries.{entries}
 use Rattle.kmx_format.specs.TablesOf.{tables_of}
 use Rattle.kmx_verifier.specs.declared.faults.Fault.{Fault}
 use Rattle.kmx_verifier.specs.FaultOf.{fault_of}
+use Rattle.program_text.specs.Programs.{program_text}
+use Rattle.decompile_laws.specs.Back.{back}
+use Rattle.spelled_files.specs.Unspelled.{unspelled}
+use Rattle.spelled_files.specs.declared.no_spelling.NoSpelling.{NoSpelling}
 use Rattle.touch_layout.specs.Faults.{fault, whole_layout}
 use Rattle.touch_layout.specs.Layout.{key_count, layout_fault}
 use Rattle.touch_layout.specs.declared.faults.LayoutFault.{LayoutFault}
@@ -73,6 +78,15 @@ unless_faulty tables (Some fault) = Err (reason.File fault)
 -- the tables of a valid file, or the first fault
 abbrev pub tables_of_file : List ℕ → Result Tables Reason
 tables_of_file bytes = unless_faulty (tables_of bytes) (fault_of bytes)
+
+-- the text that tables go back to, unless their file has none
+abbrev pub unless_unspelled : Tables → Option NoSpelling → Result (List ℕ) Reason
+unless_unspelled tables None = Ok (program_text (back tables))
+unless_unspelled tables (Some why) = Err (reason.Text why)
+
+-- the text of a file, or its first fault, or why it has no text
+abbrev pub text_of_file : List ℕ → Result (List ℕ) Reason
+text_of_file bytes = and_then (tables_of_file bytes) (λ tables. unless_unspelled tables (unspelled bytes))
 
 -- the count of a layout's keys, unless a rule is broken
 abbrev pub unless_broken : ℕ → Option LayoutFault → Result ℕ Reason

@@ -4,6 +4,7 @@ pub mod Command
 pub mod Endings
 pub mod Failures
 pub mod Inputs
+pub mod Loads
 pub mod Orders
 pub mod Playing
 pub mod Printing

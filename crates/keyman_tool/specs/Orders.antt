@@ -11,9 +11,10 @@ use Rattle.kmn_compiler.specs.Picture.{picture_name}
 use Rattle.kmn_compiler.specs.declared.compiling.Compiled.{Compiled}
 use Rattle.keyman_tool.specs.Beside.{beside}
 use Rattle.keyman_tool.specs.Command.{Request}
-use Rattle.keyman_tool.specs.Command.Request.{Compile, Layout, Play, Test, Verify}
-use Rattle.keyman_tool.specs.Endings.{Ending, Job, compile_ending, layout_ending, play_ending, test_ending, verify_ending, words_ending}
-use Rattle.keyman_tool.specs.Inputs.{Pictured, file_from, keys_of, picture_of, pictured_within, program_of, script_of, bytes_of, tables_of_file}
+use Rattle.keyman_tool.specs.Command.Request.{Compile, Decompile, Layout, Load, Play, Test, Verify}
+use Rattle.keyman_tool.specs.Endings.{Ending, Job, compile_ending, decompile_ending, layout_ending, load_ending, play_ending, test_ending, verify_ending, words_ending}
+use Rattle.keyman_tool.specs.Inputs.{Pictured, file_from, keys_of, picture_of, pictured_within, program_of, script_of, bytes_of, tables_of_file, text_of_file}
+use Rattle.keyman_tool.specs.Loads.{load_text}
 use Rattle.keyman_tool.specs.Work.{Work, given, and_then}
 use Rattle.keyman_tool.specs.Work.Work.{Give, Read}
 
@@ -77,6 +78,14 @@ verify_work file =
     and_then (given (tables_of_file bytes)) (λ tables.
     Give (verify_ending tables)))
 
+-- read a compiled file, and see which text it has
+abbrev pub text_work : (file : List ℕ) → Work (List ℕ)
+text_work file = and_then (bytes_work file) (λ bytes. given (text_of_file bytes))
+
+-- `decompile FILE SOURCE`: read the file, write the source that is its text, print the text's size
+abbrev pub decompile_work : (file source : List ℕ) → Work Ending
+decompile_work file source = and_then (text_work file) (λ text. Give (decompile_ending source text))
+
 -- read a script for the keyboard of tables, print what the keyboard does with it
 abbrev pub tables_play_work : Tables → (keys : List ℕ) → Work Ending
 tables_play_work tables keys =
@@ -103,11 +112,17 @@ tables_layout_work tables layout = and_then (keys_work tables layout) (λ count.
 abbrev pub layout_work : (source layout : List ℕ) → Work Ending
 layout_work source layout = and_then (program_work source) (λ pictured. tables_layout_work (compiled_tables pictured.program) layout)
 
+-- `load NUMBER`: make, compile and play the load of the number, print its line; nothing is read
+abbrev pub load_work : ℕ → Work Ending
+load_work number = and_then (given (load_text number)) (λ line. Give (load_ending line))
+
 -- the work that words ask for
 abbrev pub work_of : Option Request → Work Ending
 work_of None = Give words_ending
 work_of (Some (Compile source file)) = compile_work source file
 work_of (Some (Test source file keys)) = test_work source file keys
 work_of (Some (Verify file)) = verify_work file
+work_of (Some (Decompile file source)) = decompile_work file source
 work_of (Some (Play file keys)) = play_work file keys
 work_of (Some (Layout source layout)) = layout_work source layout
+work_of (Some (Load number)) = load_work number

@@ -6,6 +6,9 @@ use Rattle.kmn_base.specs.CodeTexts.{code_text}
 use Rattle.kmn_base.specs.declared.codes.Code.{Code}
 use Rattle.kmx_verifier.specs.declared.faults.Fault.{Fault}
 use Rattle.rule_model.specs.Lines.{refusal_line}
+use Rattle.rule_model.specs.Transcript.{refused_event_line}
+use Rattle.spelled_files.specs.declared.no_spelling.NoSpelling.{NoSpelling}
+use Rattle.spelled_files.specs.declared.no_spelling.NoSpelling.TheVariants.{Order, Unspelled, TooLarge, TooManyStores, TooManyElements}
 use Rattle.touch_layout.specs.declared.faults.LayoutFault.{LayoutFault}
 use Rattle.keyman_tool.specs.declared.reason.Reason.{Reason}
 use Rattle.keyman_tool.specs.declared.reason.Reason.TheVariants as reason
@@ -32,9 +35,20 @@ place_line fault = concat (
     ∷ codes " key " ∷ decimal fault.key
     ∷ codes "\n" ∷ [])
 
+-- why a file has no text: the record that stands out of order, the place of what no source can say, or what would be too much
+unfoldable pub spelling_line : NoSpelling → List ℕ
+spelling_line (Order group rule) = concat (codes "refused X1 group " ∷ decimal group ∷ codes " rule " ∷ decimal rule ∷ codes "\n" ∷ [])
+spelling_line (Unspelled at) = concat (codes "refused X2 at " ∷ decimal at ∷ codes "\n" ∷ [])
+spelling_line (TooLarge size) = concat (codes "refused X3 size " ∷ decimal size ∷ codes "\n" ∷ [])
+spelling_line (TooManyStores stores) = concat (codes "refused X3 stores " ∷ decimal stores ∷ codes "\n" ∷ [])
+spelling_line (TooManyElements elements) = concat (codes "refused X3 elements " ∷ decimal elements ∷ codes "\n" ∷ [])
+
 -- a reason's line
 abbrev pub reason_line : Reason → List ℕ
 reason_line (reason.Line refusal) = refusal_line refusal
 reason_line (reason.Size code size) = size_line code size
 reason_line (reason.File fault) = fault_line fault
 reason_line (reason.Layout fault) = place_line fault
+reason_line (reason.Text why) = spelling_line why
+reason_line reason.Number = codes "refused G1\n"
+reason_line (reason.Event number code) = refused_event_line number code

@@ -6,7 +6,7 @@ use Rattle.keyman_tool.specs.declared.status.Status.{Status}
 use Rattle.keyman_tool.specs.declared.status.Status.TheVariants as status
 use Rattle.keyman_tool.specs.Asked.{Ask, write_of, answered, failed, AsksAll, AsksFirst, AsksUntil, HasWritten}
 use Rattle.keyman_tool.specs.Command.{Request}
-use Rattle.keyman_tool.specs.Command.Request.{Compile, Layout, Play, Test, Verify}
+use Rattle.keyman_tool.specs.Command.Request.{Compile, Decompile, Layout, Load, Play, Test, Verify}
 use Rattle.keyman_tool.specs.Endings.{Ending, ends, file_asks}
 use Rattle.keyman_tool.specs.Inputs.{Pictured}
 use Rattle.keyman_tool.specs.Orders.{program_work}
@@ -108,11 +108,13 @@ pub record SourceMeans (before after : Files) (source file : List ℕ) : Type 0 
   pub is : comes_to before (program_work source) ≡ Some (Ok pictured)
   pub means : IsSomeAnd (after file) (λ bytes. Means bytes pictured.program)
 
--- where a request's file was written, it means the source; the other requests write none
+-- where a request's compiled file was written, it means the source; the other requests write none
 abbrev pub FileMeans : FolderState → FolderState → Option Request → Type 0
 FileMeans before after None = Unit {0}
 FileMeans before after (Some (Compile source file)) = HasWritten before.calls after.calls → SourceMeans before.files after.files source file
 FileMeans before after (Some (Test source file keys)) = HasWritten before.calls after.calls → SourceMeans before.files after.files source file
 FileMeans before after (Some (Verify file)) = Unit {0}
+FileMeans before after (Some (Decompile file source)) = Unit {0}
 FileMeans before after (Some (Play file keys)) = Unit {0}
 FileMeans before after (Some (Layout source layout)) = Unit {0}
+FileMeans before after (Some (Load number)) = Unit {0}

@@ -1,5 +1,5 @@
 -- What the steps of a run answer.
-use Rattle.std.specs.Prelude.{◌≡◌, IsTrue, ℕ, List, ◌++◌, Option, Some, Result, Ok, Err}
+use Rattle.std.specs.Prelude.{◌≡◌, IsTrue, ℕ, List, ◌++◌, Option, Some, None, Result, Ok, Err}
 use Rattle.kmn_base.specs.declared.refusals.CompileError.{CompileError}
 use Rattle.kmn_base.specs.declared.refusals.CompileError.TheVariants as compile
 use Rattle.kmn_base.specs.declared.codes.Code.{Code}
@@ -14,6 +14,9 @@ use Rattle.kmx_format.specs.TablesOf.{tables_of}
 use Rattle.kmx_format.specs.Writable.{IsFile, IsWritable}
 use Rattle.play_script.specs.declared.errors.ScriptError.{ScriptError}
 use Rattle.play_script.specs.declared.errors.ScriptError.TheVariants as script
+use Rattle.spelled_files.specs.declared.no_spelling.NoSpelling.{NoSpelling}
+use Rattle.kmx_decompiler.specs.Refusals.{told}
+use Rattle.kmx_decompiler.specs.declared.refusals.DecompileError.{DecompileError}
 use Rattle.touch_layout.specs.declared.faults.LayoutError.{LayoutError}
 use Rattle.touch_layout.specs.declared.faults.LayoutError.TheVariants as layout
 use Rattle.kmn_compiler.specs.declared.compiling.Compiled.{Compiled}
@@ -47,6 +50,14 @@ script_stop script.Memory = stop.Memory
 abbrev pub layout_stop : LayoutError → Stop
 layout_stop (layout.Refused fault) = stop.Refused (reason.Layout fault)
 layout_stop layout.Memory = stop.Memory
+
+-- why a run stops where a file has no text, and where nothing is told of it
+abbrev pub told_stop : Option NoSpelling → Stop
+told_stop (Some why) = stop.Refused (reason.Text why)
+told_stop None = stop.Memory
+
+abbrev pub text_stop : DecompileError → Stop
+text_stop error = told_stop (told error)
 
 -- a refusal at line 1
 abbrev pub first_line : Code → Reason
@@ -127,6 +138,11 @@ TellsStop stop.Memory sinks out out_after s = (s ≡ status.Memory) × (out_afte
 abbrev pub TellsFile : {S : Type 0} → Result Tables Reason → SinkView S → S → S → Status → Type 0
 TellsFile (Ok tables) sinks out out_after s = Tells status.Done (valid_line tables) sinks out out_after s
 TellsFile (Err why) sinks out out_after s = Tells status.Refused (reason_line why) sinks out out_after s
+
+-- what is printed of a load: its line, or that of a reason
+abbrev pub TellsLoad : {S : Type 0} → Result (List ℕ) Reason → SinkView S → S → S → Status → Type 0
+TellsLoad (Ok line) sinks out out_after s = Tells status.Done line sinks out out_after s
+TellsLoad (Err why) sinks out out_after s = Tells status.Refused (reason_line why) sinks out out_after s
 
 -- the status of a run that ends with a write or a put that didn't succeed
 abbrev pub write_status : WriteError → Status

@@ -10,9 +10,11 @@ ghost use Rattle.rule_model.specs.Lines.{refusal_line};
 use crate::file_lines::fault_line;
 use crate::layouts::place_line;
 use crate::reason::Reason;
+use crate::texts::spelling_line;
 use kmn_base::{Code, Memory, Refusal, Seq, Text};
 use kmn_compiler::Compiled;
 use kmx_format::rule_count;
+use play_script::refused_event_line;
 use std::alloc::Global;
 
 /// The line of a refusal.
@@ -48,6 +50,9 @@ pub fn reason_line(alloc: Global, why: Reason) -> Result<Text, Memory>
         Reason::Size { code, size } => size_line(alloc, code, size),
         Reason::File(fault) => fault_line(alloc, fault),
         Reason::Layout(fault) => place_line(alloc, fault),
+        Reason::Text(why) => spelling_line(alloc, why),
+        Reason::Number => Seq::from_slice(alloc, b"refused G1\n"),
+        Reason::Event { number, code } => refused_event_line(alloc, number, code),
     }
 }
 

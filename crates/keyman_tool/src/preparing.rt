@@ -7,7 +7,7 @@ ghost use Rattle.keyman_tool.specs.Orders.{bytes_work, compiled_work, file_work,
 ghost use Rattle.keyman_tool.specs.Steps.{Gives, IsCompiled, itself, prepared_job, compile_stop, script_stop, first_line, read_stop};
 
 use crate::file_keys::own_keys;
-use crate::file_names::beside;
+use crate::neighbours::beside;
 use crate::reason::Reason;
 use kmn_base::limits::{FILE_BYTES, PICTURE_BYTES, TEXT_BYTES};
 use kmn_base::{Code, CompileError, Memory, Refusal, Seq};
@@ -149,7 +149,7 @@ fn read_named_picture<F: Folder>(
 
 /// The names of a program's own keys.
 #[tactic(auto, using(crate::proofs::MeaningLaws::names_of_keys))]
-fn key_names(checked: &Checked) -> &KeyDictionary
+pub fn key_names(checked: &Checked) -> &KeyDictionary
     ensures { result.now ≡ (src checked.now).dictionary }
 {
     let _program = checked.program();
@@ -214,7 +214,7 @@ fn first_line(code: Code) -> Reason
 }
 
 /// Why a run stops where a source was not compiled.
-fn compile_stop(error: CompileError) -> Stop
+pub fn compile_stop(error: CompileError) -> Stop
     ensures { result ≡ compile_stop error }
 {
     match error {
@@ -225,7 +225,7 @@ fn compile_stop(error: CompileError) -> Stop
 }
 
 /// Why a run stops where a script breaks a rule.
-fn script_stop(error: ScriptError) -> Stop
+pub fn script_stop(error: ScriptError) -> Stop
     ensures { result ≡ script_stop error }
 {
     match error {

@@ -1,5 +1,6 @@
 use kmn_base::{Code, Refusal};
 use kmx_verifier::Fault;
+use spelled_files::NoSpelling;
 use touch_layout::LayoutFault;
 
 /// Why a source, a script, a file or a layout is refused before anything is written.
@@ -13,4 +14,10 @@ pub enum Reason {
     File(Fault),
     /// A touch layout breaks a rule at a place.
     Layout(LayoutFault),
+    /// A compiled file has no text that a source could be.
+    Text(NoSpelling),
+    /// The number of a load is out of its range.
+    Number,
+    /// An event of a load is refused; events count from 1.
+    Event { number: u32, code: Code },
 }

@@ -6,23 +6,26 @@ ghost use Rattle.rule_model.specs.Trace.{trace};
 ghost use Rattle.rule_model.specs.Transcript.{events_of, transcript};
 ghost use Rattle.keyman_tool.specs.Asked.{AsksBy};
 ghost use Rattle.keyman_tool.specs.Command.{is_form, request_of};
-ghost use Rattle.keyman_tool.specs.Endings.{asked, ends, compiled_line, sound_line, valid_line, play_status};
-ghost use Rattle.keyman_tool.specs.Orders.{bytes_play_work, compile_work, layout_work, play_work, tables_layout_work, tables_play_work, test_work, verify_work, work_of};
+ghost use Rattle.keyman_tool.specs.Endings.{asked, ends, compiled_line, decompiled_line, sound_line, valid_line, play_status};
+ghost use Rattle.keyman_tool.specs.Orders.{bytes_play_work, compile_work, decompile_work, layout_work, play_work, tables_layout_work, tables_play_work, test_work, verify_work, work_of};
 ghost use Rattle.keyman_tool.specs.Inputs.{tables_of_file};
+ghost use Rattle.keyman_tool.specs.Loads.{load_text};
 ghost use Rattle.keyman_tool.specs.Reasons.{reason_line};
 ghost use Rattle.keyman_tool.specs.Run.{Does, FaultCounts, FileMeans, Leaves};
 ghost use Rattle.keyman_tool.specs.Seen.{seen_folder, seen_sink};
-ghost use Rattle.keyman_tool.specs.Steps.{IsCompiled, Tells, TellsFile, TellsStop, write_status};
+ghost use Rattle.keyman_tool.specs.Steps.{IsCompiled, Tells, TellsFile, TellsLoad, TellsStop, write_status};
 
 use crate::command::{Command, command_of};
 use crate::file_lines::valid_line;
 use crate::layouts::{read_keys, sound_line};
 use crate::lines::{compiled_line, reason_line};
+use crate::loading::played_load;
 use crate::playing::play;
 use crate::preparing::{Prepared, Stop, prepare, read_and_compile, read_file, read_own_entries};
 use crate::printing::put_all;
 use crate::reason::Reason;
 use crate::status::Status;
+use crate::texts::{decompiled_line, read_text};
 use kmn_base::Text;
 use kmn_compiler::Compiled;
 use kmn_outside::{Folder, Sink, WriteError};
@@ -53,10 +56,12 @@ pub fn run<F: Folder, S: Sink>(alloc: Global, words: &[Text], folder: &mut F, ou
         Some(Command::Compile { source, file }) => compile(alloc, source, file, folder, out),
         Some(Command::Test { source, file, keys }) => test(alloc, source, file, keys, folder, out),
         Some(Command::Verify { file }) => verify_file(alloc, file, folder, out),
+        Some(Command::Decompile { file, source }) => decompile(alloc, file, source, folder, out),
         Some(Command::Play { file, keys }) => play_on_file(alloc, file, keys, folder, out),
         Some(Command::Layout { source, layout }) => {
             check_layout(alloc, source, layout, folder, out)
         }
+        Some(Command::Load { number }) => load(alloc, number, out),
         None => Status::Words,
     }
 }
@@ -133,6 +138,39 @@ fn tell_valid<S: Sink>(alloc: Global, file: &Verified<'_>, out: &mut S) -> Statu
     ensures { Tells Status.Done (valid_line (tables_of file.now)) S.Sink out.old out.new result }
 {
     let Ok(line) = valid_line(alloc, file) else {
+        return Status::Memory;
+    };
+    match put_all(out, line.as_slice()) {
+        Ok(()) => Status::Done,
+        Err(error) => write_status(error),
+    }
+}
+
+/// Decompiles a file, writes its text and prints the text's size.
+fn decompile<F: Folder, S: Sink>(
+    alloc: Global,
+    file: &[u8],
+    source: &[u8],
+    folder: &mut F,
+    out: &mut S,
+) -> Status
+    ensures { Does (decompile_work file.now source.now) F.Folder folder.old folder.new S.Sink out.old out.new result }
+{
+    match read_text(alloc, file, folder) {
+        Ok(text) => match folder.write(alloc, source, text.as_slice()) {
+            Ok(()) => tell_decompiled(alloc, &text, out),
+            Err(error) => write_status(error),
+        },
+        Err(stop) => tell_stop(alloc, stop, out),
+    }
+}
+
+/// Prints the size of a text.
+#[tactic(auto, using(crate::proofs::PrintingLaws::none_begun))]
+fn tell_decompiled<S: Sink>(alloc: Global, text: &Text, out: &mut S) -> Status
+    ensures { Tells Status.Done (decompiled_line text.now) S.Sink out.old out.new result }
+{
+    let Ok(line) = decompiled_line(alloc, text) else {
         return Status::Memory;
     };
     match put_all(out, line.as_slice()) {
@@ -232,6 +270,27 @@ fn tell_sound<S: Sink>(alloc: Global, count: u32, out: &mut S) -> Status
         return Status::Memory;
     };
     match put_all(out, line.as_slice()) {
+        Ok(()) => Status::Done,
+        Err(error) => write_status(error),
+    }
+}
+
+/// Makes, compiles and plays a load, and prints its line.
+fn load<S: Sink>(alloc: Global, number: u32, out: &mut S) -> Status
+    ensures { TellsLoad (load_text number) S.Sink out.old out.new result }
+{
+    match played_load(alloc, number) {
+        Ok(line) => tell_load(line.as_slice(), out),
+        Err(stop) => tell_stop(alloc, stop, out),
+    }
+}
+
+/// Prints the line of a load.
+#[tactic(auto, using(crate::proofs::PrintingLaws::none_begun))]
+fn tell_load<S: Sink>(line: &[u8], out: &mut S) -> Status
+    ensures { Tells Status.Done line.now S.Sink out.old out.new result }
+{
+    match put_all(out, line) {
         Ok(()) => Status::Done,
         Err(error) => write_status(error),
     }

@@ -7,7 +7,7 @@ use crate::run::run;
 use crate::status::Status;
 use kmn_base::{Seq, Text};
 use kmn_outside::{MemoryFolder, MemorySink};
-use rows::{FILE, FILE_RUNS, LAYOUT_RUNS, LONG_RUNS, RUNS, SAMPLE};
+use rows::{FILE, FILE_RUNS, LAYOUT_RUNS, LONG_RUNS, RUNS, SAMPLE, TEXT};
 use std::alloc::{Alloc, AllocError, Global};
 use std::process::Abort;
 use std::test::Fail;
@@ -58,15 +58,19 @@ fn words(alloc: Global, text: &str) -> Result<Vec<Text>, Fail> {
     Ok(words)
 }
 
-/// Runs the words of a line.
+/// Runs the words of a line, of several commands one after the other, and tells how the last one ends.
 fn ended(
     alloc: Global,
     line: &str,
     folder: &mut MemoryFolder,
     sink: &mut MemorySink,
 ) -> Result<Status, Fail> {
-    let words = words(alloc, line)?;
-    Ok(run(alloc, words.as_slice(), folder, sink))
+    let mut status = Status::Words;
+    for command in line.split("; ") {
+        let words = words(alloc, command)?;
+        status = run(alloc, words.as_slice(), folder, sink);
+    }
+    Ok(status)
 }
 
 /// Writes a text with its stand-ins replaced.
@@ -259,6 +263,21 @@ fn is_compiled_to(alloc: Global, file: &[u8]) -> Result<bool, Fail> {
 #[test]
 fn first_file(rt: HostRuntime) -> Result<(), Fail> {
     assert!(rt; is_compiled_to(rt.alloc(), &FILE)?);
+    Ok(())
+}
+
+/// Whether the file of the first source is decompiled to this text.
+fn is_decompiled_to(alloc: Global, text: &[u8]) -> Result<bool, Fail> {
+    let file = compiled(alloc, "@+ 'a' > 'b'~")?;
+    let mut folder = folder(alloc, "", file.as_slice(), "", 0)?;
+    let mut sink = MemorySink::new(alloc, Seq::new(alloc));
+    ended(alloc, "decompile a.kmx out", &mut folder, &mut sink)?;
+    Ok(folder.file(b"out") == Some(text))
+}
+
+#[test]
+fn first_text(rt: HostRuntime) -> Result<(), Fail> {
+    assert!(rt; is_decompiled_to(rt.alloc(), TEXT.as_bytes())?);
     Ok(())
 }
 

@@ -13,6 +13,3 @@ mod picture;
 
 pub use compiling::{Compiled, back, compile, front};
 pub use picture::picture_name;
-
-#[cfg(test)]
-mod tests;

@@ -18,8 +18,6 @@ mod numbers;
 mod slots;
 mod standing;
 mod syntax;
-#[cfg(test)]
-mod tests;
 mod text;
 mod words;
 

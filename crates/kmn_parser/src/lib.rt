@@ -14,8 +14,6 @@ mod rule_line;
 mod signs;
 mod statement;
 mod store_line;
-#[cfg(test)]
-mod tests;
 
 pub use reading::parse;
 pub use statement::{LastGroup, Sign, Statement};

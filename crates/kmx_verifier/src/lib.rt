@@ -21,6 +21,3 @@ mod whole;
 
 pub use faults::{Fault, VerifyError};
 pub use verified::{Verified, verify};
-
-#[cfg(test)]
-mod tests;

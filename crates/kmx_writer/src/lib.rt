@@ -14,6 +14,3 @@ mod stores;
 mod units;
 
 pub use file::write;
-
-#[cfg(test)]
-mod tests;

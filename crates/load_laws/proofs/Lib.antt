@@ -1,4 +1,8 @@
-mod LoadPrograms
+pub mod LoadChecks
+pub mod LoadFiles
+pub mod LoadPlays
+pub mod LoadPrograms
 mod LoadRules
-mod LoadScripts
+pub mod LoadScripts
 mod LoadSteps
+mod LoadTexts

@@ -16,12 +16,12 @@ no_keys i zero = refl
 no_keys zero (suc count) = no_keys 1 count
 no_keys (suc i) (suc count) = no_keys (suc (suc i)) count
 
-no_match : (i count : ℕ) → find is_on_match (rule_defs i count) ≡ None
+pub no_match : (i count : ℕ) → find is_on_match (rule_defs i count) ≡ None
 no_match i zero = refl
 no_match zero (suc count) = no_match 1 count
 no_match (suc i) (suc count) = no_match (suc (suc i)) count
 
-no_nomatch : (i count : ℕ) → find is_on_nomatch (rule_defs i count) ≡ None
+pub no_nomatch : (i count : ℕ) → find is_on_nomatch (rule_defs i count) ≡ None
 no_nomatch i zero = refl
 no_nomatch zero (suc count) = no_nomatch 1 count
 no_nomatch (suc i) (suc count) = no_nomatch (suc (suc i)) count
@@ -47,7 +47,7 @@ group_means n names = λ i.
 all_items : (n : ℕ) → source_items (load_program n) ≡ items_from [] (rule_defs 0 (suc n))
 all_items n = ap (items_from []) (append-nil (rule_defs 0 (suc n)))
 
-no_dictionary : (n : ℕ) → (names_of (load_program n)).keys ≡ []
+pub no_dictionary : (n : ℕ) → (names_of (load_program n)).keys ≡ []
 unfolding names_of
 no_dictionary n = ap (λ (items : List SrcItem). distinct_onto same_name [] (flat_map key_names items)) (all_items n) ∙ ap (distinct_onto same_name []) (no_keys 0 (suc n))
 

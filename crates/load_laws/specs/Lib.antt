@@ -1,3 +1,4 @@
+pub mod Files
 pub mod Keyboards
 pub mod Plays
 pub mod Programs

@@ -1,3 +1,4 @@
+ghost use Rattle.load_laws.specs.Files.{FilesHaveSizes, FilesPlay, SourcesAreChecked};
 ghost use Rattle.load_laws.specs.Plays.{LoadsPlay};
 ghost use Rattle.load_laws.specs.Programs.{ProgramsMean};
 ghost use Rattle.load_laws.specs.Scripts.{ScriptsAreRead};
@@ -17,4 +18,19 @@ pub fn scripts_are_read()
 #[tactic(auto, using(crate::proofs::LoadSteps::loads_play))]
 pub fn loads_play()
     ensures { LoadsPlay }
+{}
+
+/// The source of a load is read as its program, and nothing of it is refused.
+pub fn sources_are_checked()
+    ensures { SourcesAreChecked }
+{}
+
+/// The file that it compiles to has a rule for each of the source and a size that the number tells.
+pub fn files_have_sizes()
+    ensures { FilesHaveSizes }
+{}
+
+/// The presses come to the same on the compiled tables as on the keyboard.
+pub fn files_play()
+    ensures { FilesPlay }
 {}

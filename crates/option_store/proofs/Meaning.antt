@@ -83,7 +83,7 @@ module _ (stores : List StoreMeaning) (cells : List Cell) (n : ℕ) where
   saves_changed : (change : Cell → Cell) → saved_values (stated stores) (changed n change cells) ≡ slice_set (saved_values (stated stores) cells) n (saved_value (stated stores) (change (cell_at cells n)))
   saves_changed change = map-set (saved_value (stated stores)) cells n (change (cell_at cells n))
 
-  abbrev number : Option ℕ
+  abbrev pub number : Option ℕ
   number = option_of (options_before n stores) (slice_get stores n)
 
   -- the values of the options of changed cells
@@ -112,10 +112,10 @@ module _ (stores : List StoreMeaning) (cells : List Cell) (n : ℕ) where
       ∙ ap (option_map (saved_value (stated stores))) (slice_get-get_or cells n (first_cell n) within)
       ∙ ap (λ c. Some (saved_value (stated stores) c)) (sym (unwrap_or-slice_get cells n (first_cell n)))
 
-  option_value_found : n < length cells → (p : ℕ) → number ≡ Some p → slice_get (option_values stores cells) p ≡ Some (current_value (stated stores) (cell_at cells n))
+  pub option_value_found : n < length cells → (p : ℕ) → number ≡ Some p → slice_get (option_values stores cells) p ≡ Some (current_value (stated stores) (cell_at cells n))
   option_value_found within p is = options_get stores (current_values (stated stores) cells) n p (omega (arith, length-map cells (current_value (stated stores)))) is ∙ value_found within
 
-  option_save_found : n < length cells → (p : ℕ) → number ≡ Some p → slice_get (option_saves stores cells) p ≡ Some (saved_value (stated stores) (cell_at cells n))
+  pub option_save_found : n < length cells → (p : ℕ) → number ≡ Some p → slice_get (option_saves stores cells) p ≡ Some (saved_value (stated stores) (cell_at cells n))
   option_save_found within p is = options_get stores (saved_values (stated stores) cells) n p (omega (arith, length-map cells (saved_value (stated stores)))) is ∙ save_found within
 
 -- the elements of a store are those that it is stated with
@@ -123,7 +123,7 @@ elements_stated : (store : Option StoreMeaning) → unwrap_or (option_map (λ (s
 elements_stated None = refl
 elements_stated (Some store) = refl
 
-stated_at : (stores : List StoreMeaning) (v : ℕ) → unwrap_or (slice_get (stated stores) v) [] ≡ elements_at stores (Some v)
+pub stated_at : (stores : List StoreMeaning) (v : ℕ) → unwrap_or (slice_get (stated stores) v) [] ≡ elements_at stores (Some v)
 stated_at stores v = ap (λ elements. unwrap_or elements []) (slice_get-map (λ (store : StoreMeaning). store.elements) stores v) ∙ elements_stated (slice_get stores v)
 
 -- ---- the calls

@@ -1,4 +1,4 @@
-ghost use Rattle.std.specs.Prelude.{◌≡◌, ◌<◌, length, IfOk, MatchResult};
+ghost use Rattle.std.specs.Prelude.{◌≡◌, ◌<◌, [], length, IfOk, MatchResult};
 ghost use Rattle.option_store.specs.Cells.{first_cells, cell_at, changed, set_cell, save_cell, reset_cell, host_cell};
 
 use kmn_base::{Memory, Seq};
@@ -19,6 +19,19 @@ pub struct Cell {
     pub current: Held,
     pub saved: Option<Held>,
     pub text: Seq<char>,
+}
+
+impl Cell {
+    /// The same once more.
+    fn copy(&self, alloc: Global) -> Result<Cell, Memory>
+        ensures { IfOk result (λ cell. cell ≡ self.now) }
+    {
+        Ok(Cell {
+            current: self.current,
+            saved: self.saved,
+            text: self.text.copy(alloc)?,
+        })
+    }
 }
 
 /// What each store of a file holds, by its number from 0. Stores that are no option have one too, which no rule reads.
@@ -50,6 +63,26 @@ impl Options {
                 saved: None,
                 text: Seq::new(alloc),
             })?;
+        }
+        Ok(Options { cells })
+    }
+
+    /// No stores, without any memory.
+    pub fn none(alloc: Global) -> Options
+        ensures { result ≡ [] }
+    {
+        Options {
+            cells: Vec::new(alloc),
+        }
+    }
+
+    /// Each store as it is here.
+    pub fn copy(&self, alloc: Global) -> Result<Options, Memory>
+        ensures { IfOk result (λ options. options ≡ self.now) }
+    {
+        let mut cells = Vec::new(alloc);
+        for cell in self.cells.as_slice() {
+            cells.push(cell.copy(alloc)?)?;
         }
         Ok(Options { cells })
     }

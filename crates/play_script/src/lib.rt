@@ -11,8 +11,6 @@ mod lines;
 mod presses;
 mod reader;
 mod strings;
-#[cfg(test)]
-mod tests;
 mod text_words;
 mod transcript;
 mod words;

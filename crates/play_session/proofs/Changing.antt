@@ -8,9 +8,7 @@ use Rattle.rule_model.specs.declared.tables.Tables.{Tables}
 use Rattle.rule_model.specs.Match.{same_element, same_value}
 use Rattle.rule_model.specs.Plain.{option_numbers}
 use Rattle.rule_model.specs.Tab.{tab}
-use Rattle.rule_engine.specs.declared.values.Values.{Values}
-use Rattle.rule_engine.specs.Values.{current_at, saved_at}
-use Rattle.play_session.specs.Changes.{is_newly_saved, store_changes, changes_from, changes_between}
+use Rattle.play_session.specs.Changes.{Values, current_at, saved_at, is_newly_saved, store_changes, changes_from, changes_between}
 
 same_number : (n : ℕ) → nat_eq n n ≡ true
 same_number n = grind (arith, nat_tests)

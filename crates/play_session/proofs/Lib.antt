@@ -1,6 +1,9 @@
 pub mod Changing
+pub mod Comparing
 pub mod Contexts
 pub mod Moves
 pub mod Presses
 pub mod Printing
+pub mod Readings
 pub mod Rooms
+pub mod Stepping

@@ -1,34 +1,18 @@
 -- What a caret move, an edit from outside and a setting make of an engine and an editor that are together.
-use Rattle.std.proofs.Common.{◌≡◌, ℕ, ◌+◌, ◌-◌, ◌≤◌, List, ◌++◌, length, map, take, drop, Option, Some, None, refl, sym, ◌∙◌, ap, arith, length-append, length-drop}
+use Rattle.std.proofs.Common.{◌≡◌, ℕ, ◌+◌, ◌-◌, ◌≤◌, List, ◌++◌, length, map, take, drop, Option, Some, None, refl, sym, ◌∙◌, ap, subst, arith, length-append, length-drop}
 use Rattle.std.proofs.lemmas.List.{take-append-drop, take_at, drop_at, length-take-le}
 use Rattle.std.proofs.lemmas.Bool.Decides.{nat_tests}
 use Rattle.std.proofs.lemmas.Grind.{common_steps}
-use Rattle.kmn_base.specs.Lists.{characters}
+use Rattle.kmn_base.specs.Lists.{characters, window, IsSound}
 use Rattle.kmn_base.specs.declared.events.Event.TheVariants as event
 use Rattle.kmn_base.specs.declared.items.Element.{Element}
 use Rattle.kmn_base.specs.declared.items.Element.TheVariants.{Char}
 use Rattle.kmn_base.specs.declared.limits.TheConstants.{TEXT_CHARS}
-use Rattle.kmn_base.proofs.ReadingAgain.{reading_again_gives_the_text, reading_again_is_sound}
 use Rattle.rule_model.specs.Event.{text_becomes, caret_event, edit_event, edited_text, edit_refusal, moved_caret, event_refusal, whole_text, set_option, setting_event}
 use Rattle.rule_engine.specs.Engine.{EngineState, synced, option_named, with_option, set_by_host}
 use Rattle.editor_model.specs.Text.{EditorText, whole, IsAt, HasTextOf}
 use Rattle.editor_model.specs.Answers.{caret_refusal}
-use Rattle.play_session.specs.Session.{AreTogether, stands_for}
-
--- an engine that reads the text of an editor, which takes the place of another one
-pub record IsTakenOver (engine : EngineState) (editor after : EditorText) : Type 0 where
-  pub state : stands_for (synced after.left engine) after ≡ text_becomes after.left after.right (stands_for engine editor)
-  pub together : AreTogether TEXT_CHARS (synced after.left engine) after
-
-pub taken_over : (engine : EngineState) (editor after : EditorText) → length (whole after) ≤ TEXT_CHARS → IsTakenOver engine editor after
-taken_over engine editor after few = record {
-  state = refl;
-  together = record {
-    same = reading_again_gives_the_text engine.left after.left;
-    sound = reading_again_is_sound engine.left after.left;
-    few = omega (arith, few, length-append after.left after.right);
-  };
-}
+use Rattle.play_session.specs.Session.{AreTogether, stands_for, text_with_context}
 
 -- the whole text of a session is its editor's
 pub whole_is : (engine : EngineState) (editor : EditorText) → AreTogether TEXT_CHARS engine editor → whole_text (stands_for engine editor) ≡ whole editor
@@ -38,22 +22,22 @@ whole_is engine editor h = ap (λ (left : List ℕ). left ++ editor.right) h.sam
 at_whole : (text : List ℕ) (caret : ℕ) (editor : EditorText) → IsAt text caret editor → whole editor ≡ text
 at_whole text caret editor h = (λ i. h.left i ++ h.right i) ∙ take-append-drop caret text
 
--- a caret that moved, and then back to where it was
-pub caret_back : (before at after : EditorText) (place : ℕ) → IsAt (whole before) place at → IsAt (whole at) (length before.left) after → HasTextOf before after
-caret_back before at after place h back =
-    let same : whole at ≡ whole before = at_whole (whole before) place at h in
-    record {
-      left = back.left ∙ ap (take (length before.left)) same ∙ take_at before.left before.right (length before.left) refl;
-      right = back.right ∙ ap (drop (length before.left)) same ∙ drop_at before.left before.right (length before.left) refl;
-    }
-
 -- an editor that has the text of another one serves as well
-pub same_text : (engine : EngineState) (editor after : EditorText) → AreTogether TEXT_CHARS engine editor → HasTextOf editor after → AreTogether TEXT_CHARS engine after
-same_text engine editor after h text =
+pub record ServesAsWell (limit : ℕ) (engine : EngineState) (editor after : EditorText) : Type 0 where
+  pub state : stands_for engine after ≡ stands_for engine editor
+  pub together : AreTogether limit engine after
+
+pub same_text : (limit : ℕ) (engine : EngineState) (editor after : EditorText) → AreTogether limit engine editor → HasTextOf editor after → ServesAsWell limit engine editor after
+same_text limit engine editor after h text =
+    let same : (stands_for engine after).left ≡ (stands_for engine editor).left = ap (λ (t : List ℕ). text_with_context t engine.context) text.left in
     record {
-      same = h.same ∙ sym text.left;
-      sound = h.sound;
-      few = omega (arith, h.few, ap length text.left, ap length text.right);
+      state = λ i. record (stands_for engine editor) { left = same i; right = text.right i };
+      together = record {
+        same = ap characters same ∙ (h.same ∙ sym text.left);
+        sound = subst IsSound (sym same) h.sound;
+        context = ap window same ∙ h.context;
+        few = omega (arith, h.few, ap length text.left, ap length text.right);
+      };
     }
 
 -- what is known of a caret that moved
@@ -96,7 +80,7 @@ pub edit_done : (engine : EngineState) (editor after : EditorText) (from to : �
     → IsAt (edited_text from to text (whole editor)) (moved_caret from to (length text) (length editor.left)) after → IsEdited engine editor after from to text
 edit_done engine editor after from to text h none at =
     let same : whole editor ≡ whole_text (stands_for engine editor) = sym (whole_is engine editor h) in
-    let caret : moved_caret from to (length text) (length editor.left) ≡ moved_caret from to (length text) (length (characters engine.left))
+    let caret : moved_caret from to (length text) (length editor.left) ≡ moved_caret from to (length text) (length (characters (stands_for engine editor).left))
     = ap (λ (left : List ℕ). moved_caret from to (length text) (length left)) (sym h.same) in
     let known = edit_few from to (length text) (length (whole editor)) none in
     record {
@@ -111,9 +95,9 @@ edit_done engine editor after from to text h none at =
           ((at.right ∙ (λ j. drop (caret j) (edited_text from to text (same j)))) i) (stands_for engine editor);
     }
 
-pub ruleset caret_steps = (caret_moved, caret_refused, caret_back, same_text)
+pub ruleset caret_steps = (caret_moved, caret_refused, same_text)
 
-pub ruleset edit_steps = (edit_done, edit_refused)
+pub ruleset edit_steps = (edit_done, edit_refused, same_text)
 
 -- what a setting makes of an engine is what it makes of the state
 option_is_set : (engine : EngineState) (editor : EditorText) (option : Option ℕ) (value : List Element)
@@ -128,7 +112,7 @@ host_sets engine editor name value = option_is_set engine editor (option_named n
 -- and the text of the session stays
 texts_stay : (limit : ℕ) (engine : EngineState) (editor : EditorText) (option : Option ℕ) (value : List Element) → AreTogether limit engine editor → AreTogether limit (with_option option value engine) editor
 texts_stay limit engine editor None value h = h
-texts_stay limit engine editor (Some option) value h = record { same = h.same; sound = h.sound; few = h.few }
+texts_stay limit engine editor (Some option) value h = record { same = h.same; sound = h.sound; context = h.context; few = h.few }
 
 tables_stay : (engine : EngineState) (option : Option ℕ) (value : List Element) → (with_option option value engine).tables ≡ engine.tables
 tables_stay engine None value = refl

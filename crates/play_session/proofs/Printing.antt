@@ -26,10 +26,8 @@ use Rattle.rule_model.specs.Transcript as transcript
 use Rattle.rule_model.specs.Transcript.{value_line}
 use Rattle.rule_model.proofs.PlainCounts.{after_key-counts}
 use Rattle.rule_model.proofs.PlainOptions.{number_found, content_of_option}
-use Rattle.rule_engine.specs.declared.values.Values.{Values}
-use Rattle.rule_engine.specs.Values.{current_at, saved_at}
 use Rattle.play_session.specs.declared.changes.Change.{Change}
-use Rattle.play_session.specs.Changes.{is_newly_saved, current_change, saved_change, changes_from}
+use Rattle.play_session.specs.Changes.{Values, current_at, saved_at, is_newly_saved, current_change, saved_change, changes_from}
 use Rattle.play_session.specs.Printed.{name_in, name_of, change_line, change_lines, IsSession, printed_changes}
 use Rattle.play_session.specs.Session.{SessionState, first_session, after_step, values_of}
 

@@ -24,7 +24,7 @@ abbrev pub no_text : EditorText
 no_text = record { left = []; right = []; spare = 0 }
 
 begins_together : (tables : Tables) → AreTogether TEXT_CHARS (first_engine tables) no_text
-begins_together tables = record { same = refl; sound = All-nil (λ item. is_mark item ≡ false); few = omega arith }
+begins_together tables = record { same = refl; sound = All-nil (λ item. is_mark item ≡ false); context = refl; few = omega arith }
 
 pub session_begins : (tables : Tables) (engine : EngineState) (editor : EditorText) (count room : ℕ) → engine ≡ first_engine tables → editor ≡ no_text
     → count ≡ length tables.stores → count < 2 ^ 32 → 2 * count ≤ room → AreTogether TEXT_CHARS engine editor × HasRoom engine.tables room

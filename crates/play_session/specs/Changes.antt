@@ -1,13 +1,36 @@
 -- Which option values an event changed, by store number.
-use Rattle.std.specs.Prelude.{ℕ, ◌+◌, Bool, true, false, not, if◌then◌else◌, List, [], ◌∷◌, ◌++◌, Option, Some, None}
+use Rattle.std.specs.Prelude.{ℕ, ◌+◌, Bool, true, false, not, if◌then◌else◌, List, [], ◌∷◌, ◌++◌, Option, Some, None, slice_get, unwrap_or}
+use Rattle.std.specs.Option.{option_flatten}
 use Rattle.kmn_base.specs.declared.items.Element.{Element}
 use Rattle.rule_model.specs.declared.tables.Tables.{Tables}
 use Rattle.rule_model.specs.Match.{same_value}
 use Rattle.rule_model.specs.Plain.{option_numbers}
 use Rattle.rule_model.specs.Tab.{tab}
-use Rattle.rule_engine.specs.declared.values.Values.{Values}
-use Rattle.rule_engine.specs.Values.{current_at, saved_at}
+use Rattle.option_store.specs.declared.options.Cell.{Cell}
+use Rattle.option_store.specs.Meaning.{option_values, option_saves}
+use Rattle.rule_engine.specs.Engine.{EngineState}
 use Rattle.play_session.specs.declared.changes.Change.{Change}
+
+-- the current value of each option, and the saved one where there is one, by the number of the option
+pub record Values : Type 0 where
+  pub current : List (List Element)
+  pub saved : List (Option (List Element))
+
+-- the values that the cells of the stores of tables stand for, and those of an engine
+abbrev pub values_in : Tables → List Cell → Values
+values_in tables cells =
+    record { current = option_values (tab tables).stores cells; saved = option_saves (tab tables).stores cells }
+
+abbrev pub values_now : EngineState → Values
+values_now engine = record { current = engine.current; saved = engine.saved }
+
+-- the current value of an option, empty where there is no such option
+abbrev pub current_at : Values → ℕ → List Element
+current_at values option = unwrap_or (slice_get values.current option) []
+
+-- the saved value of an option, where there is one
+abbrev pub saved_at : Values → ℕ → Option (List Element)
+saved_at values option = option_flatten (slice_get values.saved option)
 
 -- a saved value that there is now, and that was not saved before
 abbrev pub is_newly_saved : Option (List Element) → Option (List Element) → Bool

@@ -4,18 +4,17 @@ use Rattle.kmn_base.specs.declared.items.Item.{Item}
 use Rattle.kmn_base.specs.declared.items.Item.TheVariants.{Char}
 use Rattle.kmn_base.specs.declared.events.Event.{Event}
 use Rattle.kmn_base.specs.declared.events.Event.TheVariants as event
-use Rattle.kmn_base.specs.Lists.{characters, without_last, IsSound}
+use Rattle.kmn_base.specs.Lists.{characters, without_last, window, IsSound}
 use Rattle.rule_model.specs.declared.tables.Tables.{Tables}
 use Rattle.rule_model.specs.Act.{one_more}
 use Rattle.rule_model.specs.Event.{State, Happening, happening}
 use Rattle.rule_model.specs.Plain.{option_numbers}
 use Rattle.rule_model.specs.Tab.{tab}
 use Rattle.rule_model.specs.Trace.{first_state}
-use Rattle.rule_engine.specs.declared.values.Values.{Values}
 use Rattle.rule_engine.specs.Engine.{EngineState}
 use Rattle.editor_model.specs.Text.{EditorText}
 use Rattle.play_session.specs.declared.changes.Change.{Change}
-use Rattle.play_session.specs.Changes.{changes_between}
+use Rattle.play_session.specs.Changes.{Values, changes_between}
 
 -- a session: its tables, the state that it stands for, and of its last step the number, what it inserted and which
 -- option values it changed
@@ -26,11 +25,16 @@ pub record SessionState : Type 0 where
   pub inserted : List ℕ
   pub changes : List Change
 
--- the state that an engine and an editor stand for together
+-- a text before the caret whose last items are these, marks among them
+abbrev pub text_with_context : List ℕ → List Item → List Item
+text_with_context text context = map Char (without_last (length (characters context)) text) ++ context
+
+-- the state that an engine and an editor stand for together: the list before the caret is the editor's text, with the
+-- engine's context at its end
 abbrev pub stands_for : EngineState → EditorText → State
 stands_for engine editor =
     record {
-      left = engine.left;
+      left = text_with_context editor.left engine.context;
       right = editor.right;
       names = (first_state (tab engine.tables)).names;
       current = engine.current;
@@ -57,26 +61,24 @@ abbrev pub engine_of : SessionState → List ℕ → EngineState
 engine_of session inserted =
     record {
       tables = session.tables;
-      left = session.state.left;
+      context = window session.state.left;
       current = session.state.current;
       saved = session.state.saved;
       inserted = inserted;
     }
 
--- the engine knows the editor's text, its marks stand in the window, and the text has at most so many characters
+-- the list that both stand for has the editor's text and its marks in the window, which is the engine's context; and the
+-- text has at most so many characters
 pub record AreTogether (limit : ℕ) (engine : EngineState) (editor : EditorText) : Type 0 where
-  pub same : characters engine.left ≡ editor.left
-  pub sound : IsSound engine.left
+  pub same : characters (stands_for engine editor).left ≡ editor.left
+  pub sound : IsSound (stands_for engine editor).left
+  pub context : window (stands_for engine editor).left ≡ engine.context
   pub few : length editor.left + length editor.right ≤ limit
 
 -- the stores of tables have 32-bit numbers, and there is room for two changes of each
 pub record HasRoom (tables : Tables) (room : ℕ) : Type 0 where
   pub numbers : length (option_numbers 0 (tab tables).stores) < 2 ^ 32
   pub changes : 2 * length (option_numbers 0 (tab tables).stores) ≤ room
-
--- a text before the caret whose last items are these, marks among them
-abbrev pub text_with_context : List ℕ → List Item → List Item
-text_with_context text context = map Char (without_last (length (characters context)) text) ++ context
 
 -- before the first event
 abbrev pub first_session : Tables → SessionState

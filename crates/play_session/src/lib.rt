@@ -11,8 +11,6 @@ mod changes;
 pub mod laws;
 mod playing;
 mod session;
-#[cfg(test)]
-mod tests;
 
 pub use changes::Change;
 pub use session::{Session, Step, StepError};

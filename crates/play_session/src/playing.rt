@@ -1,11 +1,9 @@
-ghost use Rattle.std.specs.Prelude.{◌≡◌, ◌+◌, ◌≤◌, length, None, IfOk, IfErr, MatchResult};
+ghost use Rattle.std.specs.Prelude.{◌≡◌, ◌+◌, ◌≤◌, None, IfOk, IfErr};
 ghost use Rattle.kmn_base.specs.declared.events.Event.TheVariants as event;
 ghost use Rattle.kmn_base.specs.declared.limits.TheConstants.{EVENT_PUTS, TEXT_CHARS, TEXT_CHARS_AT_KEY};
-ghost use Rattle.kmn_base.specs.Lists.{characters};
 ghost use Rattle.rule_model.specs.KeyEvent.{outcome_of, inserted};
-ghost use Rattle.rule_model.specs.Event.{by_editor, key_event, text_becomes, caret_event, edit_event, setting_event, event_refusal};
+ghost use Rattle.rule_model.specs.Event.{by_editor, key_event, caret_event, edit_event, setting_event, event_refusal};
 ghost use Rattle.rule_model.specs.Tab.{tab};
-ghost use Rattle.editor_model.specs.Text.{whole};
 ghost use Rattle.editor_model.specs.Answers.{code_of as edit_code};
 ghost use Rattle.play_session.specs.Answers.{code_of};
 ghost use Rattle.play_session.specs.Session.{AreTogether, stands_for};
@@ -22,49 +20,36 @@ use std::alloc::Global;
 const KEY_CHARS: usize = EVENT_PUTS as usize + 1;
 
 /// Presses a key, and makes its edit before the caret.
-fn press_key(
-    alloc: Global,
-    engine: &mut Engine,
-    editor: &mut Editor,
-    press: KeyPress,
-) -> Result<Outcome, Memory>
+fn press_key(engine: &mut Engine, editor: &mut Editor, press: KeyPress) -> Outcome
     requires together { AreTogether TEXT_CHARS_AT_KEY engine.old editor.old }
     requires room { EVENT_PUTS + 1 ≤ editor.old.spare }
     ensures together { AreTogether (TEXT_CHARS_AT_KEY + EVENT_PUTS) engine.new editor.new }
     ensures tables { engine.new.tables ≡ engine.old.tables }
-    ensures outcome { IfOk result (λ outcome. outcome ≡ outcome_of engine.old.left (press_gives engine.old press)) }
-    ensures state { IfOk result (λ _. stands_for engine.new editor.new ≡ acted (press_gives engine.old press) (stands_for engine.old editor.old)) }
-    ensures inserted { IfOk result (λ _. engine.new.inserted ≡ inserted engine.old.left (press_gives engine.old press).left) }
+    ensures outcome { result ≡ outcome_of (stands_for engine.old editor.old).left (press_gives engine.old.tables press (stands_for engine.old editor.old)) }
+    ensures state { stands_for engine.new editor.new ≡ acted (press_gives engine.old.tables press (stands_for engine.old editor.old)) (stands_for engine.old editor.old) }
+    ensures inserted { engine.new.inserted ≡ inserted (stands_for engine.old editor.old).left (press_gives engine.old.tables press (stands_for engine.old editor.old)).left }
     ensures room { 1 ≤ editor.new.spare }
 {
-    let outcome = engine.key(alloc, editor.left(), press)?;
+    let outcome = engine.key(editor.left(), press);
     editor.apply(outcome.delete, engine.inserted());
-    Ok(outcome)
+    outcome
 }
 
-/// Does the editor's default for a key that was passed on, and reads the text before the caret again. It is done beside
-/// the text first, since the reading takes memory.
-fn pass_on(
-    alloc: Global,
-    engine: &mut Engine,
-    editor: &mut Editor,
-    press: KeyPress,
-) -> Result<(), Memory>
+/// Does the editor's default for a key that was passed on, and reads the text before the caret again.
+fn pass_on(engine: &mut Engine, editor: &mut Editor, press: KeyPress)
     requires together { AreTogether (TEXT_CHARS_AT_KEY + EVENT_PUTS) engine.old editor.old }
     requires room { 1 ≤ editor.old.spare }
     ensures together { AreTogether TEXT_CHARS engine.new editor.new }
     ensures tables { engine.new.tables ≡ engine.old.tables }
-    ensures state { IfOk result (λ _. stands_for engine.new editor.new ≡ by_editor press (stands_for engine.old editor.old)) }
+    ensures state { stands_for engine.new editor.new ≡ by_editor press (stands_for engine.old editor.old) }
     ensures inserted { engine.new.inserted ≡ engine.old.inserted }
 {
-    let mut after = editor.copy(alloc)?;
-    after.passed(press);
-    engine.sync(alloc, after.left())?;
-    *editor = after;
-    Ok(())
+    editor.passed(press);
+    engine.sync(editor.left());
 }
 
-/// A key event.
+/// A key event. The room for all that it may insert is made first, so want of memory leaves the text as it was.
+#[tactic(auto, using(crate::proofs::Moves::same_text))]
 pub(crate) fn key_event(
     alloc: Global,
     engine: &mut Engine,
@@ -77,19 +62,20 @@ pub(crate) fn key_event(
     ensures outcome { IfOk result (λ outcome. outcome ≡ (key_event (tab engine.old.tables) press (stands_for engine.old editor.old)).outcome) }
     ensures state { IfOk result (λ _. stands_for engine.new editor.new ≡ (key_event (tab engine.old.tables) press (stands_for engine.old editor.old)).after) }
     ensures inserted { IfOk result (λ _. engine.new.inserted ≡ (key_event (tab engine.old.tables) press (stands_for engine.old editor.old)).inserted) }
+    ensures unchanged { IfErr result (λ _. stands_for engine.new editor.new ≡ stands_for engine.old editor.old) }
+    ensures engine { IfErr result (λ _. engine.new ≡ engine.old) }
 {
     editor.reserve(alloc, KEY_CHARS)?;
-    let outcome = press_key(alloc, engine, editor, press)?;
+    let outcome = press_key(engine, editor, press);
     if outcome.pass {
-        pass_on(alloc, engine, editor, press)?;
+        pass_on(engine, editor, press);
     }
     Ok(outcome)
 }
 
-/// A caret event. The caret moves in place, and back where there is no memory to read the text before it again.
+/// A caret event, which takes no memory.
 #[tactic(auto, using(crate::proofs::Moves::caret_steps))]
 pub(crate) fn caret_event(
-    alloc: Global,
     engine: &mut Engine,
     editor: &mut Editor,
     place: u32,
@@ -103,20 +89,16 @@ pub(crate) fn caret_event(
     ensures unchanged { IfErr result (λ _. stands_for engine.new editor.new ≡ stands_for engine.old editor.old) }
     ensures inserted { engine.new.inserted ≡ engine.old.inserted }
 {
-    let caret = editor.left().len();
     match editor.caret(place) {
-        Ok(()) => match engine.sync(alloc, editor.left()) {
-            Ok(()) => Ok(()),
-            Err(Memory) => {
-                editor.go_to(caret);
-                Err(StepError::Memory)
-            }
-        },
+        Ok(()) => {
+            engine.sync(editor.left());
+            Ok(())
+        }
         Err(error) => Err(step_error(error)),
     }
 }
 
-/// An edit from outside, which is done on a copy of the editor.
+/// An edit from outside.
 #[tactic(auto, using(crate::proofs::Moves::edit_steps))]
 pub(crate) fn edit_event(
     alloc: Global,
@@ -135,38 +117,13 @@ pub(crate) fn edit_event(
     ensures unchanged { IfErr result (λ _. stands_for engine.new editor.new ≡ stands_for engine.old editor.old) }
     ensures inserted { engine.new.inserted ≡ engine.old.inserted }
 {
-    if let Err(error) = editor.try_edit(from, to, text.len()) {
-        return Err(step_error(error));
-    }
-    let mut after = editor.copy(alloc)?;
-    match after.edit(alloc, from, to, text) {
+    match editor.edit(alloc, from, to, text) {
         Ok(()) => {
-            take_over(alloc, engine, editor, after)?;
+            engine.sync(editor.left());
             Ok(())
         }
         Err(error) => Err(step_error(error)),
     }
-}
-
-/// Puts an editor in the place of the one that was there, and reads the text before the caret again.
-#[tactic(auto, using(crate::proofs::Moves::taken_over))]
-fn take_over(
-    alloc: Global,
-    engine: &mut Engine,
-    editor: &mut Editor,
-    after: Editor,
-) -> Result<(), Memory>
-    requires together { AreTogether TEXT_CHARS engine.old editor.old }
-    requires few { length (whole after) ≤ TEXT_CHARS }
-    ensures together { AreTogether TEXT_CHARS engine.new editor.new }
-    ensures tables { engine.new.tables ≡ engine.old.tables }
-    ensures state { IfOk result (λ _. stands_for engine.new editor.new ≡ text_becomes after.left after.right (stands_for engine.old editor.old)) }
-    ensures unchanged { IfErr result (λ _. stands_for engine.new editor.new ≡ stands_for engine.old editor.old) }
-    ensures inserted { engine.new.inserted ≡ engine.old.inserted }
-{
-    engine.sync(alloc, after.left())?;
-    *editor = after;
-    Ok(())
 }
 
 /// A setting of the host.

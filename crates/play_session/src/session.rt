@@ -1,4 +1,4 @@
-ghost use Rattle.std.specs.Prelude.{◌≡◌, ◌≤◌, length, IfOk, IfErr, IsSome, Ok};
+ghost use Rattle.std.specs.Prelude.{◌≡◌, ◌≤◌, length, IfOk, IfErr, Ok};
 ghost use Rattle.kmn_base.specs.declared.events.Event.TheVariants as event;
 ghost use Rattle.kmn_base.specs.declared.limits.TheConstants.{TEXT_CHARS};
 ghost use Rattle.kmn_base.specs.Lists.{characters, window};
@@ -118,21 +118,38 @@ impl<'a> Session<'a> {
         })
     }
 
-    /// Does an event. `Place` and `Length` come exactly where its meaning refuses it, and change nothing. Want of memory
-    /// changes nothing either, but where a press that is passed on ends in it: of that session nothing is said.
+    /// A session on the same file and in the same state. What one of both does then changes nothing of the other.
+    pub fn copy(&self, alloc: Global) -> Result<Session<'a>, Memory>
+        ensures { IfOk result (λ session. session ≡ self.now) }
+    {
+        let engine = self.engine.copy(alloc)?;
+        let editor = self.editor.copy(alloc)?;
+        let mut changes = Vec::with_capacity(alloc, self.changes.capacity())?;
+        changes.extend_from_slice(self.changes.as_slice())?;
+        Ok(Session {
+            engine,
+            editor,
+            number: self.number,
+            typed: self.typed,
+            changes,
+        })
+    }
+
+    /// Does an event. `Place` and `Length` come exactly where its meaning refuses it. They and want of memory change nothing:
+    /// all memory of an event is taken before it acts.
     pub fn step(&mut self, alloc: Global, event: &Event) -> Result<Step, StepError>
         ensures happens { IfOk result (λ _. event_of (tab self.old.tables) self.old.state event.now ≡ Ok (happened self.old event.now)) }
         ensures answer { IfOk result (λ step. step ≡ step_of self.old event.now) }
         ensures leaves { IfOk result (λ _. self.new ≡ after_step self.old event.now) }
         ensures refused { IfErr result (λ error. code_of error ≡ event_refusal self.old.state event.now) }
-        ensures unchanged { IfErr result (λ error. IsSome (code_of error) → self.new ≡ self.old) }
+        ensures unchanged { IfErr result (λ _. self.new ≡ self.old) }
     {
         match event {
             Event::Key(press) => self.key(alloc, *press),
             Event::Setting { name, value } => {
                 self.setting(alloc, name.as_slice(), value.as_slice())
             }
-            Event::Caret(place) => self.caret(alloc, *place),
+            Event::Caret(place) => self.caret(*place),
             Event::Edit { from, to, text } => self.edit(alloc, *from, *to, text.as_slice()),
         }
     }
@@ -144,20 +161,15 @@ impl<'a> Session<'a> {
         ensures answer { IfOk result (λ step. step ≡ step_of self.old (event.Key press)) }
         ensures leaves { IfOk result (λ _. self.new ≡ after_step self.old (event.Key press)) }
         ensures refused { IfErr result (λ error. code_of error ≡ event_refusal self.old.state (event.Key press)) }
-        ensures unchanged { IfErr result (λ error. IsSome (code_of error) → self.new ≡ self.old) }
+        ensures unchanged { IfErr result (λ _. self.new ≡ self.old) }
     {
         if self.editor.left().len() + self.editor.right().len() > TEXT_CHARS_AT_KEY {
             return Err(StepError::Length);
         }
-        let before = self.engine.values().copy(alloc)?;
+        let before = self.engine.options().copy(alloc)?;
         let outcome = key_event(alloc, &mut self.engine, &mut self.editor, press)?;
         self.changes.clear();
-        put_changes(
-            &mut self.changes,
-            self.engine.option_numbers(),
-            &before,
-            self.engine.values(),
-        );
+        put_changes(&mut self.changes, &self.engine, &before);
         self.typed = true;
         Ok(next_step(&mut self.number, outcome))
     }
@@ -171,29 +183,24 @@ impl<'a> Session<'a> {
         ensures refused { IfErr result (λ error. code_of error ≡ event_refusal self.old.state (event.Setting name.now value.now)) }
         ensures unchanged { IfErr result (λ _. self.new ≡ self.old) }
     {
-        let before = self.engine.values().copy(alloc)?;
+        let before = self.engine.options().copy(alloc)?;
         setting_event(alloc, &mut self.engine, &self.editor, name, value)?;
         self.changes.clear();
-        put_changes(
-            &mut self.changes,
-            self.engine.option_numbers(),
-            &before,
-            self.engine.values(),
-        );
+        put_changes(&mut self.changes, &self.engine, &before);
         self.typed = false;
         Ok(next_step(&mut self.number, NO_OUTCOME))
     }
 
     /// A caret move.
     #[tactic(auto, using(crate::proofs::Changing::nothing_changes), unfolding(rule_model::specs::Event::happening))]
-    fn caret(&mut self, alloc: Global, place: u32) -> Result<Step, StepError>
+    fn caret(&mut self, place: u32) -> Result<Step, StepError>
         ensures happens { IfOk result (λ _. event_of (tab self.old.tables) self.old.state (event.Caret place) ≡ Ok (happened self.old (event.Caret place))) }
         ensures answer { IfOk result (λ step. step ≡ step_of self.old (event.Caret place)) }
         ensures leaves { IfOk result (λ _. self.new ≡ after_step self.old (event.Caret place)) }
         ensures refused { IfErr result (λ error. code_of error ≡ event_refusal self.old.state (event.Caret place)) }
         ensures unchanged { IfErr result (λ _. self.new ≡ self.old) }
     {
-        caret_event(alloc, &mut self.engine, &mut self.editor, place)?;
+        caret_event(&mut self.engine, &mut self.editor, place)?;
         self.changes.clear();
         self.typed = false;
         Ok(next_step(&mut self.number, NO_OUTCOME))
@@ -262,10 +269,10 @@ impl<'a> Session<'a> {
         ensures { IfOk result (λ value. value ≡ value_of self.now store saved) }
     {
         if !saved {
-            return Ok(Some(Seq::from_slice(alloc, self.engine.content(store))?));
+            return Ok(Some(self.engine.content(store).copy(alloc)?));
         }
         match self.engine.saved_of(store) {
-            Some(value) => Ok(Some(Seq::from_slice(alloc, value)?)),
+            Some(value) => Ok(Some(value.copy(alloc)?)),
             None => Ok(None),
         }
     }

@@ -16,8 +16,6 @@ mod rules;
 mod spelled;
 mod stores;
 mod summaries;
-#[cfg(test)]
-mod tests;
 mod totals;
 mod values;
 mod walking;

@@ -1,108 +1,107 @@
--- What an engine keeps, and the edit of a press from the text before it.
-use Rattle.std.proofs.Common.{◌≡◌, ℕ, suc, ◌+◌, ◌-◌, ◌<◌, ◌≤◌, true, false, cond, List, [], ◌∷◌, length, drop, Some, sym, ap, ◌∙◌, subst, arith, length-set}
-use Rattle.std.specs.Prelude.{nat_eq}
-use Rattle.std.proofs.lemmas.List.Elements.{All-nil}
+-- What an engine is made of, at its start and then.
+use Rattle.std.proofs.Common.{◌≡◌, ℕ, suc, ◌<◌, get_or, Bool, true, false, List, [], ◌∷◌, length, map, Option, Some, None, refl, sym, ◌∙◌, ap, arith}
+use Rattle.std.specs.Prelude.{if◌then◌else◌, position, slice_get, slice_set}
+use Rattle.std.specs.Option.{option_flatten}
+use Rattle.std.proofs.lemmas.Option.{slice_get-get_or}
 use Rattle.std.proofs.lemmas.List.{length-map}
-use Rattle.std.proofs.lemmas.List.Quantifiers.{position-Some}
 use Rattle.kmn_base.specs.declared.items.Item.{Item}
 use Rattle.kmn_base.specs.declared.items.Element.{Element}
-use Rattle.kmn_base.specs.declared.keys.KeyPress.{KeyPress}
-use Rattle.kmn_base.specs.Lists.{characters, is_mark, IsSound, read_again}
-use Rattle.kmn_base.proofs.ReadingAgain.{reading_again_is_sound, reading_again_gives_the_text}
-use Rattle.rule_model.specs.declared.event_state.EventState.{EventState}
+use Rattle.kmn_base.specs.declared.items.Element.TheVariants.{Char}
+use Rattle.kmn_base.specs.declared.limits.TheConstants.{EVENT_PUTS}
 use Rattle.rule_model.specs.declared.tables.Tables.{Tables}
-use Rattle.rule_model.specs.Event.{has_name}
-use Rattle.rule_model.specs.KeyEvent.{begin_event, common_prefix, deleted, inserted, outcome_of}
-use Rattle.rule_model.specs.Tab.{tab}
+use Rattle.rule_model.specs.Keyboard.{StoreMeaning, Numbered}
+use Rattle.rule_model.specs.Plain.{of_options, option_numbers, option_named as named_option}
+use Rattle.rule_model.specs.Content.{option_number}
+use Rattle.rule_model.proofs.PlainOptions.{first_named}
+use Rattle.rule_model.specs.Event.{State, has_name, set_option}
+use Rattle.rule_model.specs.Tab.{tab, tab_options}
 use Rattle.rule_model.specs.Trace.{options_of, first_state}
-use Rattle.rule_model.proofs.Budget.{press_is_within_budget}
-use Rattle.rule_model.proofs.Insertions.{press_inserts_at_most_what_it_puts}
-use Rattle.rule_model.proofs.PlainCounts.{after_key-counts}
-use Rattle.rule_model.proofs.Soundness.{press_keeps_sound}
-use Rattle.rule_engine.specs.Engine.{EngineState, IsEngine, first_engine, option_named, pressed, press_outcome, press_leaves, with_option}
+use Rattle.option_store.specs.declared.options.Cell.{Cell}
+use Rattle.option_store.specs.Cells.{first_cells, changed, host_cell, current_value, saved_value}
+use Rattle.option_store.specs.Meaning.{stated, option_values, option_saves, holding}
+use Rattle.option_store.proofs.FirstCells.{first_cells_count}
+use Rattle.option_store.proofs.Meaning.{calls_follow, first_option_values, first_option_saves}
+use Rattle.event_text.specs.Texts.{InsertedValue}
+use Rattle.rule_engine.specs.Engine.{EngineState, IsEngine, IsRunnable, IsAtWork, engine_with, first_engine, option_named, with_option, set_by_host}
+use Rattle.rule_engine.proofs.StoreContents.{stores_meant}
 
-pub first_is_engine : (tables : Tables) → IsEngine (first_engine tables)
-first_is_engine tables = record {
-  sound = All-nil (λ item. is_mark item ≡ false);
-  current = length-map (options_of (tab tables).stores) _;
-  saved = length-map (options_of (tab tables).stores) _;
-  inserted = omega arith;
+-- there are as many values of options as options
+module _ {X : Type 0} where
+  values_counted : (stores : List StoreMeaning) (values : List X) → length values ≡ length stores → length (of_options stores values) ≡ length (options_of stores)
+  values_counted [] values count = refl
+  values_counted (s ∷ ss) [] count = absurd (omega arith)
+  values_counted (s ∷ ss) (v ∷ vs) count =
+      let behind : length (of_options ss vs) ≡ length (options_of ss) = values_counted ss vs (omega arith) in
+      one s.is_option behind
+    where
+      one : (is_option : Bool) → length (of_options ss vs) ≡ length (options_of ss)
+          → length (if is_option then v ∷ of_options ss vs else of_options ss vs) ≡ length (if is_option then s ∷ options_of ss else options_of ss)
+      one true behind = ap suc behind
+      one false behind = behind
+
+pub at_work_is_engine : (tables : Tables) (context : List Item) (cells : List Cell) (inserted : InsertedValue) → IsAtWork tables context cells inserted
+    → IsEngine (engine_with tables context cells inserted.text)
+at_work_is_engine tables context cells inserted h =
+    let stores : List StoreMeaning = (tab tables).stores in
+    let count : length cells ≡ length stores = h.stores ∙ sym (stores_meant tables) in
+    record {
+      few = h.few;
+      current = values_counted stores _ (length-map cells (current_value (stated stores)) ∙ count);
+      saved = values_counted stores _ (length-map cells (saved_value (stated stores)) ∙ count);
+      inserted = h.text;
+    }
+
+abbrev pub nothing_inserted : InsertedValue
+nothing_inserted = record { text = []; room = EVENT_PUTS }
+
+pub first_is_at_work : (tables : Tables) → IsRunnable tables → IsAtWork tables [] (first_cells 0 (length tables.stores)) nothing_inserted
+first_is_at_work tables can = record {
+  runnable = can;
+  few = omega arith;
+  stores = first_cells_count 0 (length tables.stores);
+  text = omega arith;
+  room = refl;
 }
 
--- a text that is read again keeps it
-pub sync_keeps_engine : (text : List ℕ) (engine : EngineState) (list : List Item) → list ≡ read_again engine.left text → IsEngine engine → IsEngine (record engine { left = list })
-sync_keeps_engine text engine list reads is = record {
-  sound = subst IsSound (sym reads) (reading_again_is_sound engine.left text);
-  current = is.current;
-  saved = is.saved;
-  inserted = is.inserted;
-}
+pub first_values : (tables : Tables) → engine_with tables [] (first_cells 0 (length tables.stores)) [] ≡ first_engine tables
+first_values tables =
+    let stores : List StoreMeaning = (tab tables).stores in
+    let cells : first_cells 0 (length tables.stores) ≡ first_cells 0 (length stores) = ap (first_cells 0) (sym (stores_meant tables)) in
+    λ i. record (first_engine tables) {
+      current = (ap (option_values stores) cells ∙ first_option_values stores) i;
+      saved = (ap (option_saves stores) cells ∙ first_option_saves stores) i;
+    }
 
--- an option that is set keeps it
-pub given_keeps_engine : (engine : EngineState) (option : ℕ) (value : List Element) → IsEngine engine → IsEngine (with_option (Some option) value engine)
-given_keeps_engine engine option value is = record {
-  sound = is.sound;
-  current = length-set engine.current option value ∙ is.current;
-  saved = length-set engine.saved option (Some value) ∙ is.saved;
-  inserted = is.inserted;
-}
+-- the number that a list of numbers has at a place
+pub number_there : (numbers : List (Option ℕ)) (n : ℕ) (d : Option ℕ) → n < length numbers → option_flatten (slice_get numbers n) ≡ get_or numbers n d
+number_there numbers n d within = ap (λ (number : Option (Option ℕ)). option_flatten number) (slice_get-get_or numbers n d within)
 
--- the option of a name has a current and a saved value
-pub record HasValues (engine : EngineState) (option : ℕ) : Type 0 where
-  pub current : option < length engine.current
-  pub saved : option < length engine.saved
+-- the option of a name by the stores of the tables
+pub named_is_option : (tables : Tables) (name : List ℕ)
+    → named_option name (option_numbers 0 (tab tables).stores) tables.stores ≡ position (has_name name) (first_state (tab tables)).names
+unfolding tab
+named_is_option tables name = first_named name (tab_options tables) tables.stores
 
-pub named_has_values : (name : List ℕ) (engine : EngineState) (option : ℕ) → IsEngine engine → option_named name engine ≡ Some option → HasValues engine option
-named_has_values name engine option is found =
-    let names : List (List ℕ) = (first_state (tab engine.tables)).names in
-    let within : option < length names = (position-Some (has_name name) names option [] found).0 in
-    let count : length names ≡ length (options_of (tab engine.tables).stores) = length-map (options_of (tab engine.tables).stores) _ in
-    record { current = omega (arith, is.current); saved = omega (arith, is.saved) }
+-- the host gives the store of an option a text
+by_state : (option : Option ℕ) (value : List Element) (engine : EngineState) (state : State) → state.current ≡ engine.current → state.saved ≡ engine.saved
+    → record engine { current = (set_option option value state).current; saved = (set_option option value state).saved } ≡ with_option option value engine
+by_state None value engine state current saved = λ i. record engine { current = current i; saved = saved i }
+by_state (Some option) value engine state current saved =
+    λ i. record engine { current = slice_set (current i) option value; saved = slice_set (saved i) option (Some value) }
 
--- what a press did, from the text before it and the one after it
-module _ (text : List ℕ) (press : KeyPress) (engine : EngineState) (s : EventState) (after : List ℕ) (acts : s ≡ pressed text press engine) (gives : after ≡ characters s.left) where
-  before : text ≡ characters (read_again engine.left text)
-  before = sym (reading_again_gives_the_text engine.left text)
-
-  pub outcome_seen : (delete : ℕ) → delete ≡ length text - common_prefix text after
-      → record { delete = delete; pass = s.pass; beeps = s.beeps; entered = s.entered; put = s.put; saved = s.saves } ≡ press_outcome text press engine
-  outcome_seen delete deletes =
-      let same : delete ≡ deleted (read_again engine.left text) s.left
-      = deletes ∙ (λ i. length (before i) - common_prefix (before i) (gives i)) in
-      ap (λ (d : ℕ). record { delete = d; pass = s.pass; beeps = s.beeps; entered = s.entered; put = s.put; saved = s.saves }) same
-      ∙ ap (outcome_of (read_again engine.left text)) acts
-
-  inserted_seen : (inserts : List ℕ) → inserts ≡ drop (common_prefix text after) after → inserts ≡ inserted (read_again engine.left text) s.left
-  inserted_seen inserts is = is ∙ (λ i. drop (common_prefix (before i) (gives i)) (gives i))
-
-  pub engine_seen : (inserts : List ℕ) → inserts ≡ drop (common_prefix text after) after
-      → record { tables = engine.tables; left = s.left; current = s.current; saved = s.saved; inserted = inserts } ≡ press_leaves text press engine
-  engine_seen inserts is =
-      let same : inserts ≡ inserted (read_again engine.left text) s.left = inserted_seen inserts is in
-      ap (λ (xs : List ℕ). record { tables = engine.tables; left = s.left; current = s.current; saved = s.saved; inserted = xs }) same
-      ∙ ap (λ (t : EventState). record { tables = engine.tables; left = t.left; current = t.current; saved = t.saved; inserted = inserted (read_again engine.left text) t.left }) acts
-
-  pub press_keeps_engine : (inserts : List ℕ) → inserts ≡ drop (common_prefix text after) after → IsEngine engine
-      → IsEngine (record { tables = engine.tables; left = s.left; current = s.current; saved = s.saved; inserted = inserts })
-  press_keeps_engine inserts seen is =
-      let list : List Item = read_again engine.left text in
-      let begun : EventState = begin_event list engine.current engine.saved in
-      let counts = after_key-counts (tab engine.tables) press begun in
-      let sound : IsSound (pressed text press engine).left = press_keeps_sound (tab engine.tables) press begun (reading_again_is_sound engine.left text) in
-      let budget : (pressed text press engine).put ≤ 4_096 = (press_is_within_budget (tab engine.tables) press list engine.current engine.saved).items in
-      let few : length (inserted list (pressed text press engine).left) ≤ (pressed text press engine).put = press_inserts_at_most_what_it_puts (tab engine.tables) press list engine.current engine.saved in
-      let same : inserts ≡ inserted list (pressed text press engine).left = inserted_seen inserts seen ∙ ap (λ (t : EventState). inserted list t.left) acts in
-      record {
-        sound = subst (λ (t : EventState). IsSound t.left) (sym acts) sound;
-        current = ap (λ (t : EventState). length t.current) acts ∙ counts.current ∙ is.current;
-        saved = ap (λ (t : EventState). length t.saved) acts ∙ counts.saved ∙ is.saved;
-        inserted = omega (arith, budget, few, ap length same);
-      }
-
--- two texts are alike for no more characters than the second has
-pub common_prefix_within : (old new : List ℕ) → common_prefix old new ≤ length new
-common_prefix_within [] new = omega arith
-common_prefix_within (x ∷ xs) [] = omega arith
-common_prefix_within (x ∷ xs) (y ∷ ys) =
-    let behind = common_prefix_within xs ys in
-    elim (nat_eq x y) as (λ t. cond t (1 + common_prefix xs ys) 0 ≤ suc (length ys)) [ true ↦ omega arith | false ↦ omega arith ]
+pub host_sets_engine : (tables : Tables) (context : List Item) (cells after : List Cell) (inserted : List ℕ) (n : ℕ) (name text : List ℕ) (engine : EngineState)
+    → n < length cells → after ≡ changed n (host_cell text) cells → engine_with tables context cells inserted ≡ engine
+    → option_number (tab engine.tables).stores (Numbered n) ≡ option_named name engine
+    → engine_with tables context after inserted ≡ set_by_host name text engine
+host_sets_engine tables context cells after inserted n name text engine few set is found =
+    let stores : List StoreMeaning = (tab tables).stores in
+    let number : Option ℕ = option_number stores (Numbered n) in
+    let value : List Element = map Char text in
+    let before : EngineState = engine_with tables context cells inserted in
+    let state : State = holding stores cells (first_state (tab tables)) in
+    let follows = (calls_follow stores cells n few).host text (first_state (tab tables)) in
+    let same : number ≡ option_named name engine = ap (λ (e : EngineState). option_number (tab e.tables).stores (Numbered n)) is ∙ found in
+    ap (λ (these : List Cell). engine_with tables context these inserted) set
+    ∙ (ap (λ (s : State). record before { current = s.current; saved = s.saved }) (sym follows)
+    ∙ (by_state number value before state refl refl
+    ∙ (λ i. with_option (same i) value (is i))))

@@ -1,2 +1,8 @@
+pub mod Catches
+pub mod Contexts
 pub mod Engines
-pub mod Firsts
+pub mod Lying
+pub mod OptionSteps
+pub mod Runnable
+pub mod StoreContents
+pub mod Windows

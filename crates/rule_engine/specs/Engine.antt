@@ -1,13 +1,13 @@
 -- What an engine is, and what a press and a new text make of it.
-use Rattle.std.specs.Prelude.{◌≡◌, ◌≤◌, ℕ, List, [], length, map, Option, Some, None, position, slice_get, slice_set, option_and_then}
+use Rattle.std.specs.Prelude.{◌≡◌, ◌≤◌, ◌<◌, ◌^◌, ℕ, List, [], length, map, Option, Some, None, position, slice_get, slice_set, option_and_then}
 use Rattle.std.specs.Option.{option_flatten}
 use Rattle.kmn_base.specs.declared.items.Item.{Item}
 use Rattle.kmn_base.specs.declared.items.Element.{Element}
 use Rattle.kmn_base.specs.declared.items.Element.TheVariants.{Char}
 use Rattle.kmn_base.specs.declared.keys.KeyPress.{KeyPress}
 use Rattle.kmn_base.specs.declared.events.Outcome.{Outcome}
-use Rattle.kmn_base.specs.declared.limits.TheConstants.{EVENT_PUTS}
-use Rattle.kmn_base.specs.Lists.{IsSound, read_again}
+use Rattle.kmn_base.specs.declared.limits.TheConstants.{EVENT_PUTS, WINDOW_ITEMS}
+use Rattle.kmn_base.specs.Lists.{read_again, window}
 use Rattle.rule_model.specs.declared.event_state.EventState.{EventState}
 use Rattle.rule_model.specs.declared.tables.Tables.{Tables}
 use Rattle.rule_model.specs.Content.{option_number}
@@ -16,20 +16,24 @@ use Rattle.rule_model.specs.Keyboard.{StoreMeaning, Numbered}
 use Rattle.rule_model.specs.KeyEvent.{begin_event, after_key, outcome_of, inserted}
 use Rattle.rule_model.specs.Tab.{tab}
 use Rattle.rule_model.specs.Trace.{options_of, first_state}
+use Rattle.option_store.specs.declared.options.Cell.{Cell}
+use Rattle.option_store.specs.Meaning.{option_values, option_saves}
+use Rattle.event_text.specs.Texts.{InsertedValue}
+use Rattle.rule_engine.specs.Event.{HasShortContexts}
 
--- an engine: its tables, the list before the caret, of each option store, in order, the current value and the saved one,
--- and what the last press inserted
+-- an engine: its tables, the last items before the caret, of each option store, in order, the current value and the saved
+-- one, and what the last press inserted
 pub record EngineState : Type 0 where
   pub tables : Tables
-  pub left : List Item
+  pub context : List Item
   pub current : List (List Element)
   pub saved : List (Option (List Element))
   pub inserted : List ℕ
 
--- its marks stand in the window, it has a current and a saved value for each option, and a press inserts no more
--- characters than it may put items
+-- it has no more items than a window, a current and a saved value for each option, and a press inserts no more characters
+-- than it may put items
 pub record IsEngine (engine : EngineState) : Type 0 where
-  pub sound : IsSound engine.left
+  pub few : length engine.context ≤ WINDOW_ITEMS
   pub current : length engine.current ≡ length (options_of (tab engine.tables).stores)
   pub saved : length engine.saved ≡ length (options_of (tab engine.tables).stores)
   pub inserted : length engine.inserted ≤ EVENT_PUTS
@@ -39,19 +43,43 @@ abbrev pub first_engine : Tables → EngineState
 first_engine tables =
     record {
       tables = tables;
-      left = [];
+      context = [];
       current = (first_state (tab tables)).current;
       saved = (first_state (tab tables)).saved;
       inserted = [];
     }
 
+-- the engine of these tables with these last items, with the values that cells stand for, and with what a press inserted
+abbrev pub engine_with : Tables → List Item → List Cell → List ℕ → EngineState
+engine_with tables context cells inserted =
+    record {
+      tables = tables;
+      context = context;
+      current = option_values (tab tables).stores cells;
+      saved = option_saves (tab tables).stores cells;
+      inserted = inserted;
+    }
+
+-- tables that can be run: a context has no more items than are caught, and stores have 32-bit numbers
+pub record IsRunnable (tables : Tables) : Type 0 where
+  pub short : HasShortContexts tables
+  pub stores : length tables.stores < 2 ^ 32
+
+-- what an engine is made of: tables that can be run, the last items, a cell for each store, and room for a press
+pub record IsAtWork (tables : Tables) (context : List Item) (cells : List Cell) (inserted : InsertedValue) : Type 0 where
+  pub runnable : IsRunnable tables
+  pub few : length context ≤ WINDOW_ITEMS
+  pub stores : length cells ≡ length tables.stores
+  pub text : length inserted.text ≤ EVENT_PUTS
+  pub room : inserted.room ≡ EVENT_PUTS
+
 -- what a press leaves, where the text before the caret is read again first
 abbrev pub pressed : List ℕ → KeyPress → EngineState → EventState
-pressed text press engine = after_key (tab engine.tables) press (begin_event (read_again engine.left text) engine.current engine.saved)
+pressed text press engine = after_key (tab engine.tables) press (begin_event (read_again engine.context text) engine.current engine.saved)
 
 -- the outcome of the press
 abbrev pub press_outcome : List ℕ → KeyPress → EngineState → Outcome
-press_outcome text press engine = outcome_of (read_again engine.left text) (pressed text press engine)
+press_outcome text press engine = outcome_of (read_again engine.context text) (pressed text press engine)
 
 -- the engine after the press
 abbrev pub press_leaves : List ℕ → KeyPress → EngineState → EngineState
@@ -59,15 +87,15 @@ press_leaves text press engine =
     let s = pressed text press engine in
     record {
       tables = engine.tables;
-      left = s.left;
+      context = window s.left;
       current = s.current;
       saved = s.saved;
-      inserted = inserted (read_again engine.left text) s.left;
+      inserted = inserted (read_again engine.context text) s.left;
     }
 
 -- the engine after the text was read again
 abbrev pub synced : List ℕ → EngineState → EngineState
-synced text engine = record engine { left = read_again engine.left text }
+synced text engine = record engine { context = window (read_again engine.context text) }
 
 -- the option of a name: the first store that has it
 abbrev pub option_named : List ℕ → EngineState → Option ℕ

@@ -1,3 +1,3 @@
 pub mod Engine
-pub mod First
-pub mod Values
+pub mod Event
+pub mod StoreValues

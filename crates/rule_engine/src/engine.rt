@@ -1,58 +1,60 @@
-ghost use Rattle.std.specs.Prelude.{◌≡◌, ◌-◌, ◌<◌, ◌≤◌, ◌^◌, [], length, drop, map, Some, IfOk, MatchResult, is_some, option_copied};
+ghost use Rattle.std.specs.Prelude.{◌≡◌, ◌<◌, ◌≤◌, ◌^◌, IsTrue, length, option_map, option_and_then, slice_get, IfOk, MatchOption, MatchResult, is_some};
+ghost use Rattle.std.specs.Option.{option_flatten};
 ghost use Rattle.kmn_base.specs.declared.limits.TheConstants.{EVENT_PUTS};
-ghost use Rattle.kmn_base.specs.Lists.{window};
 ghost use Rattle.kmx_format.specs.TablesOf.{tables_of};
-ghost use Rattle.rule_model.specs.Content.{content};
+ghost use Rattle.option_store.specs.Meaning.{option_values, option_saves};
+ghost use Rattle.rule_model.specs.Content.{content, option_number};
+ghost use Rattle.rule_model.specs.Event.{has_name};
 ghost use Rattle.rule_model.specs.Keyboard.{Numbered};
-ghost use Rattle.rule_model.specs.KeyEvent.{common_prefix};
-ghost use Rattle.rule_model.specs.Plain.{option_numbers};
+ghost use Rattle.rule_model.specs.Plain.{option_numbers, option_named as named_option};
 ghost use Rattle.rule_model.specs.Tab.{tab};
+ghost use Rattle.rule_engine.specs.Engine.{IsAtWork, IsRunnable, engine_with, press_outcome, press_leaves};
+ghost use Rattle.rule_engine.specs.Event.{AreShort};
+ghost use Rattle.rule_engine.specs.StoreValues.{elements_in};
 
-use crate::first::{first_current, first_saved};
-use crate::values::Values;
-use kmn_base::{Element, Item, KeyPress, Memory, Outcome, Seq};
+use crate::contents;
+use crate::entering::press;
+use crate::event::{Event, Pressed};
+use crate::store_value::StoreValue;
+use context_cache::Cache;
+use event_text::Inserted;
+use kmn_base::limits::CONTEXT_ITEMS;
+use kmn_base::names::same_name;
+use kmn_base::{Item, KeyPress, Memory, Outcome};
 use kmx_verifier::Verified;
-use rule_model::{EventState, IndexedTables, LeftList, Tables, after_key, common_prefix};
+use option_store::Options;
+use rule_model::{IndexedTables, Rule, Store, Tables};
 use std::alloc::Global;
 use std::marker::Model;
+use std::mem;
 
-/// A keyboard at work: the items before the caret as it knows them, the option values, and what the last press inserted.
+/// A keyboard at work: the last items before the caret, what the stores hold, and what the last press inserted.
 #[derive(Drop)]
 pub struct Engine<'a> {
-    tables: IndexedTables<'a>,
+    indexed: IndexedTables<'a>,
     stated: &'a Tables,
-    left: LeftList,
-    values: Values,
-    inserted: Seq<char>,
+    cache: Cache,
+    options: Options,
+    inserted: Inserted,
 }
 
 impl<'a> Model for Engine<'a> {
-    ghost use Rattle.std.specs.Prelude.{◌≡◌};
-    ghost use Rattle.rule_engine.specs.Engine.{EngineState, IsEngine};
+    ghost use Rattle.std.specs.Prelude.{◌≡◌, length};
+    ghost use Rattle.kmn_base.specs.declared.limits.TheConstants.{EVENT_PUTS};
+    ghost use Rattle.rule_engine.specs.Engine.{EngineState, engine_with, IsAtWork};
 
     ghost Value = { EngineState };
 
-    ghost view = { λ engine. record {
-      tables = engine.tables;
-      left = engine.left;
-      current = engine.values.current;
-      saved = engine.values.saved;
-      inserted = engine.inserted;
-    } };
+    ghost view = { λ engine. engine_with engine.indexed engine.cache engine.options engine.inserted.text };
 
-    ghost invariant = { λ engine. IsEngine (record {
-      tables = engine.tables;
-      left = engine.left;
-      current = engine.values.current;
-      saved = engine.values.saved;
-      inserted = engine.inserted;
-    }) × (engine.stated.now ≡ engine.tables) };
+    ghost invariant = { λ engine. IsAtWork engine.indexed engine.cache engine.options engine.inserted × (engine.stated.now ≡ engine.indexed) };
 }
 
 impl<'a> Engine<'a> {
-    ghost use Rattle.rule_engine.specs.Engine.{IsEngine, first_engine, option_named, pressed, press_outcome, press_leaves, saved_of, set_by_host, synced, with_option};
+    ghost use Rattle.rule_engine.specs.Engine.{IsEngine, first_engine, option_named, saved_of, set_by_host, synced};
 
     /// The engine of a file: an empty text, each option with its elements, and none saved.
+    #[tactic(auto, using(crate::proofs::Runnable::playable_is_runnable))]
     pub fn start(alloc: Global, file: &'a Verified<'a>) -> Result<Engine<'a>, Memory>
         ensures { IfOk result (λ engine. engine ≡ first_engine (tables_of file.now)) }
     {
@@ -60,54 +62,56 @@ impl<'a> Engine<'a> {
     }
 
     /// The engine of tables that a file could have.
-    #[tactic(auto, using(crate::proofs::Engines::first_is_engine))]
+    #[tactic(auto, using(crate::proofs::Engines::first_is_at_work, crate::proofs::Engines::first_values))]
     pub fn of_tables(alloc: Global, tables: &'a Tables) -> Result<Engine<'a>, Memory>
+        requires { IsRunnable tables.now }
         ensures { IfOk result (λ engine. engine ≡ first_engine tables.now) }
     {
         let indexed = IndexedTables::new(alloc, tables)?;
-        let current = first_current(alloc, &indexed, tables)?;
-        let saved = first_saved(alloc, &indexed)?;
+        let options = Options::new(alloc, tables.stores.len() as u32)?;
+        let inserted = Inserted::with_room(alloc)?;
         Ok(Engine {
-            tables: indexed,
+            indexed,
             stated: tables,
-            left: LeftList::from_slice(alloc, &[])?,
-            values: Values { current, saved },
-            inserted: Seq::new(alloc),
+            cache: Cache::new(),
+            options,
+            inserted,
+        })
+    }
+
+    /// An engine on the same tables and in the same state.
+    pub fn copy(&self, alloc: Global) -> Result<Engine<'a>, Memory>
+        ensures { IfOk result (λ engine. engine ≡ self.now) }
+    {
+        let indexed = IndexedTables::new(alloc, self.stated)?;
+        let options = self.options.copy(alloc)?;
+        let inserted = self.inserted.copy(alloc)?;
+        Ok(Engine {
+            indexed,
+            stated: self.stated,
+            cache: self.cache.copy(),
+            options,
+            inserted,
         })
     }
 
     /// Presses a key where the text before the caret is `left`, which is read again first. The answer tells the edit: so
     /// many characters at the end of `left` are deleted, and `inserted` stands there then. A key that is passed on leaves
     /// the editor's default to the caller.
-    pub fn key(&mut self, alloc: Global, left: &[char], press: KeyPress) -> Result<Outcome, Memory>
+    pub fn key(&mut self, left: &[char], press: KeyPress) -> Outcome
         requires { length left.now < 2 ^ 32 }
-        ensures outcome { IfOk result (λ outcome. outcome ≡ press_outcome left.now press self.old) }
-        ensures engine { MatchResult result (λ _. self.new ≡ press_leaves left.now press self.old) (λ _. self.new ≡ self.old) }
+        ensures outcome { result ≡ press_outcome left.now press self.old }
+        ensures engine { self.new ≡ press_leaves left.now press self.old }
     {
-        let state = self.pressed(alloc, left, press)?;
-        let text = state.left.characters(alloc)?;
-        let (deleted, inserted) = edit(left, text.as_slice());
-        let inserted = Seq::from_slice(alloc, inserted)?;
-        let outcome = state.outcome(deleted as u32);
-        self.left = state.left;
-        self.values.current = state.current;
-        self.values.saved = state.saved;
-        self.inserted = inserted;
-        Ok(outcome)
-    }
-
-    /// What a press leaves.
-    fn pressed(&self, alloc: Global, left: &[char], press: KeyPress) -> Result<EventState, Memory>
-        ensures { IfOk result (λ state. state ≡ pressed left.now press self.now) }
-    {
-        let list = self.left.read_again(alloc, left)?;
-        let state = EventState::begin_on(
-            alloc,
-            list,
-            self.values.current.as_slice(),
-            self.values.saved.as_slice(),
-        )?;
-        after_key(&self.tables, press, state)
+        let alloc = self.indexed.alloc();
+        let inserted = mem::replace(&mut self.inserted, Inserted::without_room(alloc));
+        let options = mem::replace(&mut self.options, Options::none(alloc));
+        let cache = mem::replace(&mut self.cache, Cache::new());
+        let done = pressed(&self.indexed, left, press, cache, options, inserted);
+        self.inserted = done.inserted;
+        self.options = done.options;
+        self.cache = done.cache;
+        done.outcome
     }
 
     /// The characters that the last press inserted; none before the first press.
@@ -119,48 +123,54 @@ impl<'a> Engine<'a> {
     }
 
     /// The last 64 items before the caret, or all where there are fewer. All marks are among them.
+    #[tactic(auto, using(crate::proofs::Engines::at_work_is_engine))]
     pub fn context(&self) -> &[Item]
-        ensures value { result.now ≡ window self.now.left }
+        ensures value { result.now ≡ self.now.context }
         ensures engine { IsEngine self.now }
     {
-        self.left.window()
+        self.cache.items()
     }
 
     /// Reads the text before the caret again. Marks keep their places where the text still stands around them.
-    pub fn sync(&mut self, alloc: Global, left: &[char]) -> Result<(), Memory>
+    #[tactic(auto, using(crate::proofs::Windows::window_is_few))]
+    pub fn sync(&mut self, left: &[char])
         requires { length left.now < 2 ^ 32 }
-        ensures { MatchResult result (λ _. self.new ≡ synced left.now self.old) (λ _. self.new ≡ self.old) }
+        ensures { self.new ≡ synced left.now self.old }
     {
-        self.left = self.left.read_again(alloc, left)?;
-        Ok(())
+        self.cache.sync(left);
     }
 
     /// The host gives the option of a name a value, as current and as saved one: the first store that has the name, without
     /// ASCII case; a store without a name is found by none. The answer tells whether there is such a store.
-    #[tactic(auto, using(crate::proofs::Engines::named_has_values))]
     pub fn setting(&mut self, alloc: Global, name: &[u8], value: &[char]) -> Result<bool, Memory>
         ensures found { IfOk result (λ found. found ≡ is_some (option_named name.now self.old)) }
         ensures engine { MatchResult result (λ _. self.new ≡ set_by_host name.now value.now self.old) (λ _. self.new ≡ self.old) }
     {
-        let Some(option) = self.tables.option_named(name) else {
+        let Some(store) = self.store_named(name) else {
             return Ok(false);
         };
-        let current = Seq::from_vec(as_elements(alloc, value)?);
-        let saved = Seq::from_vec(as_elements(alloc, value)?);
-        self.give(option, current, saved);
+        self.options.host_set(alloc, store, value)?;
         Ok(true)
     }
 
-    /// Gives an option a value, as current and as saved one.
-    #[tactic(auto, using(crate::proofs::Engines::given_keeps_engine))]
-    fn give(&mut self, option: usize, current: Seq<Element>, saved: Seq<Element>)
-        requires current { option < length self.old.current }
-        requires saved { option < length self.old.saved }
-        requires same { saved ≡ current }
-        ensures { self.new ≡ with_option (Some option) current self.old }
+    /// The option of a name, by its store.
+    #[tactic(auto, using(crate::proofs::Engines::named_is_option, rule_model::proofs::PlainOptions::number_found))]
+    pub fn store_named(&self, name: &[u8]) -> Option<u32>
+        ensures found { is_some result ≡ is_some (option_named name.now self.now) }
+        ensures option { option_and_then (λ store. option_number (tab self.now.tables).stores (Numbered store)) result ≡ option_named name.now self.now }
+        ensures within { MatchOption result (Unit {0}) (λ store. store < length self.now.tables.stores) }
     {
-        self.values.current.set(option, current);
-        self.values.saved.set(option, Some(saved));
+        let stores = self.stated.stores.as_slice();
+        Some(store_named(name, self.indexed.numbers(), stores)? as u32)
+    }
+
+    /// What each store holds.
+    pub fn options(&self) -> &Options
+        ensures current { option_values (tab self.now.tables).stores result.now ≡ self.now.current }
+        ensures saved { option_saves (tab self.now.tables).stores result.now ≡ self.now.saved }
+        ensures stores { length result.now ≡ length self.now.tables.stores }
+    {
+        &self.options
     }
 
     /// The tables of the file.
@@ -174,48 +184,95 @@ impl<'a> Engine<'a> {
     pub fn option_numbers(&self) -> &[Option<usize>]
         ensures { result.now ≡ option_numbers 0 (tab self.now.tables).stores }
     {
-        self.tables.numbers()
-    }
-
-    /// The values of the options.
-    pub fn values(&self) -> &Values
-        ensures { result.now ≡ record { current = self.now.current; saved = self.now.saved } }
-    {
-        &self.values
+        self.indexed.numbers()
     }
 
     /// What a store has: the current value of an option, else its elements; nothing where there is no such store.
-    #[tactic(auto, using(rule_model::proofs::PlainOptions::content_of_option, rule_model::proofs::PlainOptions::content_of_other, rule_model::proofs::PlainOptions::elements_with_options), unfolding(rule_model::specs::Tab::tab))]
-    pub fn content(&self, store: u32) -> &[Element]
-        ensures { result.now ≡ content (tab self.now.tables).stores self.now.current (Numbered store) }
+    pub fn content(&self, store: u32) -> StoreValue<'_>
+        ensures { elements_in result ≡ content (tab self.now.tables).stores self.now.current (Numbered store) }
     {
-        match self.tables.option_number(store) {
-            Some(option) => self.values.current_at(option),
-            None => self.tables.elements(store),
-        }
+        contents::content(&self.indexed, &self.options, store)
     }
 
     /// The saved value of a store, None where nothing is saved or the store is no option.
-    pub fn saved_of(&self, store: u32) -> Option<&[Element]>
-        ensures { option_copied result ≡ saved_of (tab self.now.tables).stores self.now.saved store }
+    pub fn saved_of(&self, store: u32) -> Option<StoreValue<'_>>
+        ensures { option_map elements_in result ≡ saved_of (tab self.now.tables).stores self.now.saved store }
     {
-        self.values.saved_at(self.tables.option_number(store)?)
+        contents::saved_of(&self.indexed, &self.options, store)
+    }
+
+    /// What a store has where the stores hold this.
+    pub fn content_with<'c>(&'c self, options: &'c Options, store: u32) -> StoreValue<'c>
+        requires { length options.now ≡ length self.now.tables.stores }
+        ensures { elements_in result ≡ content (tab self.now.tables).stores (option_values (tab self.now.tables).stores options.now) (Numbered store) }
+    {
+        contents::content(&self.indexed, options, store)
+    }
+
+    /// The saved value of a store where the stores hold this.
+    pub fn saved_with<'c>(&'c self, options: &'c Options, store: u32) -> Option<StoreValue<'c>>
+        requires { length options.now ≡ length self.now.tables.stores }
+        ensures { option_map elements_in result ≡ saved_of (tab self.now.tables).stores (option_saves (tab self.now.tables).stores options.now) store }
+    {
+        contents::saved_of(&self.indexed, options, store)
     }
 }
 
-/// Characters as elements.
-fn as_elements(alloc: Global, text: &[char]) -> Result<Vec<Element>, Memory>
-    ensures { IfOk result (λ value. value.items ≡ map Element.Char text.now) }
+/// What a press leaves of the text before the caret and of the options.
+fn pressed(
+    indexed: &IndexedTables,
+    left: &[char],
+    key: KeyPress,
+    cache: Cache,
+    options: Options,
+    inserted: Inserted,
+) -> Pressed
+    requires few { length left.now < 2 ^ 32 }
+    requires work { IsAtWork indexed.now cache options inserted }
+    ensures outcome { result.outcome ≡ press_outcome left.now key (engine_with indexed.now cache options inserted.text) }
+    ensures engine { engine_with indexed.now result.cache result.options result.inserted.text ≡ press_leaves left.now key (engine_with indexed.now cache options inserted.text) }
+    ensures work { IsAtWork indexed.now result.cache result.options result.inserted }
 {
-    Ok(text.iter().map(|c| Element::Char(*c)).collect(alloc)?)
+    let mut event = Event::begin(indexed, left, inserted, cache, options);
+    press(key, &mut event);
+    event.finish()
 }
 
-/// The edit that makes one text of another: how many characters at its end are deleted, and what is inserted there.
-#[tactic(auto, using(rule_model::proofs::PlainLists::common_prefix_bound, crate::proofs::Engines::common_prefix_within))]
-fn edit<'t>(old: &[char], new: &'t [char]) -> (usize, &'t [char])
-    ensures deleted { result.0 ≡ length old.now - common_prefix old.now new.now }
-    ensures inserted { result.1.now ≡ drop (common_prefix old.now new.now) new.now }
+/// Whether no context of records has more items than are caught.
+fn are_short(rules: &[Rule]) -> bool
+    ensures { IsTrue result → AreShort rules.now }
 {
-    let kept = common_prefix(old, new);
-    (old.len() - kept, &new[kept..])
+    rules.iter().all(|rule| rule.context.len() <= CONTEXT_ITEMS)
+}
+
+/// Whether tables can be run, as those of every valid file can.
+pub fn can_run(tables: &Tables) -> bool
+    ensures { IsTrue result → IsRunnable tables.now }
+{
+    let groups = tables.groups.as_slice();
+    tables.stores.len() < 0x1_0000_0000
+        && groups.iter().all(|group| are_short(group.rules.as_slice()))
+}
+
+/// Whether an option has a name.
+fn has_name(name: &[u8], other: &[u8]) -> bool
+    ensures { result ≡ has_name name.now other.now }
+{
+    !other.is_empty() && same_name(other, name)
+}
+
+/// The first store of a name that has an option number.
+#[tactic(auto, using(rule_model::proofs::PlainOptions::named_ended, crate::proofs::Engines::number_there))]
+fn store_named(name: &[u8], numbers: &[Option<usize>], stores: &[Store]) -> Option<usize>
+    ensures found { is_some result ≡ is_some (named_option name.now numbers.now stores.now) }
+    ensures option { option_and_then (λ store. option_flatten (slice_get numbers.now store)) result ≡ named_option name.now numbers.now stores.now }
+    ensures within { MatchOption result (Unit {0}) (λ store. store < length stores.now) }
+{
+    for n in 0..numbers.len().min(stores.len()) {
+        let store = &stores[n];
+        if numbers[n].is_some() && has_name(name, store.name.as_slice()) {
+            return Some(n);
+        }
+    }
+    None
 }

@@ -15,8 +15,6 @@ mod lookups;
 mod pieces;
 mod records;
 mod stores;
-#[cfg(test)]
-mod tests;
 mod values;
 mod versions;
 

@@ -13,8 +13,6 @@ mod matching;
 mod options;
 mod outputs;
 mod own_keys;
-#[cfg(test)]
-mod tests;
 pub mod texts;
 mod values;
 

@@ -2,18 +2,23 @@
 use Rattle.std.proofs.Common.{◌≡◌, ℕ, List, None, sym, ◌∙◌}
 use Rattle.kmn_parser.proofs.ReadPrograms.{programs_are_read}
 use Rattle.kmn_parser.proofs.SourceLines.{statements_in_order}
+use Rattle.kmn_base.specs.declared.events.Event.{Event}
 use Rattle.rule_model.specs.declared.program.Program.{Program}
+use Rattle.rule_model.specs.declared.tables.Tables.{Tables}
+use Rattle.rule_model.specs.Tab.{tab}
+use Rattle.rule_model.specs.Trace.{trace}
 use Rattle.kmx_format.specs.TablesOf.{tables_of}
 use Rattle.kmx_format.specs.Playable.{IsPlayable}
+use Rattle.compile_laws.specs.Compiles.{Compiles}
 use Rattle.compile_laws.proofs.Whole.{meaning_kept}
-use Rattle.rule_checker.specs.Refused.{IsRead}
+use Rattle.rule_checker.specs.Refused.{IsRead, refused}
 use Rattle.checker_laws.proofs.Named.{well_named}
 use Rattle.program_text.specs.Programs.{program_text}
 use Rattle.program_text.proofs.Programs.{programs_read_back}
 use Rattle.decompile_laws.specs.Back.{back}
 use Rattle.decompile_laws.proofs.Whole.{decompiling_keeps_meaning}
 use Rattle.spelled_files.specs.Unspelled.{unspelled}
-use Rattle.spelled_files.specs.Laws.{HasTextNames, TextKeepsMeaning}
+use Rattle.spelled_files.specs.Laws.{HasTextNames}
 use Rattle.spelled_files.proofs.WrittenOut.{spelled_written_out}
 use Rattle.spelled_files.proofs.SpelledPrograms.{spelled_is_spelled}
 
@@ -24,8 +29,9 @@ is_read bytes can texts none =
     let read = programs_read_back program (spelled_is_spelled bytes can texts none) in
     record { statements = programs_are_read (program_text program) program read; order = statements_in_order (program_text program) program read }
 
-pub text_keeps_meaning : TextKeepsMeaning
-text_keeps_meaning bytes can texts none free tables compiles events =
+pub keeps_meaning : (bytes : List ℕ) → IsPlayable (tables_of bytes) → HasTextNames (tables_of bytes) → unspelled bytes ≡ None → refused (back (tables_of bytes)) ≡ None
+    → (tables : Tables) → Compiles (back (tables_of bytes)) tables → (events : List Event) → trace (tab tables) events ≡ trace (tab (tables_of bytes)) events
+keeps_meaning bytes can texts none free tables compiles events =
     let program : Program = back (tables_of bytes) in
     sym (meaning_kept program tables (well_named program (is_read bytes can texts none) free) compiles events)
     ∙ decompiling_keeps_meaning (tables_of bytes) can (spelled_written_out bytes can none) events

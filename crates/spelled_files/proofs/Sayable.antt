@@ -165,24 +165,39 @@ small program h =
     }
 
 -- tables of which no cause holds
+pub record HasNoCause (tables : Tables) : Type 0 where
+  pub order : All Falls tables.groups
+  pub stores : AreSayable (names_for tables) (tab_options tables) 0 tables.stores
+  pub groups : AllByRecursion (IsSayableGroup (names_for tables)) tables.groups
+
+pub no_cause_holds : (bytes : List ℕ) → disorder 0 (tables_of bytes).groups ≡ None → least (cause_places bytes) ≡ None → HasNoCause (tables_of bytes)
+unfolding cause_places
+no_cause_holds bytes order places =
+    let tables : Tables = tables_of bytes in
+    let of_stores : List ℕ = store_causes (names_for tables) (tab_options tables) (word_at bytes 32) 0 tables.stores in
+    let of_groups : List ℕ = group_causes bytes (names_for tables) (word_at bytes 36) tables.groups in
+    let parts = nil-parts of_stores of_groups (none-least (cause_places bytes) places) in
+    record {
+      order = all-fall 0 tables.groups order;
+      stores = sayable-stores (names_for tables) (tab_options tables) (word_at bytes 32) 0 tables.stores parts.0;
+      groups = sayable-groups bytes (names_for tables) (word_at bytes 36) tables.groups parts.1;
+    }
+
+-- and whose text isn't too large
 pub record IsSayable (tables : Tables) : Type 0 where
   pub order : All Falls tables.groups
   pub stores : AreSayable (names_for tables) (tab_options tables) 0 tables.stores
   pub groups : AllByRecursion (IsSayableGroup (names_for tables)) tables.groups
   pub small : IsSmall (back tables)
 
+pub without_cause : (tables : Tables) → IsSayable tables → HasNoCause tables
+without_cause tables said = record { order = said.order; stores = said.stores; groups = said.groups }
+
 pub sayable : (bytes : List ℕ) → unspelled bytes ≡ None → IsSayable (tables_of bytes)
-unfolding unspelled cause_places
+unfolding unspelled
 sayable bytes h =
     let tables : Tables = tables_of bytes in
-    let of_stores : List ℕ = store_causes (names_for tables) (tab_options tables) (word_at bytes 32) 0 tables.stores in
-    let of_groups : List ℕ = group_causes bytes (names_for tables) (word_at bytes 36) tables.groups in
     let one = none-else (disorder 0 tables.groups) (or_else (option_map Unspelled (least (cause_places bytes))) (excess (back tables))) h in
     let two = none-else (option_map Unspelled (least (cause_places bytes))) (excess (back tables)) one.1 in
-    let places = nil-parts of_stores of_groups (none-least (cause_places bytes) (none-map Unspelled (least (cause_places bytes)) two.0)) in
-    record {
-      order = all-fall 0 tables.groups one.0;
-      stores = sayable-stores (names_for tables) (tab_options tables) (word_at bytes 32) 0 tables.stores places.0;
-      groups = sayable-groups bytes (names_for tables) (word_at bytes 36) tables.groups places.1;
-      small = small (back tables) two.1;
-    }
+    let none = no_cause_holds bytes one.0 (none-map Unspelled (least (cause_places bytes)) two.0) in
+    record { order = none.order; stores = none.stores; groups = none.groups; small = small (back tables) two.1 }

@@ -39,7 +39,7 @@ next-both a b h = omega arith
 next-right : (a b : ℕ) → a ≤ b → a ≤ suc b
 next-right a b h = omega arith
 
-filtered : (es : List Element) → length (filter_map element_char es) ≤ length es
+pub filtered : (es : List Element) → length (filter_map element_char es) ≤ length es
 filtered [] = omega arith
 filtered (element.Char c ∷ es) = next-both (length (filter_map element_char es)) (length es) (filtered es)
 filtered (element.Mark m ∷ es) = next-right (length (filter_map element_char es)) (length es) (filtered es)

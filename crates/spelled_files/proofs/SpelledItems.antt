@@ -119,7 +119,7 @@ marks_spelled seen from (suc count) h =
     ((number_name from (omega arith)).named, refl, marks_spelled (seen_lead seen (item_lead (source.Dead (decimal from)))) (from + 1) count (omega arith))
 
 -- values
-value-characters : (es : List Element) → All (λ e. IsSpellable (unit_item_of_element e)) es → All IsCharacter (filter_map element_char es)
+pub value-characters : (es : List Element) → All (λ e. IsSpellable (unit_item_of_element e)) es → All IsCharacter (filter_map element_char es)
 value-characters [] s = All-nil IsCharacter
 value-characters (element.Char c ∷ es) s =
     All-cons IsCharacter c (filter_map element_char es) (character c (All-head (λ e. IsSpellable (unit_item_of_element e)) (element.Char c) es s))

@@ -28,7 +28,7 @@ use Rattle.decompile_laws.specs.Back.{names_for}
 use Rattle.decompile_laws.specs.WrittenOut.{has_key_name}
 use Rattle.decompile_laws.proofs.Choosing.{clash, choose-then, choose-else}
 use Rattle.spelled_files.specs.Causes.{is_dictionary_name, dictionary_words, are_repeated, is_unspelled_dictionary, is_number, is_first_dictionary}
-use Rattle.spelled_files.proofs.Sayable.{sayable-at, IsSayable}
+use Rattle.spelled_files.proofs.Sayable.{sayable-at, HasNoCause, IsSayable, without_cause}
 use Rattle.spelled_files.proofs.WrittenOut.{store-parts}
 
 abbrev pub IsKeyName : List ℕ → Type 0
@@ -80,7 +80,7 @@ not-false false h = absurd (cc)
 no-words : words (encode_utf8_all []) ≡ []
 no-words = ap (filter (λ (word : List ℕ). not (nat_eq (length word) 0))) (slice_split_none (nat_eq 32) [] (All-nil (λ b. nat_eq 32 b ≡ false)))
 
-module _ (tables : Tables) (said : IsSayable tables) where
+module _ (tables : Tables) (said : HasNoCause tables) where
   words-of : (o : Option Store) → find is_dictionary tables.stores ≡ o → All IsKeyName (words (encode_utf8_all (filter_map element_char (store_elements o))))
   words-of None e = subst (All IsKeyName) (sym no-words) (All-nil IsKeyName)
   words-of (Some store) e =
@@ -96,11 +96,14 @@ module _ (tables : Tables) (said : IsSayable tables) where
       or-parts false b h = (refl, h)
 
   -- each name of the dictionary is one
-  pub keys_named : All IsKeyName (tab_dictionary tables.stores)
+  pub no_cause_keys : All IsKeyName (tab_dictionary tables.stores)
   unfolding tab_dictionary
-  keys_named =
+  no_cause_keys =
       all-distinct IsKeyName [] (words (encode_utf8_all (filter_map element_char (store_elements (find is_dictionary tables.stores))))) (All-nil IsKeyName)
       (words-of (find is_dictionary tables.stores) refl)
+
+pub keys_named : (tables : Tables) → IsSayable tables → All IsKeyName (tab_dictionary tables.stores)
+keys_named tables said = no_cause_keys tables (without_cause tables said)
 
 pub own_name : (name : List ℕ) → IsKeyName name → (is_own_key name ≡ true) × IsSpelledName name
 own_name name h =

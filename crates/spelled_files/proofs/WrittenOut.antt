@@ -31,7 +31,7 @@ use Rattle.decompile_laws.specs.Back.{names_for}
 use Rattle.decompile_laws.specs.WrittenOut.{element_keys, key_codes_of, store_keys, rule_keys, group_keys, table_keys, pattern_values, output_values, rule_values, group_values, table_values, has_key_name, is_ordinary, has_characters, KeepsName, CanBeWrittenOut}
 use Rattle.spelled_files.specs.Causes.{is_unspelled_element, is_unspelled_key, is_system_store, names_system_store, is_unspelled_value, has_unspelled_value, is_far_pattern, is_unspelled_pattern, is_far_output, is_unspelled_output, is_first_dictionary, is_unspelled_dictionary, is_unspelled_option, is_unspelled_system, is_unspelled_store}
 use Rattle.spelled_files.specs.Unspelled.{unspelled}
-use Rattle.spelled_files.proofs.Sayable.{sayable, IsSayableRule, IsSayableGroup, AreSayable, sayable-at, IsSayable}
+use Rattle.spelled_files.proofs.Sayable.{sayable, IsSayableRule, IsSayableGroup, AreSayable, sayable-at, HasNoCause, IsSayable, without_cause}
 
 not-false : (b : Bool) → not b ≡ false → b ≡ true
 not-false true h = refl
@@ -258,11 +258,11 @@ and-second : (a b : Bool) → a ≡ true → (a && b) ≡ false → b ≡ false
 and-second true b e h = h
 and-second false b e h = absurd (cc)
 
-module _ (tables : Tables) (said : IsSayable tables) where
+module _ (tables : Tables) (said : HasNoCause tables) where
   -- what holds of an option's store
-  pub option-parts : (n : ℕ) (store : Store) → Among (tab_options tables) n → slice_get tables.stores n ≡ Some store
+  option-facts : (n : ℕ) (store : Store) → Among (tab_options tables) n → slice_get tables.stores n ≡ Some store
       → (nat_eq store.system 0 ≡ true) × (store_called (names_for tables) n ≡ store.name) × (list_any is_no_character store.elements ≡ false)
-  option-parts n store among at =
+  option-facts n store among at =
       let parts = store-parts tables n store (sayable-at (names_for tables) (tab_options tables) 0 tables.stores said.stores n n store (omega arith) at) in
       let called : Bool = bytes_eq (store_called (names_for tables) n) store.name in
       let one = and-second (list_any (nat_eq n) (tab_options tables)) (is_unspelled_option (names_for tables) n store) among parts.option in
@@ -278,9 +278,9 @@ module _ (tables : Tables) (said : IsSayable tables) where
   option-characters None f = refl
   option-characters (Some store) f = no-others store.elements (f store refl)
 
-  pub written_out : IsPlayable tables → CanBeWrittenOut tables
+  pub no_cause_written_out : IsPlayable tables → CanBeWrittenOut tables
   unfolding table_keys named_stores table_values
-  written_out can =
+  no_cause_written_out can =
       let both = zipped (IsSayableGroup (names_for tables)) (IsPlayableGroup (length tables.stores) (length tables.groups)) tables.groups said.groups can.groups in
       let among = all-among (tab_options tables) in
       record {
@@ -288,11 +288,19 @@ module _ (tables : Tables) (said : IsSayable tables) where
         keys = All-append (IsNamedKey tables) (flat_map store_keys tables.stores) (flat_map group_keys tables.groups)
             (stores-keyed tables 0 tables.stores said.stores) (joined (IsSayableGroup (names_for tables)) (IsNamedKey tables) group_keys (group-keyed tables) tables.groups said.groups);
         named = joined (SaidGroup tables) (IsOrdinary tables) named_by_group (group-named tables) tables.groups both;
-        options = All-weaker (Among (tab_options tables)) (KeepsName tables) (λ n a store at. (option-parts n store a at).1) (tab_options tables) among;
+        options = All-weaker (Among (tab_options tables)) (KeepsName tables) (λ n a store at. (option-facts n store a at).1) (tab_options tables) among;
         option_elements = All-weaker (Among (tab_options tables)) (IsCharacters tables)
-            (λ n a. option-characters (slice_get tables.stores n) (λ store at. (option-parts n store a at).2)) (tab_options tables) among;
+            (λ n a. option-characters (slice_get tables.stores n) (λ store at. (option-facts n store a at).2)) (tab_options tables) among;
         values = joined (SaidGroup tables) (IsCharacters tables) group_values (group-valued tables) tables.groups both;
       }
+
+-- the same where besides nothing is too large
+pub option-parts : (tables : Tables) → IsSayable tables → (n : ℕ) (store : Store) → Among (tab_options tables) n → slice_get tables.stores n ≡ Some store
+    → (nat_eq store.system 0 ≡ true) × (store_called (names_for tables) n ≡ store.name) × (list_any is_no_character store.elements ≡ false)
+option-parts tables said = option-facts tables (without_cause tables said)
+
+pub written_out : (tables : Tables) → IsSayable tables → IsPlayable tables → CanBeWrittenOut tables
+written_out tables said = no_cause_written_out tables (without_cause tables said)
 
 pub spelled_written_out : (bytes : List ℕ) → IsPlayable (tables_of bytes) → unspelled bytes ≡ None → CanBeWrittenOut (tables_of bytes)
 spelled_written_out bytes can h = written_out (tables_of bytes) (sayable bytes h) can

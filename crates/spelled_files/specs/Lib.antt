@@ -3,3 +3,4 @@ pub mod Excess
 pub mod Laws
 pub mod Places
 pub mod Unspelled
+pub mod Written

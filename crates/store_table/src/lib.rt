@@ -12,8 +12,6 @@ mod name_table;
 mod names;
 mod refusing;
 mod stating;
-#[cfg(test)]
-mod tests;
 
 pub use first::{at_line, earlier};
 pub use name_table::NameTable;

@@ -13,8 +13,6 @@ mod keys;
 mod layer_ids;
 mod layers;
 mod ruled;
-#[cfg(test)]
-mod tests;
 
 pub use check::check_layout;
 pub use faults::{LayoutError, LayoutFault};

@@ -1,7 +1,7 @@
 //! Runs of the commands over a folder and a sink in memory, as tables.
 //!
 //! A run stands in five lines of a table:
-//! - the words;
+//! - the words, of several commands behind `; ` one after the other;
 //! - the source and, behind ` ⇒ `, the pieces of its compiled file that stand as `a.kmx`: `FROM-TO` is a part of the file, and
 //!   four hexadecimal digits are a unit;
 //! - the script;
@@ -509,7 +509,58 @@ play a.kmx a.keys
 @+ 'a' > 'b'~ ⇒ 0-118 FFFF 0008 1389 0000
 [K_A]
 0
-1 del=0 ins=- pass=0 beep=0 ent=1 ctx=d5001~text -|-~end events=1 failed=0~"##;
+1 del=0 ins=- pass=0 beep=0 ent=1 ctx=d5001~text -|-~end events=1 failed=0~
+decompile a.kmx out
+@+ 'a' > 'b'~ ⇒ 0-122
+
+0 90
+decompiled bytes=90~
+decompile a.kmx out
+@+ 'c' > 'x'~'a' + 'c' > 'y'~ ⇒ 0-88 108-128 88-108 128-150
+
+1
+refused X1 group 0 rule 1~
+decompile a.kmx out
+@+ 'a' > 'b'~ ⇒ 0-118 FFFF 0008 1389 0000
+
+1
+refused X2 at 100~
+compile a.kmn a.kmx; decompile a.kmx out
+store(s) '⟨x×1024⟩'~@⟨+ 'a' > outs(s)~×585⟩
+
+1
+?refused X3 size 4199787~
+compile a.kmn a.kmx; decompile a.kmx b.kmn; test b.kmn b.kmx a.keys
+SAMPLE
+[K_QUOTE] [K_A] [T_flip]~[K_BKQUOTE] [SHIFT K_E]~[K_HYPHEN] [K_HYPHEN]~expect U+00E0 U+00C8 U+2013~[CTRL ALT K_Q] [SHIFT K_QUOTE] [K_BKSP]~[T_flip]
+0
+?1 del=0 ins=- pass=0 beep=0 ent=2 ctx=d1~2 del=0 ins=00E1 pass=0 beep=0 ent=2 ctx=00E1~3 del=1 ins=00E0 pass=0 beep=0 ent=3 ctx=00E0~4 del=0 ins=- pass=0 beep=0 ent=2 ctx=00E0.d2~5 del=0 ins=00C8 pass=0 beep=0 ent=2 ctx=00E0.00C8~6 del=0 ins=002D pass=0 beep=0 ent=2 ctx=00E0.00C8.002D~7 del=1 ins=2013 pass=0 beep=0 ent=2 ctx=00E0.00C8.2013~8 del=0 ins=- pass=0 beep=0 ent=2 ctx=00E0.00C8.2013~opt quotes 0031~save quotes 0031~9 del=0 ins=201C pass=0 beep=0 ent=2 ctx=00E0.00C8.2013.201C~10 del=1 ins=- pass=0 beep=0 ent=1 ctx=00E0.00C8.2013~11 del=0 ins=- pass=0 beep=1 ent=3 ctx=00E0.00C8.2013~text 00E0.00C8.2013|-~end events=11 failed=0~
+decompile a.kmx out
+@+ 'a' > 'b'~ ⇒ 0-63
+
+1
+refused V01 at 63~
+decompile b.kmx out
+@+ 'a' > 'b'~ ⇒ 0-122
+
+3
+
+decompile a.kmx out
+@+ 'a' > 'b'~ ⇒ 0-122
+
+4 45 2
+
+decompile a.kmx out
+@+ 'a' > 'b'~ ⇒ 0-122
+
+4 90 0 1
+
+decompile a.kmx
+@+ 'a' > 'b'~ ⇒ 0-122
+
+2
+
+"##;
 
 /// Runs that check touch layouts, which stand as the script.
 pub const LAYOUT_RUNS: &str = r##"layout a.kmn a.keys
@@ -574,7 +625,7 @@ layout a.kmn a.keys
 
 "##;
 
-/// Runs on long inputs.
+/// Runs on long inputs, and loads.
 pub const LONG_RUNS: &str = r##"test a.kmn out a.keys
 @+ 'a' > 'b'
 ⟨[K_F5]~×100001⟩
@@ -584,7 +635,63 @@ compile a.kmn out
 ⟨ ×4194305⟩
 
 1
-refused L05 line 1~"##;
+refused L05 line 1~
+layout a.kmn a.keys
+@+ 'a' > 'b'~
+⟨ ×4194305⟩
+1
+refused T7 platform 0 layer 0 row 0 key 0~
+load 1
+
+
+0
+load n=1 rules=2 bytes=150 events=3 put=3 text=2~
+load 2000
+
+
+0
+load n=2000 rules=2001 bytes=56122 events=2002 put=2002 text=2~
+load 000000007
+
+
+0
+load n=7 rules=8 bytes=318 events=9 put=9 text=2~
+load 0
+
+
+1
+refused G1~
+load 2001
+
+
+1
+refused G1~
+load 999999999
+
+
+1
+refused G1~
+load x
+
+
+2
+
+load 0000000001
+
+
+2
+
+load
+
+
+2
+
+load 1
+
+
+4 0 0 1
+
+"##;
 
 /// The keyboard of `SAMPLE`.
 pub const SAMPLE: &str = r##"c Acute and grave vowels
@@ -618,6 +725,13 @@ any(grave) > index(acute, 1)
 nomatch > beep
 group(after)
 '--' > U+2013
+"##;
+
+/// The text of the first run's file.
+pub const TEXT: &str = r##"store(&version) "10.0"
+begin Unicode > use(main)
+group(main) using keys
++ U+0061 > U+0062
 "##;
 
 /// The file of the first run.

@@ -1,4 +1,4 @@
-use Rattle.std.proofs.Common.{◌≡◌, drop, map}
+use Rattle.std.proofs.Common.{◌≡◌, drop}
 use Rattle.file_text.specs.OneByOne.{with_outputs}
 use Rattle.file_text.proofs.lines.put_outputs.Given as goal
 

@@ -1,0 +1,6 @@
+pub mod Calls
+pub mod FlagLaws
+pub mod Folds
+pub mod FreeNames
+pub mod OwnNames
+pub mod SourceTokens

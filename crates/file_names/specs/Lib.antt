@@ -1,0 +1,5 @@
+pub mod AllNames
+pub mod Calling
+pub mod Flags
+pub mod Free
+pub mod SourceNames

@@ -1,0 +1,27 @@
+//! What a compiled file's text calls the stores, groups and keys of its tables: by their own names where a source can
+//! have these, else by the next free ones.
+//!
+//! It stands on `rule_model`, whose `IndexedTables` find stores and keys, on `store_table`, whose `NameTable` tells which
+//! names were met, and on `decompile_laws`, whose `names_for` says which names a text has. The layer above calls
+//! `free_stores` for the free names, of which the first may be those of stores of its own, and then `called_by`: it lends
+//! the names one by one (`Called`). `greatest_mark` and `own_keys` tell what such stores have. The other functions answer
+//! what of elements, items and names a text and its causes to have none are made by.
+#![tactic(auto)]
+
+mod all_names;
+mod called;
+mod characters;
+mod dictionary;
+mod free_names;
+mod greatest;
+mod naming;
+mod source_names;
+mod used;
+
+pub use all_names::{called_by, free_stores};
+pub use called::Called;
+pub use characters::{has_character, text_of};
+pub use dictionary::own_keys;
+pub use greatest::greatest_mark;
+pub use source_names::is_source_name;
+pub use used::{named_by_output, named_by_pattern};

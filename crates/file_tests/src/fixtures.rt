@@ -1,0 +1,63 @@
+//! What several tests take: two files, and tables of one group.
+
+ghost use Rattle.std.specs.Prelude.{◌≡◌, IfOk};
+ghost use Rattle.kmx_format.specs.WorkedFiles.{plain_rule, main_tables};
+
+use kmn_base::{Memory, RuleKey, Seq, Text};
+use rule_model::{Group, Out, Rule, Store, Tables};
+use std::alloc::Global;
+
+/// The file of one rule, `+ 'a' > 'b'` in line 3, in a group `main` that uses keys.
+pub const ONE_RULE: [u8; 122] = [
+    0x4B, 0x58, 0x54, 0x53, 0x00, 0x0A, 0x00, 0x00, 0, 0, 0, 0, 0, 0, 0, 0, 0, 0, 0, 0, 0, 0, 0, 0,
+    0, 0, 0, 0, 1, 0, 0, 0, 0, 0, 0, 0, 0x40, 0, 0, 0, 0xFF, 0xFF, 0xFF, 0xFF, 0, 0, 0, 0, 0, 0, 0,
+    0, 0, 0, 0, 0, 0, 0, 0, 0, 0, 0, 0, 0, 0x6C, 0, 0, 0, 0x58, 0, 0, 0, 0, 0, 0, 0, 0, 0, 0, 0, 1,
+    0, 0, 0, 1, 0, 0, 0, 0x61, 0, 0, 0, 3, 0, 0, 0, 0, 0, 0, 0, 0x76, 0, 0, 0, 0, 0, 0, 0, 0x6D, 0,
+    0x61, 0, 0x69, 0, 0x6E, 0, 0, 0, 0x62, 0, 0, 0,
+];
+
+/// The file of a store k of two virtual keys, a store o of x and y, and a record for each key.
+pub const TWO_KEYS: [u8; 206] = [
+    0x4B, 0x58, 0x54, 0x53, 0x00, 0x0A, 0x00, 0x00, 0, 0, 0, 0, 0, 0, 0, 0, 0, 0, 0, 0, 0, 0, 0, 0,
+    2, 0, 0, 0, 1, 0, 0, 0, 0x40, 0, 0, 0, 0x58, 0, 0, 0, 0xFF, 0xFF, 0xFF, 0xFF, 0, 0, 0, 0, 0, 0,
+    0, 0, 0, 0, 0, 0, 0, 0, 0, 0, 0, 0, 0, 0, 0, 0, 0, 0, 0x98, 0, 0, 0, 0x9C, 0, 0, 0, 0, 0, 0, 0,
+    0xB2, 0, 0, 0, 0xB6, 0, 0, 0, 0xBC, 0, 0, 0, 0x70, 0, 0, 0, 0, 0, 0, 0, 0, 0, 0, 0, 2, 0, 0, 0,
+    1, 0, 0, 0, 0x41, 0, 0, 0, 5, 0, 0, 0, 0x00, 0x40, 0, 0, 0xC6, 0, 0, 0, 0, 0, 0, 0, 0x41, 0, 0,
+    0, 5, 0, 0, 0, 0x10, 0x40, 0, 0, 0xCA, 0, 0, 0, 0, 0, 0, 0, 0x6B, 0, 0, 0, 0xFF, 0xFF, 0x0A, 0,
+    0x00, 0x40, 0x41, 0, 0x10, 0, 0xFF, 0xFF, 0x0A, 0, 0x10, 0x40, 0x41, 0, 0x10, 0, 0, 0, 0x6F, 0,
+    0, 0, 0x78, 0, 0x79, 0, 0, 0, 0x6D, 0, 0x61, 0, 0x69, 0, 0x6E, 0, 0, 0, 0x78, 0, 0, 0, 0x79, 0,
+    0, 0,
+];
+
+/// A rule without context that gives one character.
+pub fn rule(alloc: Global, line: u32, key: RuleKey, c: char) -> Result<Rule, Memory>
+    ensures { IfOk result (λ rule. rule ≡ plain_rule line key c) }
+{
+    Ok(Rule {
+        line,
+        place: 0,
+        key,
+        context: Seq::new(alloc),
+        output: Seq::from_slice(alloc, &[Out::Char(c)])?,
+    })
+}
+
+/// Tables of the version 10.0 with one group, which is called main and uses keys.
+pub fn tables(alloc: Global, stores: Seq<Store>, rules: Seq<Rule>) -> Result<Tables, Memory>
+    ensures { IfOk result (λ tables. tables ≡ main_tables stores rules) }
+{
+    let group = Group {
+        name: Text::from_slice(alloc, b"main")?,
+        using_keys: true,
+        rules,
+        on_match: Seq::new(alloc),
+        on_nomatch: Seq::new(alloc),
+    };
+    Ok(Tables {
+        version: 0x0A00,
+        start_ansi: 0xFFFF_FFFF,
+        start_unicode: 0,
+        stores,
+        groups: Seq::from_vec(vec![in alloc; group]?),
+    })
+}

@@ -1,0 +1,71 @@
+//! The sources of files, and why some have none.
+
+use crate::fixtures::ONE_RULE;
+use kmx_decompiler::{DecompileError, decompile};
+use kmx_verifier::verify;
+use std::alloc::Global;
+use std::test::Fail;
+
+const ONE_TEXT: &[u8] =
+    b"store(&version) \"10.0\"\nbegin Unicode > use(main)\ngroup(main) using keys\n+ U+0061 > U+0062\n";
+
+/// The file of one rule, whose output is the deadkey 5,001.
+const FAR_MARK: [u8; 126] = [
+    0x4B, 0x58, 0x54, 0x53, 0x00, 0x0A, 0x00, 0x00, 0, 0, 0, 0, 0, 0, 0, 0, 0, 0, 0, 0, 0, 0, 0, 0,
+    0, 0, 0, 0, 1, 0, 0, 0, 0, 0, 0, 0, 0x40, 0, 0, 0, 0xFF, 0xFF, 0xFF, 0xFF, 0, 0, 0, 0, 0, 0, 0,
+    0, 0, 0, 0, 0, 0, 0, 0, 0, 0, 0, 0, 0, 0x6C, 0, 0, 0, 0x58, 0, 0, 0, 0, 0, 0, 0, 0, 0, 0, 0, 1,
+    0, 0, 0, 1, 0, 0, 0, 0x61, 0, 0, 0, 3, 0, 0, 0, 0, 0, 0, 0, 0x76, 0, 0, 0, 0, 0, 0, 0, 0x6D, 0,
+    0x61, 0, 0x69, 0, 0x6E, 0, 0, 0, 0xFF, 0xFF, 8, 0, 0x89, 0x13, 0, 0,
+];
+
+/// A file of two records of the key `c`: the second has a context, `a`, and the first has none.
+const LONGER_BEHIND: [u8; 150] = [
+    0x4B, 0x58, 0x54, 0x53, 0x00, 0x0A, 0x00, 0x00, 0, 0, 0, 0, 0, 0, 0, 0, 0, 0, 0, 0, 0, 0, 0, 0,
+    0, 0, 0, 0, 1, 0, 0, 0, 0, 0, 0, 0, 0x40, 0, 0, 0, 0xFF, 0xFF, 0xFF, 0xFF, 0, 0, 0, 0, 0, 0, 0,
+    0, 0, 0, 0, 0, 0, 0, 0, 0, 0, 0, 0, 0, 0x80, 0, 0, 0, 0x58, 0, 0, 0, 0, 0, 0, 0, 0, 0, 0, 0, 2,
+    0, 0, 0, 1, 0, 0, 0, 0x63, 0, 0, 0, 3, 0, 0, 0, 0, 0, 0, 0, 0x8A, 0, 0, 0, 0, 0, 0, 0, 0x63, 0,
+    0, 0, 4, 0, 0, 0, 0, 0, 0, 0, 0x8E, 0, 0, 0, 0x92, 0, 0, 0, 0x6D, 0, 0x61, 0, 0x69, 0, 0x6E, 0,
+    0, 0, 0x78, 0, 0, 0, 0x79, 0, 0, 0, 0x61, 0, 0, 0,
+];
+
+/// Whether the bytes are a valid file with this source.
+fn has_source(alloc: Global, bytes: &[u8], text: &[u8]) -> bool {
+    match verify(alloc, bytes) {
+        Ok(file) => match decompile(alloc, &file) {
+            Ok(found) => found.as_slice() == text,
+            Err(_) => false,
+        },
+        Err(_) => false,
+    }
+}
+
+/// Whether the bytes are a valid file that has no source, for this reason.
+fn is_refused(alloc: Global, bytes: &[u8], why: DecompileError) -> bool {
+    match verify(alloc, bytes) {
+        Ok(file) => match decompile(alloc, &file) {
+            Ok(_) => false,
+            Err(error) => error == why,
+        },
+        Err(_) => false,
+    }
+}
+
+#[test]
+fn worked_sources(rt: HostRuntime) -> Result<(), Fail> {
+    assert!(rt; has_source(rt.alloc(), &ONE_RULE, ONE_TEXT));
+    assert!(rt;
+        is_refused(
+            rt.alloc(),
+            &FAR_MARK,
+            DecompileError::NoSpelling { at: 100 }
+        )
+    );
+    assert!(rt;
+        is_refused(
+            rt.alloc(),
+            &LONGER_BEHIND,
+            DecompileError::Order { group: 0, rule: 1 }
+        )
+    );
+    Ok(())
+}

@@ -1,0 +1,177 @@
+//! Files and what verifying them gives.
+
+use crate::fixtures::{ONE_RULE, TWO_KEYS};
+use kmn_base::{Code, RuleKey};
+use kmx_verifier::{Fault, VerifyError, verify};
+use rule_model::{Group, Out};
+use std::alloc::{AllocError, Global};
+use std::test::Fail;
+
+/// On each line changes of a file, and what verifying it gives then. `two` begins with the file of two keys, else it is that
+/// of one rule. `<` cuts the file to a length, `@` goes to a place, and hexadecimal digits are the bytes from there on.
+/// Of a valid file its version and its counts are given.
+const CHANGES: &str = "\
+ > valid 0A00 0 1 1
+<63 > V01 at 63 unit 00
+<120 > V10 at 100 unit 00
+@118 FFFF 0F00 0100 0000 > V14 at 118 unit 0F
+@118 FFFF 1300 0100 0100 0000 > V12 at 118 unit 00
+@118 FFFF 0500 0000 > V11 at 118 unit 00
+@118 FFFF 1100 0100 0000 > V13 at 118 unit 00
+@0 00 > V02 at 0 unit 00
+@4 000B > V03 at 4 unit 00
+@48 20 > V04 at 48 unit 00
+@24 214E > V15 at 24 unit 00
+@28 E903 > V15 at 28 unit 00
+@44 FFFFFFFF > V05 at 44 unit 00
+@44 01 > V06 at 44 unit 00
+@40 01000000 > V06 at 40 unit 00
+@24 01 @32 7A > V07 at 32 unit 00
+@36 70 > V08 at 36 unit 00
+@60 01 @56 7A > V16 at 56 unit 00
+@80 A18601 > V15 at 80 unit 00
+@68 70 > V09 at 68 unit 00
+@64 7A > V10 at 64 unit 00
+@96 0004 > V14 at 96 unit 0A
+@118 00D8 0000 > V11 at 118 unit 00
+@118 FFFF 0A00 0040 4100 1000 0000 > V14 at 118 unit 0A
+@118 FFFF 0100 0100 0000 > V14 at 118 unit 01
+@118 FFFF 0500 0200 0000 > V12 at 118 unit 00
+@118 FFFF 0500 0100 0000 > valid 0A00 0 1 1
+@118 FFFF 0200 0100 0100 0000 > V12 at 118 unit 00
+@118 6200 FFFF 0800 8913 0000 > valid 0A00 0 1 1
+@104 76 > valid 0A00 0 1 1
+@108 FFFF > valid 0A00 0 1 1
+@8 01020304 05060708 090A0B0C 0D0E0F10 @52 01020304 @90 0102 > valid 0A00 0 1 1
+@88 FFFF @92 FFFFFFFF > valid 0A00 0 1 1
+@84 00 @96 0004 > valid 0A00 0 1 1
+@84 02 @48 1F @32 FFFFFFFF @56 FFFFFFFF > valid 0A00 0 1 1
+@4 00110100 > V03 at 4 unit 00
+@28 00 > V06 at 44 unit 00
+@24 00CA9A3B @28 00CA9A3B > V15 at 24 unit 00
+@80 00CA9A3B > V15 at 80 unit 00
+@60 01001000 @56 01 > V16 at 56 unit 00
+@64 FFFFFFFF > V10 at 64 unit 00
+two > valid 0A00 2 1 2
+two @68 00 @80 00 @88 00 > valid 0A00 2 1 2
+two @72 CE @88 CE > V10 at 72 unit 00
+two @128 CE @124 DA @206 FFFF 0400 FFFF 0100 0100 0000 FFFF 0200 0200 0200 0000 > valid 0A00 2 1 2
+two @128 CE @124 DA @206 FFFF 0400 FFFF 0100 0100 0000 FFFF 0200 0200 0100 0000 > V13 at 218 unit 00
+two @128 CE @206 FFFF 0100 0300 0000 > V12 at 206 unit 00
+two @128 CE @206 FFFF 1100 0100 0000 > V13 at 206 unit 00";
+
+/// Puts a byte at a place, behind the last one where the place is past it.
+fn put(file: &mut Vec<u8>, place: usize, byte: u8) -> Result<(), AllocError> {
+    match file.get_mut(place) {
+        Some(there) => {
+            *there = byte;
+            Ok(())
+        }
+        None => {
+            file.push(byte)?;
+            Ok(())
+        }
+    }
+}
+
+/// Puts the bytes of hexadecimal digits from a place on; answers the place behind them.
+fn put_digits(file: &mut Vec<u8>, place: usize, digits: &str) -> Result<usize, AllocError> {
+    let mut place = place;
+    for pair in digits.as_bytes().chunks(2) {
+        let text = str::from_utf8(pair).unwrap_or("");
+        put(file, place, u8::from_str_radix(text, 16).unwrap_or(0))?;
+        place = place.saturating_add(1);
+    }
+    Ok(place)
+}
+
+/// A file with changes made in it.
+fn changed(alloc: Global, changes: &str) -> Result<Vec<u8>, AllocError> {
+    let mut file = Vec::from_slice(alloc, &ONE_RULE)?;
+    let mut place = 0;
+    for word in changes.split_whitespace() {
+        if word == "two" {
+            file = Vec::from_slice(alloc, &TWO_KEYS)?;
+        } else if let Some(length) = word.strip_prefix('<') {
+            file.truncate(length.parse::<usize>().unwrap_or(0));
+        } else if let Some(number) = word.strip_prefix('@') {
+            place = number.parse::<usize>().unwrap_or(0);
+        } else {
+            place = put_digits(&mut file, place, word)?;
+        }
+    }
+    Ok(file)
+}
+
+/// What verifying bytes gives, as text.
+fn given(alloc: Global, bytes: &[u8]) -> Result<String, AllocError> {
+    match verify(alloc, bytes) {
+        Ok(file) => format!(in alloc;
+            "valid {:04X} {} {} {}",
+            file.version(),
+            file.store_count(),
+            file.group_count(),
+            file.rule_count()
+        ),
+        Err(VerifyError::Refused(fault)) => {
+            format!(in alloc; "{} at {} unit {:02X}", fault.code, fault.at, fault.unit)
+        }
+        Err(VerifyError::Memory) => String::from_str(alloc, "out of memory"),
+    }
+}
+
+/// Whether verifying a changed file gives what its line says.
+fn is_right(alloc: Global, line: &str) -> Result<bool, Fail> {
+    let (changes, wanted) = line.split_once("> ").unwrap_or((line, ""));
+    let file = changed(alloc, changes)?;
+    Ok(given(alloc, file.as_slice())?.as_str() == wanted)
+}
+
+/// Whether the records of a group of the file of two keys put these characters, for A with these flags.
+fn are_records(group: &Group, outputs: &[(u32, char)]) -> bool {
+    group.rules.len() == outputs.len()
+        && group.rules.as_slice().iter().zip(outputs).all(|(rule, row)| {
+            rule.line == 5
+                && rule.key
+                    == RuleKey::Virtual {
+                        flags: row.0,
+                        code: 0x41,
+                    }
+                && rule.output.as_slice() == [Out::Char(row.1)].as_slice()
+        })
+}
+
+/// Whether the tables of the file of two keys are what it says.
+fn has_tables(alloc: Global) -> Result<bool, Fail> {
+    let file = verify(alloc, &TWO_KEYS)?;
+    let groups = file.tables().groups.as_slice();
+    Ok(
+        file.bytes() == TWO_KEYS.as_slice()
+            && file.tables().stores.len() == 2
+            && !file.is_option(0)
+            && !file.is_option(2)
+            && groups.iter().all(|group| are_records(group, &[(0x4000, 'x'), (0x4010, 'y')])),
+    )
+}
+
+/// Whether errors are printed as they should be.
+fn are_printed(alloc: Global) -> Result<bool, Fail> {
+    let fault = Fault {
+        code: Code::V10,
+        at: 100,
+        unit: 0,
+    };
+    let refused = format!(in alloc; "{}", VerifyError::Refused(fault))?;
+    let memory = format!(in alloc; "{}", VerifyError::Memory)?;
+    Ok(refused.as_str() == "refused V10 at 100" && memory.as_str() == "out of memory")
+}
+
+#[test]
+fn files(rt: HostRuntime) -> Result<(), Fail> {
+    for line in CHANGES.lines() {
+        assert!(rt; is_right(rt.alloc(), line)?, "{line}");
+    }
+    assert!(rt; has_tables(rt.alloc())?);
+    assert!(rt; are_printed(rt.alloc())?);
+    Ok(())
+}

@@ -1,0 +1,108 @@
+//! The two worked files, each from its tables.
+
+ghost use Rattle.std.specs.Prelude.{◌≡◌, IfOk};
+ghost use Rattle.kmx_format.specs.WorkedFiles.{one_rule, two_keys};
+
+use crate::fixtures::{ONE_RULE, TWO_KEYS, rule, tables};
+use kmn_base::{Code, CompileError, Element, Memory, RuleKey, Seq, Text};
+use kmx_writer::write;
+use rule_model::{Store, Tables};
+use std::alloc::Global;
+use std::test::Fail;
+
+fn one_rule(alloc: Global) -> Result<Tables, Memory>
+    ensures { IfOk result (λ tables. tables ≡ one_rule) }
+{
+    let rule = rule(alloc, 3, RuleKey::Char(0x61), 'b')?;
+    tables(alloc, Seq::new(alloc), Seq::from_vec(vec![in alloc; rule]?))
+}
+
+fn two_keys(alloc: Global) -> Result<Tables, Memory>
+    ensures { IfOk result (λ tables. tables ≡ two_keys) }
+{
+    let keys = [
+        Element::Key {
+            flags: 0x4000,
+            code: 0x41,
+        },
+        Element::Key {
+            flags: 0x4010,
+            code: 0x41,
+        },
+    ];
+    let first = Store {
+        system: 0,
+        name: Text::from_slice(alloc, b"k")?,
+        elements: Seq::from_slice(alloc, &keys)?,
+    };
+    let second = Store {
+        system: 0,
+        name: Text::from_slice(alloc, b"o")?,
+        elements: Seq::from_slice(alloc, &[Element::Char('x'), Element::Char('y')])?,
+    };
+    let plain = rule(
+        alloc,
+        5,
+        RuleKey::Virtual {
+            flags: 0x4000,
+            code: 0x41,
+        },
+        'x',
+    )?;
+    let shifted = rule(
+        alloc,
+        5,
+        RuleKey::Virtual {
+            flags: 0x4010,
+            code: 0x41,
+        },
+        'y',
+    )?;
+    let stores = Seq::from_vec(vec![in alloc; first, second]?);
+    tables(
+        alloc,
+        stores,
+        Seq::from_vec(vec![in alloc; plain, shifted]?),
+    )
+}
+
+fn write_one_rule(alloc: Global, picture: &[u8]) -> Result<Seq<u8>, CompileError> {
+    let tables = one_rule(alloc)?;
+    write(alloc, &tables, picture)
+}
+
+fn write_two_keys(alloc: Global) -> Result<Seq<u8>, CompileError> {
+    let tables = two_keys(alloc)?;
+    write(alloc, &tables, &[])
+}
+
+fn is_file(written: Result<Seq<u8>, CompileError>, wanted: &[u8]) -> bool {
+    match written {
+        Ok(file) => file.as_slice() == wanted,
+        Err(_) => false,
+    }
+}
+
+/// Whether the file of one rule has its size with a picture of four bytes, and isn't written with one past the limit.
+fn pictures_are_right(alloc: Global) -> Result<bool, Fail> {
+    let file = write_one_rule(alloc, &[0, 1, 2, 3])?;
+    let large = vec![in alloc; 0u8; 1_048_577]?;
+    Ok(
+        file.len() == 126
+            && matches!(
+                write_one_rule(alloc, &large),
+                Err(CompileError::TooLarge {
+                    code: Code::C24,
+                    size: 1_048_577
+                })
+            ),
+    )
+}
+
+#[test]
+fn worked_files(rt: HostRuntime) -> Result<(), Fail> {
+    assert!(rt; is_file(write_one_rule(rt.alloc(), &[]), &ONE_RULE));
+    assert!(rt; is_file(write_two_keys(rt.alloc()), &TWO_KEYS));
+    assert!(rt; pictures_are_right(rt.alloc())?);
+    Ok(())
+}

@@ -1,0 +1,10 @@
+pub mod DictionaryWords
+pub mod LeastPlaces
+pub mod Lengths
+pub mod NoCauses
+pub mod OptionStores
+pub mod Refusing
+pub mod StoreLengths
+pub mod TextCounts
+pub mod TextValues
+pub mod ValueSets

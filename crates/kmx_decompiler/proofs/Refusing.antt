@@ -1,0 +1,71 @@
+-- Why a file has no text, asked part by part.
+use Rattle.std.proofs.Common.{◌≡◌, ℕ, ◌<◌, ◌^◌, true, false, List, length, Option, Some, None, ap, sym, subst, ◌∙◌, arith}
+use Rattle.std.specs.Prelude.{All, nat_lt, if◌then◌else◌, option_map}
+use Rattle.std.specs.Str.{IsUtf8}
+use Rattle.kmn_base.specs.declared.limits.TheConstants.{TEXT_BYTES}
+use Rattle.rule_model.specs.declared.program.Program.{Program}
+use Rattle.rule_model.specs.declared.tables.Tables.{Tables}
+use Rattle.rule_model.specs.Tab.{tab_dictionary}
+use Rattle.store_table.specs.First.{or_else}
+use Rattle.kmx_format.specs.Playable.{IsPlayable}
+use Rattle.kmx_format.specs.TablesOf.{tables_of}
+use Rattle.program_text.specs.Programs.{program_text}
+use Rattle.decompile_laws.specs.Back.{back}
+use Rattle.decompile_laws.specs.WrittenOut.{CanBeWrittenOut}
+use Rattle.spelled_files.specs.declared.no_spelling.NoSpelling.{NoSpelling}
+use Rattle.spelled_files.specs.declared.no_spelling.NoSpelling.TheVariants.{TooLarge, Unspelled}
+use Rattle.spelled_files.specs.Places.{cause_places, least}
+use Rattle.spelled_files.specs.Excess.{excess, text_size, store_count, element_count}
+use Rattle.spelled_files.specs.Unspelled.{disorder, unspelled}
+use Rattle.kmx_decompiler.specs.Refusals.{too_many}
+use Rattle.kmx_decompiler.proofs.NoCauses.{written_without_cause, keys_without_cause}
+
+pub few_stores : (tables : Tables) → IsPlayable tables → length tables.stores < 2 ^ 32
+few_stores tables h = let few = h.store_count in omega arith
+
+pub few_groups : (tables : Tables) → IsPlayable tables → length tables.groups < 2 ^ 32
+few_groups tables h = let few = h.group_count in omega arith
+
+-- a text that is too large, and one that isn't
+pub larger_text : (program : Program) (size : ℕ) → size ≡ length (program_text program) → nat_lt TEXT_BYTES size ≡ true → excess program ≡ Some (TooLarge size)
+unfolding text_size
+larger_text program size is larger =
+    rw (← is) (λ i. if larger i then Some (TooLarge size) else too_many (store_count program) (element_count program))
+
+pub text_within : (program : Program) (size : ℕ) → size ≡ length (program_text program) → nat_lt TEXT_BYTES size ≡ false → excess program ≡ too_many (store_count program) (element_count program)
+unfolding text_size
+text_within program size is within =
+    rw (← is) (λ i. if within i then Some (TooLarge size) else too_many (store_count program) (element_count program))
+
+-- the first part that tells why: the order, the least cause, the excess
+pub unspelled_order : (bytes : List ℕ) (why : NoSpelling) → disorder 0 (tables_of bytes).groups ≡ Some why → unspelled bytes ≡ Some why
+unfolding unspelled
+unspelled_order bytes why e =
+    ap (λ first. or_else first (or_else (option_map Unspelled (least (cause_places bytes))) (excess (back (tables_of bytes))))) e
+
+pub unspelled_cause : (bytes : List ℕ) (tables : Tables) (at : ℕ) (place : Option ℕ)
+    → tables ≡ tables_of bytes → disorder 0 tables.groups ≡ None → place ≡ least (cause_places bytes) → place ≡ Some at → unspelled bytes ≡ Some (Unspelled at)
+unfolding unspelled
+unspelled_cause bytes tables at place of_bytes order is found =
+    let in_order : disorder 0 (tables_of bytes).groups ≡ None = sym (ap (λ (t : Tables). disorder 0 t.groups) of_bytes) ∙ order in
+    ap (λ first. or_else first (or_else (option_map Unspelled (least (cause_places bytes))) (excess (back (tables_of bytes))))) in_order
+    ∙ ap (λ p. or_else (option_map Unspelled p) (excess (back (tables_of bytes)))) (sym is ∙ found)
+
+pub unspelled_excess : (bytes : List ℕ) → disorder 0 (tables_of bytes).groups ≡ None → least (cause_places bytes) ≡ None → unspelled bytes ≡ excess (back (tables_of bytes))
+unfolding unspelled
+unspelled_excess bytes order e =
+    ap (λ first. or_else first (or_else (option_map Unspelled (least (cause_places bytes))) (excess (back (tables_of bytes))))) order
+    ∙ ap (λ place. or_else (option_map Unspelled place) (excess (back (tables_of bytes)))) e
+
+-- where no part up to the causes tells why, the tables can be written out, and their keys have names in UTF-8
+pub written : (bytes : List ℕ) (tables : Tables) (place : Option ℕ)
+    → tables ≡ tables_of bytes → IsPlayable tables → disorder 0 tables.groups ≡ None → place ≡ least (cause_places bytes) → place ≡ None → CanBeWrittenOut tables
+written bytes tables place of_bytes can order is none =
+    let P : Tables → Type 0 = λ t. (IsPlayable t → disorder 0 t.groups ≡ None → CanBeWrittenOut t) in
+    subst P (sym of_bytes) (λ playable in_order. written_without_cause bytes playable in_order (sym is ∙ none)) can order
+
+pub keys : (bytes : List ℕ) (tables : Tables) (place : Option ℕ)
+    → tables ≡ tables_of bytes → disorder 0 tables.groups ≡ None → place ≡ least (cause_places bytes) → place ≡ None → All IsUtf8 (tab_dictionary tables.stores)
+keys bytes tables place of_bytes order is none =
+    let P : Tables → Type 0 = λ t. (disorder 0 t.groups ≡ None → All IsUtf8 (tab_dictionary t.stores)) in
+    subst P (sym of_bytes) (λ in_order. keys_without_cause bytes in_order (sym is ∙ none)) order

@@ -1,0 +1,55 @@
+-- Values that are put one by one, each where it isn't among those before.
+use Rattle.std.proofs.Common.{◌≡◌, ℕ, Bool, true, false, List, [], ◌∷◌, ◌++◌, map, Vec, refl, ap, ◌∙◌, if◌then◌else◌}
+use Rattle.std.specs.Prelude.{flat_map, ◌||◌}
+use Rattle.std.specs.List.{list_any}
+use Rattle.std.specs.Str.{bytes_eq}
+use Rattle.std.specs.Cmp.Lexicographic.{nat_list_eq_equiv}
+use Rattle.std.proofs.lemmas.List.{map-append}
+use Rattle.indexmap.specs.IndexSet.{insert_key}
+use Rattle.rule_model.specs.declared.tables.Rule.{Rule}
+use Rattle.rule_model.specs.declared.tables.Group.{Group}
+use Rattle.rule_model.specs.Tab.{distinct_onto}
+use Rattle.decompile_laws.specs.Items.{Names, value_called}
+use Rattle.decompile_laws.specs.WrittenOut.{rule_values, group_values}
+use Rattle.kmx_decompiler.specs.Values.{with_values}
+
+module _ {K : Type 0} (text : K → List ℕ) where
+  any_text : (keys : List K) (x : List ℕ) → list_any (λ k. bytes_eq x (text k)) keys ≡ list_any (λ y. bytes_eq y x) (map text keys)
+  any_text [] x = refl
+  any_text (k ∷ keys) x = λ j. nat_list_eq_equiv.symm x (text k) j || any_text keys x j
+
+  put_behind : (known : Bool) (keys : List K) (key : K) → map text (if known then keys else keys ++ key ∷ []) ≡ (if known then map text keys else map text keys ++ text key ∷ [])
+  put_behind true keys key = refl
+  put_behind false keys key = map-append text keys (key ∷ [])
+
+  -- a key that is inserted puts its text behind the texts, where it is new
+  inserted : (keys : List K) (key : K) → map text (insert_key (λ a b. bytes_eq (text a) (text b)) keys key) ≡ distinct_onto bytes_eq (map text keys) (text key ∷ [])
+  inserted keys key =
+      put_behind (list_any (λ k. bytes_eq (text key) (text k)) keys) keys key
+      ∙ ap (λ known. if known then map text keys else map text keys ++ text key ∷ []) (any_text keys (text key))
+
+module _ {A : Type 0} where
+  -- the same of values that keys hold
+  pub put_value : (keys now : List (Vec ℕ A)) (values : List (List ℕ)) (key : Vec ℕ A) (value : List ℕ) → map (λ key. key.items) keys ≡ values → key.items ≡ value
+      → now ≡ insert_key (λ a b. bytes_eq a.items b.items) keys key → map (λ key. key.items) now ≡ distinct_onto bytes_eq values (value ∷ [])
+  put_value keys now values key value are is put =
+      ap (map (λ k. k.items)) put ∙ (inserted (λ (k : Vec ℕ A). k.items) keys key ∙ (λ j. distinct_onto bytes_eq (are j) (is j ∷ [])))
+
+-- some stores and others
+pub with_values_append : (names : Names) (values : List (List ℕ)) (first second : List ℕ) → with_values names values (first ++ second) ≡ with_values names (with_values names values first) second
+with_values_append names values [] second = refl
+with_values_append names values (n ∷ ns) second = with_values_append names (distinct_onto bytes_eq values (value_called names n ∷ [])) ns second
+
+-- the values of a record and of those behind it, and of a group and those behind it
+pub with_rules : (names : Names) (values : List (List ℕ)) (rule : Rule) (rules : List Rule)
+    → with_values names values (flat_map rule_values (rule ∷ rules)) ≡ with_values names (with_values names values (rule_values rule)) (flat_map rule_values rules)
+with_rules names values rule rules = with_values_append names values (rule_values rule) (flat_map rule_values rules)
+
+pub with_groups : (names : Names) (values : List (List ℕ)) (group : Group) (groups : List Group)
+    → with_values names values (flat_map group_values (group ∷ groups)) ≡ with_values names (with_values names values (group_values group)) (flat_map group_values groups)
+with_groups names values group groups = with_values_append names values (group_values group) (flat_map group_values groups)
+
+-- from none on they are those of all stores, each once
+pub all_values : (names : Names) (values : List (List ℕ)) (ns : List ℕ) → with_values names values ns ≡ distinct_onto bytes_eq values (map (value_called names) ns)
+all_values names values [] = refl
+all_values names values (n ∷ ns) = all_values names (distinct_onto bytes_eq values (value_called names n ∷ [])) ns

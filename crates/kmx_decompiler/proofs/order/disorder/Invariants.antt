@@ -1,0 +1,6 @@
+use Rattle.std.proofs.Common.{◌≡◌, drop}
+use Rattle.spelled_files.specs.Unspelled.{disorder}
+use Rattle.kmx_decompiler.proofs.order.disorder.Given as goal
+
+abbrev pub invariant-loop-group : goal.invariant-loop-group
+invariant-loop-group l = disorder l.group (drop l.group l.groups) ≡ disorder 0 l.groups

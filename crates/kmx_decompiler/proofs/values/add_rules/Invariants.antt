@@ -1,0 +1,8 @@
+use Rattle.std.proofs.Common.{◌≡◌, drop}
+use Rattle.std.specs.Prelude.{flat_map}
+use Rattle.decompile_laws.specs.WrittenOut.{rule_values}
+use Rattle.kmx_decompiler.specs.Values.{with_values}
+use Rattle.kmx_decompiler.proofs.values.add_rules.Given as goal
+
+abbrev pub invariant-loop-rule : goal.invariant-loop-rule
+invariant-loop-rule l = with_values l.names l.values (flat_map rule_values (drop l.rule-index l.rules)) ≡ with_values l.names l.initial.values (flat_map rule_values l.rules)

@@ -1,0 +1,49 @@
+-- How many stores, and how many elements of all of them, a text compiles to.
+use Rattle.std.specs.Prelude.{ℕ, ◌+◌, ◌-◌, nat_eq, if◌then◌else◌, List, [], ◌∷◌, ◌++◌, length, map, Option, None, is_some, unwrap_or, slice_get}
+use Rattle.kmn_base.specs.Texts.{character_count}
+use Rattle.rule_model.specs.declared.tables.Store.{Store}
+use Rattle.rule_model.specs.declared.tables.Tables.{Tables}
+use Rattle.rule_model.specs.Tab.{tab_dictionary}
+use Rattle.decompile_laws.specs.Marks.{greatest_mark}
+use Rattle.decompile_laws.specs.Back.{version_text, names_for}
+use Rattle.decompile_laws.specs.WrittenOut.{table_values}
+use Rattle.kmx_decompiler.specs.declared.counts.Counts.{Counts}
+use Rattle.kmx_decompiler.specs.Values.{with_values}
+
+-- nothing counted
+abbrev pub none_counted : Counts
+none_counted = record { stores = 0; elements = 0 }
+
+-- counts with one store more for each of these lengths
+abbrev pub with_lengths : Counts → List ℕ → Counts
+with_lengths counts [] = counts
+with_lengths counts (n ∷ ns) = with_lengths (record { stores = counts.stores + 1; elements = counts.elements + n }) ns
+
+-- the length of a store, where it has an element
+abbrev pub some_length : ℕ → List ℕ
+some_length n = if nat_eq n 0 then [] else n ∷ []
+
+-- the lengths of those stores of a file that are called something, from a number on
+abbrev pub called_lengths : List (Option (List ℕ)) → ℕ → List Store → List ℕ
+called_lengths calls n [] = []
+called_lengths calls n (store ∷ stores) =
+    (if is_some (unwrap_or (slice_get calls n) None) then length store.elements ∷ [] else []) ++ called_lengths calls (n + 1) stores
+
+-- the characters of names, and one for each
+abbrev pub spaced_size : List (List ℕ) → ℕ
+spaced_size [] = 0
+spaced_size (name ∷ names) = character_count name + 1 + spaced_size names
+
+-- the length of the store of a dictionary, where it has a name: between each two stands a space
+abbrev pub joined_length : List (List ℕ) → List ℕ
+joined_length [] = []
+joined_length (name ∷ names) = (spaced_size (name ∷ names) - 1) ∷ []
+
+-- the lengths of all stores that the text of tables compiles to
+abbrev pub text_lengths : Tables → List ℕ
+text_lengths tables =
+    length (version_text tables.version)
+    ∷ (some_length (greatest_mark tables)
+    ++ (some_length (length (tab_dictionary tables.stores))
+    ++ (called_lengths (names_for tables).stores 0 tables.stores
+    ++ (joined_length (tab_dictionary tables.stores) ++ map length (with_values (names_for tables) [] (table_values tables))))))

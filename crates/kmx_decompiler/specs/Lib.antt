@@ -1,0 +1,5 @@
+pub mod Counting
+pub mod Least
+pub mod Refusals
+pub mod Values
+pub mod Words

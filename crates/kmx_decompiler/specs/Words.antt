@@ -1,0 +1,15 @@
+-- The words of a key dictionary, seen one after the other.
+use Rattle.std.specs.Prelude.{ℕ, Bool, false, not, ◌||◌, nat_eq, List, [], ◌∷◌, ◌++◌, length, filter}
+use Rattle.std.specs.List.{list_any}
+use Rattle.kmn_base.specs.Names.{same_name}
+use Rattle.spelled_files.specs.Causes.{is_dictionary_name}
+
+-- the words among texts, which are those that aren't empty
+abbrev pub not_empty : List (List ℕ) → List (List ℕ)
+not_empty words = filter (λ word. not (nat_eq (length word) 0)) words
+
+-- one of names, behind others, is no name of a key, or equals an earlier one
+abbrev pub are_unfit : List (List ℕ) → (before : List (List ℕ)) → Bool
+are_unfit [] before = false
+are_unfit (name ∷ names) before =
+    not (is_dictionary_name name) || (list_any (λ known. same_name known name) before || are_unfit names (before ++ name ∷ []))

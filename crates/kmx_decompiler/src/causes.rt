@@ -1,0 +1,140 @@
+//! What of a key, an element, an item or a context no source can say.
+
+ghost use Rattle.std.specs.Prelude.{◌≡◌, filter_map, option_to_list, slice_get};
+ghost use Rattle.std.specs.List.{list_any};
+ghost use Rattle.rule_model.specs.Tab.{element_char};
+ghost use Rattle.decompile_laws.specs.WrittenOut.{has_key_name};
+ghost use Rattle.spelled_files.specs.Causes.{has_unspelled_value, have_both_quotes, is_system_store, is_unspelled_context, is_unspelled_element, is_unspelled_key, is_unspelled_output, is_unspelled_pattern, is_unspelled_value, names_system_store};
+
+use crate::items::{
+    are_inner, are_shift_flags, has_no_character, is_far_mark, is_far_output, is_far_pattern,
+    is_nameable, nul_count, output_value, pattern_value, stands_behind_match,
+};
+use file_names::{Called, has_character, named_by_output, named_by_pattern};
+use kmn_base::{Element, RuleKey};
+use rule_model::{Out, Pat};
+
+/// Whether a key has a name.
+fn has_key_name(names: &Called<'_>, code: u16) -> bool
+    ensures { result ≡ has_key_name names.now.keys code }
+{
+    names.key(code).is_some()
+}
+
+/// Whether an element has no spelling.
+fn is_unspelled_element(names: &Called<'_>, element: &Element) -> bool
+    ensures { result ≡ is_unspelled_element names.now element.now }
+{
+    match element {
+        Element::Char(_) => false,
+        Element::Mark(mark) => is_far_mark(*mark),
+        Element::Key { flags, code } => !has_key_name(names, *code) || !are_shift_flags(*flags),
+    }
+}
+
+/// Whether one of elements has no spelling.
+pub(crate) fn has_unspelled_element(names: &Called<'_>, elements: &[Element]) -> bool
+    ensures { result ≡ list_any (is_unspelled_element names.now) elements.now }
+{
+    elements
+        .iter()
+        .any(|element| is_unspelled_element(names, element))
+}
+
+/// Whether the key of a record has no spelling.
+pub(crate) fn is_unspelled_key(names: &Called<'_>, key: &RuleKey) -> bool
+    ensures { result ≡ is_unspelled_key names.now key.now }
+{
+    match key {
+        RuleKey::Any => false,
+        RuleKey::Char(unit) => !is_nameable(*unit),
+        RuleKey::Virtual { code, .. } => !has_key_name(names, *code),
+    }
+}
+
+/// Whether both kinds of quote stand among elements.
+fn have_both_quotes(elements: &[Element]) -> bool
+    ensures { result ≡ have_both_quotes (filter_map element_char elements.now) }
+{
+    has_character(elements, '"') && has_character(elements, '\'')
+}
+
+/// Whether elements are no value that a source can have.
+fn is_unspelled_value(elements: &[Element]) -> bool
+    ensures { result ≡ is_unspelled_value elements.now }
+{
+    has_no_character(elements) || !are_inner(elements) || have_both_quotes(elements)
+}
+
+/// Whether the store of a number has a system id.
+fn is_system_store(names: &Called<'_>, number: u32) -> bool
+    ensures { result ≡ is_system_store (slice_get names.now.elements number) }
+{
+    match names.elements().get(number as usize) {
+        Some(store) => store.system != 0,
+        None => false,
+    }
+}
+
+/// Whether a store that an item names, if any, has a system id.
+fn names_system_store(names: &Called<'_>, store: Option<u32>) -> bool
+    ensures { result ≡ names_system_store names.now (option_to_list store) }
+{
+    match store {
+        Some(store) => is_system_store(names, store),
+        None => false,
+    }
+}
+
+/// Whether the value that an item has, if any, has no spelling.
+fn has_unspelled_value(names: &Called<'_>, value: Option<u32>) -> bool
+    ensures { result ≡ has_unspelled_value names.now (option_to_list value) }
+{
+    match value {
+        Some(value) => is_unspelled_value(names.value(value)),
+        None => false,
+    }
+}
+
+/// Whether an item of a context has no spelling.
+fn is_unspelled_pattern(names: &Called<'_>, pattern: &Pat) -> bool
+    ensures { result ≡ is_unspelled_pattern names.now pattern.now }
+{
+    is_far_pattern(pattern)
+        || names_system_store(names, named_by_pattern(pattern))
+        || has_unspelled_value(names, pattern_value(pattern))
+}
+
+/// Whether an item of an output has no spelling.
+fn is_unspelled_output(names: &Called<'_>, output: &Out) -> bool
+    ensures { result ≡ is_unspelled_output names.now output.now }
+{
+    is_far_output(output)
+        || names_system_store(names, named_by_output(output))
+        || has_unspelled_value(names, output_value(output))
+}
+
+/// Whether one of the items of an output has no spelling.
+pub(crate) fn are_unspelled_outputs(names: &Called<'_>, outputs: &[Out]) -> bool
+    ensures { result ≡ list_any (is_unspelled_output names.now) outputs.now }
+{
+    outputs
+        .iter()
+        .any(|output| is_unspelled_output(names, output))
+}
+
+/// Whether one of the items of a context has no spelling.
+fn are_unspelled_patterns(names: &Called<'_>, context: &[Pat]) -> bool
+    ensures { result ≡ list_any (is_unspelled_pattern names.now) context.now }
+{
+    context
+        .iter()
+        .any(|pattern| is_unspelled_pattern(names, pattern))
+}
+
+/// Whether a context has no spelling.
+pub(crate) fn is_unspelled_context(names: &Called<'_>, context: &[Pat]) -> bool
+    ensures { result ≡ is_unspelled_context names.now context.now }
+{
+    are_unspelled_patterns(names, context) || stands_behind_match(context) || 1 < nul_count(context)
+}

@@ -1,0 +1,107 @@
+ghost use Rattle.std.specs.Prelude.{◌≡◌, All, IfErr, IfOk, None, OnOk, Some};
+ghost use Rattle.std.specs.Str.{IsUtf8};
+ghost use Rattle.rule_model.specs.Tab.{tab_dictionary};
+ghost use Rattle.kmx_format.specs.Playable.{IsPlayable};
+ghost use Rattle.kmx_format.specs.TablesOf.{tables_of};
+ghost use Rattle.program_text.specs.Programs.{program_text};
+ghost use Rattle.decompile_laws.specs.Back.{back, free_stores, names_for};
+ghost use Rattle.decompile_laws.specs.WrittenOut.{CanBeWrittenOut};
+ghost use Rattle.spelled_files.specs.Excess.{excess};
+ghost use Rattle.spelled_files.specs.Places.{cause_places, least};
+ghost use Rattle.spelled_files.specs.Unspelled.{disorder, unspelled};
+ghost use Rattle.file_text.specs.Whole.{IsFront};
+ghost use Rattle.kmx_decompiler.specs.Refusals.{Tells, TellsWhy, told};
+
+use crate::counts::{count_all, passed};
+use crate::order::disorder;
+use crate::places::least_cause;
+use crate::refusals::DecompileError;
+use file_names::{Called, called_by, free_stores};
+use file_text::{Front, front_count, front_of, page_of};
+use kmn_base::limits::TEXT_BYTES;
+use kmn_base::slices::behind;
+use kmn_base::{Memory, Text};
+use kmx_verifier::Verified;
+use rule_model::{IndexedTables, Tables};
+use spelled_files::NoSpelling;
+use std::alloc::Global;
+
+/// The error that tells why a file has no text.
+fn refusal(why: NoSpelling) -> DecompileError
+    ensures { told result ≡ Some why }
+{
+    match why {
+        NoSpelling::Order { group, rule } => DecompileError::Order { group, rule },
+        NoSpelling::Unspelled { at } => DecompileError::NoSpelling { at },
+        NoSpelling::TooLarge { size } => DecompileError::TooLarge { size },
+        NoSpelling::TooManyStores { stores } => DecompileError::TooManyStores { stores },
+        NoSpelling::TooManyElements { elements } => DecompileError::TooManyElements { elements },
+    }
+}
+
+/// The text of tables, unless it or what compiling it gives is too large.
+#[tactic(auto, using(crate::proofs::Refusing::larger_text, crate::proofs::Refusing::text_within))]
+fn text_within(
+    alloc: Global,
+    front: &Front,
+    names: &Called<'_>,
+    tables: &Tables,
+    free: &[Text],
+) -> Result<Text, DecompileError>
+    requires playable { IsPlayable tables.now }
+    requires front { IsFront tables.now front.now }
+    requires free { free.now ≡ free_stores tables.now }
+    requires names { names.now ≡ names_for tables.now }
+    requires written { CanBeWrittenOut tables.now }
+    requires keys { All IsUtf8 (tab_dictionary tables.now.stores) }
+    ensures text { IfOk result (λ text. text ≡ program_text (back tables.now)) }
+    ensures within { OnOk result (excess (back tables.now) ≡ None) }
+    ensures refused { IfErr result (λ why. Tells (excess (back tables.now)) why) }
+{
+    let page = page_of(alloc, front, names, tables, free)?;
+    if (TEXT_BYTES as u64) < page.size {
+        return Err(DecompileError::TooLarge { size: page.size });
+    }
+    let counts = count_all(alloc, front, names, tables)?;
+    match passed(counts) {
+        Some(why) => Err(refusal(why)),
+        None => Ok(page.text),
+    }
+}
+
+/// The text of a file, whose tables these are, where its records are in order.
+#[tactic(auto, using(crate::proofs::Refusing::few_stores, crate::proofs::Refusing::few_groups, crate::proofs::Refusing::unspelled_excess))]
+fn text_in_order(alloc: Global, bytes: &[u8], tables: &Tables) -> Result<Text, DecompileError>
+    requires tables { tables.now ≡ tables_of bytes.now }
+    requires playable { IsPlayable tables.now }
+    requires order { disorder 0 tables.now.groups ≡ None }
+    ensures text { IfOk result (λ text. text ≡ program_text (back tables.now)) }
+    ensures spelled { OnOk result (unspelled bytes.now ≡ None) }
+    ensures refused { IfErr result (λ why. TellsWhy bytes.now why) }
+{
+    let free = free_stores(alloc, tables)?;
+    let indexed = IndexedTables::new(alloc, tables)?;
+    let front = front_of(alloc, &indexed, tables)?;
+    let left = behind(free.as_slice(), front_count(&front, tables));
+    let names = called_by(alloc, &indexed, tables, left)?;
+    match least_cause(alloc, bytes, &indexed, &names, tables)? {
+        Some(at) => Err(DecompileError::NoSpelling { at }),
+        None => text_within(alloc, &front, &names, tables, free.as_slice()),
+    }
+}
+
+/// The source of a valid file: the text of the program that its tables go back to, one statement to a line. It is refused
+/// exactly for why the file has no text that a source could be, and else only for want of memory.
+#[tactic(auto, using(crate::proofs::Refusing::unspelled_order))]
+pub fn decompile(alloc: Global, file: &Verified<'_>) -> Result<Text, DecompileError>
+    ensures text { IfOk result (λ text. text ≡ program_text (back (tables_of file.now))) }
+    ensures spelled { OnOk result (unspelled file.now ≡ None) }
+    ensures refused { IfErr result (λ why. TellsWhy file.now why) }
+{
+    let tables = file.tables();
+    match disorder(tables.groups.as_slice()) {
+        Ok(None) => text_in_order(alloc, file.bytes(), tables),
+        Ok(Some(why)) => Err(refusal(why)),
+        Err(Memory) => Err(DecompileError::Memory),
+    }
+}

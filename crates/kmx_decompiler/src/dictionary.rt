@@ -1,0 +1,123 @@
+//! The names in a key dictionary, and whether a source could have them.
+
+ghost use Rattle.std.specs.Prelude.{◌≡◌, ◌+◌, ◌++◌, [], ◌∷◌, false, IfOk, length, nat_eq, option_copied, position};
+ghost use Rattle.std.specs.List.{list_any, slice_split};
+ghost use Rattle.std.specs.Str.{is_utf8};
+ghost use Rattle.kmn_base.specs.Names.{same_name};
+ghost use Rattle.kmn_items.specs.Words.{is_touch_name, is_own_key};
+ghost use Rattle.rule_model.specs.Plain.{words_behind, bytes_behind};
+ghost use Rattle.rule_model.specs.Tab.{words};
+ghost use Rattle.spelled_files.specs.Causes.{is_dictionary_name, is_unspelled_dictionary};
+ghost use Rattle.kmx_decompiler.specs.Words.{are_unfit, not_empty};
+
+use file_names::{is_source_name, text_of};
+use kmn_base::limits::SOURCE_NAME_CHARS;
+use kmn_base::names::same_name;
+use kmn_base::slices::before;
+use kmn_base::texts::character_count;
+use kmn_base::{Element, Memory};
+use std::alloc::Global;
+use std::str;
+use store_table::NameTable;
+use virtual_keys::named_chars;
+
+/// The place of the first space of a text.
+fn first_space(text: &[u8]) -> Option<usize>
+    ensures { result ≡ position (nat_eq 32) text.now }
+{
+    text.iter().position(|byte| *byte == b' ')
+}
+
+/// A text up to its first space, and what stands behind that.
+#[tactic(auto, using(rule_model::proofs::PlainWords::words_parted, rule_model::proofs::PlainWords::words_alone))]
+fn first_word(text: &[u8]) -> (&[u8], Option<&[u8]>)
+    ensures parts { slice_split (nat_eq 32) text.now ≡ result.0.now ∷ words_behind (option_copied result.1) }
+    ensures sizes { length result.0.now + bytes_behind (option_copied result.1) ≡ length text.now }
+{
+    match first_space(text) {
+        Some(at) => (&text[..at], Some(&text[at + 1..])),
+        None => (text, None),
+    }
+}
+
+/// Whether a word is `T_` and at least one more character, of at most 80 characters.
+fn is_touch_name(text: &[u8]) -> bool
+    ensures { result ≡ is_touch_name text.now }
+{
+    same_name(before(text, 2), b"T_")
+        && 2 < text.len()
+        && character_count(text) <= SOURCE_NAME_CHARS
+}
+
+/// Whether a word names a key of the keyboard's own dictionary.
+fn is_own_key(text: &[u8]) -> bool
+    ensures { result ≡ is_own_key text.now }
+{
+    is_touch_name(text) || named_chars(text).is_some()
+}
+
+#[tactic(auto, using(crate::proofs::DictionaryWords::is_text, crate::proofs::DictionaryWords::is_no_text))]
+fn is_utf8(text: &[u8]) -> bool
+    ensures { result ≡ is_utf8 text.now }
+{
+    match str::from_utf8(text) {
+        Ok(_) => true,
+        Err(_) => false,
+    }
+}
+
+/// Whether a name is one of a `T_` or a `U_` key that a source can have.
+fn is_dictionary_name(name: &[u8]) -> bool
+    ensures { result ≡ is_dictionary_name name.now }
+{
+    is_own_key(name) && is_source_name(name) && is_utf8(name)
+}
+
+/// Whether a name is among names.
+#[tactic(auto, using(crate::proofs::DictionaryWords::named_is))]
+fn is_known(known: &NameTable, name: &[u8]) -> bool
+    ensures { result ≡ list_any (λ other. same_name other name.now) known.now }
+{
+    known.has(name)
+}
+
+/// Appends a word to names, and answers whether it may not stand behind them. An empty word is none.
+fn add_word(known: &mut NameTable, word: &[u8]) -> Result<bool, Memory>
+    ensures unfit { IfOk result (λ unfit. unfit ≡ are_unfit (not_empty (word.now ∷ [])) known.old) }
+    ensures known { IfOk result (λ unfit. unfit ≡ false → known.new ≡ known.old ++ not_empty (word.now ∷ [])) }
+{
+    if word.is_empty() {
+        return Ok(false);
+    }
+    if !is_dictionary_name(word) || is_known(known, word) {
+        return Ok(true);
+    }
+    known.push(word)?;
+    Ok(false)
+}
+
+/// Whether the words of a text are not all names of keys, each once.
+#[tactic(auto, using(crate::proofs::DictionaryWords::one_word_more))]
+fn are_unfit(alloc: Global, text: &[u8]) -> Result<bool, Memory>
+    ensures { IfOk result (λ unfit. unfit ≡ are_unfit (words text.now) []) }
+{
+    let mut known = NameTable::new(alloc);
+    let mut rest = Some(text);
+    while let Some(text) = rest {
+        let (word, behind) = first_word(text);
+        if add_word(&mut known, word)? {
+            return Ok(true);
+        }
+        rest = behind;
+    }
+    Ok(false)
+}
+
+/// Whether the content of a dictionary has no spelling.
+#[tactic(auto, using(crate::proofs::DictionaryWords::unfit_is_unspelled))]
+pub(crate) fn is_unspelled_dictionary(alloc: Global, elements: &[Element]) -> Result<bool, Memory>
+    ensures { IfOk result (λ unspelled. unspelled ≡ is_unspelled_dictionary elements.now) }
+{
+    let text = text_of(alloc, elements)?;
+    are_unfit(alloc, text.as_bytes())
+}

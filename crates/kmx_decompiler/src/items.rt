@@ -1,0 +1,143 @@
+//! What is asked of elements and items by themselves.
+
+ghost use Rattle.std.specs.Prelude.{◌≡◌, bit_and, false, filter, filter_map, length, nat_eq, option_to_list};
+ghost use Rattle.std.specs.List.{list_all, list_any};
+ghost use Rattle.program_text.specs.Names.{is_inner};
+ghost use Rattle.virtual_keys.specs.Dictionary.{is_nameable};
+ghost use Rattle.rule_model.specs.Tab.{element_char};
+ghost use Rattle.kmx_format.specs.Writable.{is_matched};
+ghost use Rattle.rule_checker.specs.Items.{is_no_character};
+ghost use Rattle.decompile_laws.specs.WrittenOut.{output_values, pattern_values};
+ghost use Rattle.spelled_files.specs.Causes.{is_far_mark, is_far_output, is_far_pattern, is_nul, stands_behind_match};
+
+use kmn_base::limits::DEADKEYS;
+use kmn_base::{Element, SHIFT_FLAGS};
+use rule_model::{Out, Pat};
+
+/// Whether a deadkey's number is past those of a source.
+pub(crate) fn is_far_mark(mark: u16) -> bool
+    ensures { result ≡ is_far_mark mark }
+{
+    DEADKEYS < usize::from(mark)
+}
+
+/// Whether each flag is one that a word stands for.
+pub(crate) fn are_shift_flags(flags: u16) -> bool
+    ensures { result ≡ nat_eq (bit_and flags SHIFT_FLAGS) flags }
+{
+    flags & SHIFT_FLAGS == flags
+}
+
+/// Whether a unit is a character that a keyboard may have.
+pub(crate) fn is_nameable(unit: u16) -> bool
+    ensures { result ≡ is_nameable unit }
+{
+    unit != 0 && unit != 0xFFFF && !(0xD800..0xE000).contains(&unit)
+}
+
+/// Whether an element is no character.
+fn is_no_character(element: &Element) -> bool
+    ensures { result ≡ is_no_character element.now }
+{
+    !matches!(element, Element::Char(_))
+}
+
+/// Whether one of elements is no character.
+pub(crate) fn has_no_character(elements: &[Element]) -> bool
+    ensures { result ≡ list_any is_no_character elements.now }
+{
+    elements.iter().any(|element| is_no_character(element))
+}
+
+/// Whether a character ends no line.
+fn is_inner(character: char) -> bool
+    ensures { result ≡ is_inner character }
+{
+    character != '\n' && character != '\r'
+}
+
+/// Whether no character among elements ends a line.
+pub(crate) fn are_inner(elements: &[Element]) -> bool
+    ensures { result ≡ list_all is_inner (filter_map element_char elements.now) }
+{
+    for element in elements {
+        if let Element::Char(c) = element {
+            if !is_inner(*c) {
+                return false;
+            }
+        }
+    }
+    true
+}
+
+pub(crate) fn is_far_pattern(pattern: &Pat) -> bool
+    ensures { result ≡ is_far_pattern pattern.now }
+{
+    match pattern {
+        Pat::Mark(mark) => is_far_mark(*mark),
+        _ => false,
+    }
+}
+
+/// The store whose elements an item of a context has as its value.
+pub(crate) fn pattern_value(pattern: &Pat) -> Option<u32>
+    ensures { option_to_list result ≡ pattern_values pattern.now }
+{
+    match pattern {
+        Pat::Equal(_, value) | Pat::Unequal(_, value) => Some(*value),
+        _ => None,
+    }
+}
+
+pub(crate) fn is_far_output(output: &Out) -> bool
+    ensures { result ≡ is_far_output output.now }
+{
+    match output {
+        Out::Mark(mark) => is_far_mark(*mark),
+        _ => false,
+    }
+}
+
+/// The store whose elements an item of an output has as its value.
+pub(crate) fn output_value(output: &Out) -> Option<u32>
+    ensures { option_to_list result ≡ output_values output.now }
+{
+    match output {
+        Out::Set(_, value) => Some(*value),
+        _ => None,
+    }
+}
+
+/// Whether an item of a context is matched with an item of the text.
+fn is_matched(pattern: &Pat) -> bool
+    ensures { result ≡ is_matched pattern.now }
+{
+    !matches!(pattern, Pat::Equal(_, _) | Pat::Unequal(_, _) | Pat::Nul)
+}
+
+/// Whether a condition or `nul` stands behind an item that is matched.
+pub(crate) fn stands_behind_match(context: &[Pat]) -> bool
+    ensures { result ≡ stands_behind_match false context.now }
+{
+    let mut matched = false;
+    for pattern in context {
+        if matched && !is_matched(pattern) {
+            return true;
+        }
+        matched = matched || is_matched(pattern);
+    }
+    false
+}
+
+fn is_nul(pattern: &Pat) -> bool
+    ensures { result ≡ is_nul pattern.now }
+{
+    matches!(pattern, Pat::Nul)
+}
+
+/// How many `nul` a context has.
+pub(crate) fn nul_count(context: &[Pat]) -> usize
+    ensures { result ≡ length (filter is_nul context.now) }
+{
+    context.iter().filter(|pattern| is_nul(pattern)).count()
+}

@@ -1,0 +1,88 @@
+//! What of a store no source can say.
+
+ghost use Rattle.std.specs.Prelude.{◌≡◌, ◌<◌, ◌&&◌, ◌||◌, IfOk, length, nat_eq};
+ghost use Rattle.std.specs.List.{list_any};
+ghost use Rattle.rule_model.specs.Tab.{tab_options};
+ghost use Rattle.rule_checker.specs.Items.{is_layout_text};
+ghost use Rattle.spelled_files.specs.Causes.{is_first_dictionary, is_unspelled_option, is_unspelled_store, is_unspelled_system};
+
+use crate::causes::has_unspelled_element;
+use crate::dictionary::is_unspelled_dictionary;
+use crate::items::has_no_character;
+use file_names::Called;
+use kmn_base::{Element, Memory};
+use rule_model::{IndexedTables, Store};
+use std::alloc::Global;
+
+/// Whether the store of a number, which is used as an option, has no spelling.
+fn is_unspelled_option(names: &Called<'_>, number: u32, store: &Store) -> bool
+    ensures { result ≡ is_unspelled_option names.now number store.now }
+{
+    store.system != 0
+        || names.store(number) != store.name.as_slice()
+        || has_no_character(store.elements.as_slice())
+}
+
+/// Whether elements are the text `0`.
+fn is_layout_text(elements: &[Element]) -> bool
+    ensures { result ≡ is_layout_text elements.now }
+{
+    match elements {
+        [Element::Char(c)] => *c == '0',
+        _ => false,
+    }
+}
+
+/// Whether a system store has no spelling.
+fn is_unspelled_system(store: &Store) -> bool
+    ensures { result ≡ is_unspelled_system store.now }
+{
+    (store.system == 1 && has_no_character(store.elements.as_slice()))
+        || (store.system == 17 && !is_layout_text(store.elements.as_slice()))
+}
+
+/// Whether some item uses the store of a number as an option.
+#[tactic(auto, using(crate::proofs::OptionStores::is_option), unfolding(rule_model::specs::Tab::tab))]
+fn is_option(indexed: &IndexedTables<'_>, number: u32) -> bool
+    requires { number < length indexed.now.stores }
+    ensures { result ≡ list_any (nat_eq number) (tab_options indexed.now) }
+{
+    indexed.option_number(number).is_some()
+}
+
+/// Whether the store of a number has no spelling, but for the names of a dictionary.
+fn is_unspelled_otherwise(
+    indexed: &IndexedTables<'_>,
+    names: &Called<'_>,
+    number: u32,
+    store: &Store,
+) -> bool
+    requires { number < length indexed.now.stores }
+    ensures { result ≡ ((list_any (nat_eq number) (tab_options indexed.now) && is_unspelled_option names.now number store.now) || is_unspelled_system store.now) }
+{
+    (is_option(indexed, number) && is_unspelled_option(names, number, store))
+        || is_unspelled_system(store)
+}
+
+/// Whether the store of a number has no spelling. It is given whether it is the dictionary.
+pub(crate) fn is_unspelled_store(
+    alloc: Global,
+    indexed: &IndexedTables<'_>,
+    names: &Called<'_>,
+    number: u32,
+    store: &Store,
+    is_dictionary: bool,
+) -> Result<bool, Memory>
+    requires number { number < length indexed.now.stores }
+    requires dictionary { is_dictionary ≡ is_first_dictionary names.now.elements number }
+    ensures { IfOk result (λ unspelled. unspelled ≡ is_unspelled_store names.now (tab_options indexed.now) number store.now) }
+{
+    let elements = store.elements.as_slice();
+    if has_unspelled_element(names, elements) {
+        return Ok(true);
+    }
+    if is_dictionary && is_unspelled_dictionary(alloc, elements)? {
+        return Ok(true);
+    }
+    Ok(is_unspelled_otherwise(indexed, names, number, store))
+}

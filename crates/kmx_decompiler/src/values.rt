@@ -1,0 +1,157 @@
+//! The values that conditions and `set` name, each once.
+
+ghost use Rattle.std.specs.Prelude.{◌≡◌, [], ◌∷◌, length, flat_map, filter_map, option_to_list, option_copied, slice_get, IfOk, OnOk};
+ghost use Rattle.std.specs.Str.{bytes_eq};
+ghost use Rattle.rule_model.specs.Tab.{distinct_onto, element_char};
+ghost use Rattle.decompile_laws.specs.WrittenOut.{pattern_values, output_values, rule_values, group_values};
+ghost use Rattle.kmx_decompiler.specs.Values.{with_values};
+
+use crate::items::{output_value, pattern_value};
+use file_names::Called;
+use indexmap::IndexSet;
+use kmn_base::{Element, Memory};
+use rule_model::{Group, Out, Pat, Rule};
+use std::alloc::Global;
+use std::marker::Model;
+
+/// Values of a file, which are found by hash. Contracts see them as the list of their characters.
+#[derive(Drop)]
+pub(crate) struct Values {
+    alloc: Global,
+    found: IndexSet<Vec<char>>,
+}
+
+impl Model for Values {
+    ghost use Rattle.std.specs.Prelude.{List, ℕ, map};
+
+    ghost Value = { List (List ℕ) };
+
+    ghost view = { λ values. map (λ value. value.items) values.found.keys };
+}
+
+/// The characters among elements.
+fn characters_of(alloc: Global, elements: &[Element]) -> Result<Vec<char>, Memory>
+    ensures { IfOk result (λ characters. characters.items ≡ filter_map element_char elements.now) }
+{
+    let mut characters = Vec::with_capacity(alloc, elements.len())?;
+    for element in elements {
+        if let Element::Char(c) = element {
+            characters.push(*c)?;
+        }
+    }
+    Ok(characters)
+}
+
+impl Values {
+    /// No values.
+    pub(crate) fn new(alloc: Global) -> Values
+        ensures { result ≡ [] }
+    {
+        Values {
+            alloc,
+            found: IndexSet::new(alloc),
+        }
+    }
+
+    /// How many values there are.
+    pub(crate) fn len(&self) -> usize
+        ensures { result ≡ length self.now }
+    {
+        self.found.len()
+    }
+
+    /// The value at a place.
+    pub(crate) fn at(&self, place: usize) -> Option<&[char]>
+        ensures { option_copied result ≡ slice_get self.now place }
+    {
+        let value = self.found.get_index(place)?;
+        Some(value.as_slice())
+    }
+
+    /// Adds the characters of elements where they are new.
+    fn add(&mut self, elements: &[Element]) -> Result<(), Memory>
+        ensures { OnOk result (self.new ≡ distinct_onto bytes_eq self.old (filter_map element_char elements.now ∷ [])) }
+    {
+        let value = characters_of(self.alloc, elements)?;
+        self.found.insert(value)?;
+        Ok(())
+    }
+}
+
+/// Adds the value that a store is, where there is one.
+fn add_store(values: &mut Values, names: &Called<'_>, store: Option<u32>) -> Result<(), Memory>
+    ensures { OnOk result (values.new ≡ with_values names.now values.old (option_to_list store)) }
+{
+    match store {
+        Some(store) => values.add(names.value(store)),
+        None => Ok(()),
+    }
+}
+
+/// Adds the values of a context.
+#[tactic(auto, using(crate::proofs::ValueSets::with_values_append))]
+fn add_context(values: &mut Values, names: &Called<'_>, context: &[Pat]) -> Result<(), Memory>
+    ensures { OnOk result (values.new ≡ with_values names.now values.old (flat_map pattern_values context.now)) }
+{
+    for pattern in context {
+        add_store(values, names, pattern_value(pattern))?;
+    }
+    Ok(())
+}
+
+/// Adds the values of an output.
+#[tactic(auto, using(crate::proofs::ValueSets::with_values_append))]
+fn add_outputs(values: &mut Values, names: &Called<'_>, outputs: &[Out]) -> Result<(), Memory>
+    ensures { OnOk result (values.new ≡ with_values names.now values.old (flat_map output_values outputs.now)) }
+{
+    for output in outputs {
+        add_store(values, names, output_value(output))?;
+    }
+    Ok(())
+}
+
+/// Adds the values of a record.
+#[tactic(auto, using(crate::proofs::ValueSets::with_values_append))]
+fn add_rule(values: &mut Values, names: &Called<'_>, rule: &Rule) -> Result<(), Memory>
+    ensures { OnOk result (values.new ≡ with_values names.now values.old (rule_values rule.now)) }
+{
+    add_context(values, names, rule.context.as_slice())?;
+    add_outputs(values, names, rule.output.as_slice())
+}
+
+/// Adds the values of records.
+#[tactic(auto, using(crate::proofs::ValueSets::with_values_append))]
+fn add_rules(values: &mut Values, names: &Called<'_>, rules: &[Rule]) -> Result<(), Memory>
+    ensures { OnOk result (values.new ≡ with_values names.now values.old (flat_map rule_values rules.now)) }
+{
+    for rule in rules {
+        add_rule(values, names, rule)?;
+    }
+    Ok(())
+}
+
+/// Adds the values of a group.
+#[tactic(auto, using(crate::proofs::ValueSets::with_values_append))]
+fn add_group(values: &mut Values, names: &Called<'_>, group: &Group) -> Result<(), Memory>
+    ensures { OnOk result (values.new ≡ with_values names.now values.old (group_values group.now)) }
+{
+    add_rules(values, names, group.rules.as_slice())?;
+    add_outputs(values, names, group.on_match.as_slice())?;
+    add_outputs(values, names, group.on_nomatch.as_slice())
+}
+
+/// The values of groups.
+#[tactic(auto, using(crate::proofs::ValueSets::with_values_append))]
+pub(crate) fn values_of(
+    alloc: Global,
+    names: &Called<'_>,
+    groups: &[Group],
+) -> Result<Values, Memory>
+    ensures { IfOk result (λ values. values ≡ with_values names.now [] (flat_map group_values groups.now)) }
+{
+    let mut values = Values::new(alloc);
+    for group in groups {
+        add_group(&mut values, names, group)?;
+    }
+    Ok(values)
+}

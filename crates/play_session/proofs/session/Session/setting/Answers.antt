@@ -1,0 +1,16 @@
+use Rattle.std.proofs.Common.{false, refl, ◌∙◌, ap}
+use Rattle.kmn_base.specs.declared.events.Event.TheVariants as event
+use Rattle.rule_model.specs.Event.{happening}
+use Rattle.play_session.specs.Session.{SessionState, session_of, after_step}
+use Rattle.play_session.proofs.Stepping.{values_before, session_after}
+use Rattle.play_session.proofs.session.Session.setting.Goals as goal
+
+pub returns-clause-leaves : goal.returns-clause-leaves
+unfolding happening
+returns-clause-leaves c =
+    let session : SessionState = session_of c.self.inside.engine c.self.inside.editor c.self.inside.number c.self.inside.typed c.self.inside.changes.items in
+    let was = values_before c.setting_event.new.engine.tables c.self.inside.engine c.options.result.now c.in_ok-before.before c.in_ok-setting_event.ensures.tables c.in_ok-before.ensures
+    c.options.ensures.current c.options.ensures.saved in
+    session_after session (event.Setting c.args.name.now c.args.value.now) c.setting_event.new.engine c.self.inside.editor c.next_step.new.number false c.put_changes.new.changes.items _
+    c.in_ok-setting_event.ensures.tables c.in_ok-setting_event.ensures.state refl c.next_step.ensures.number was c.put_changes.ensures.changes
+    ∙ ap (λ (s : SessionState). after_step s (event.Setting c.args.name.now c.args.value.now)) c.self.view_is

@@ -1,0 +1,341 @@
+//! Scripts with the entries that they give or the rule that they break, and the lines of a transcript.
+
+use kmn_base::{Code, Element, Event, Item, Outcome, Refusal, Text};
+use play_script::{
+    ScriptError, end_line, expect_line, line_of, read_script, refused_event_line, text_line,
+    value_line,
+};
+use rule_model::Entry;
+use std::alloc::Global;
+use std::test::Fail;
+use virtual_keys::KeyDictionary;
+
+/// A script in each row, and behind `~` its entries, each with its line, or the rule that it breaks. `|` is a line end, and
+/// a backquote the byte FF. A press has its code and its modifiers. The keyboard has the names `T_flip` and `U_0041`.
+const ROWS: &str = "\
+~
+[K_A]~1:65:0
+[k_a]|[K_0]|~1:65:0 2:48:0
+[K_A][K_B] [K_C]|[K_BKSP]|~1:65:0 1:66:0 1:67:0 2:8:0
+  [ SHIFT \t K_SPACE ]\t[K_oE2 ] ~1:32:16 1:226:0
+[Shift k_f5]~1:116:16
+[CAPS K_B]~1:66:256
+[LCTRL K_A][RCTRL K_A][LALT K_A][RALT K_A]~1:65:1 1:65:2 1:65:4 1:65:8
+[CTRL K_A][ALT K_A][ctrl lctrl alt K_A]~1:65:1 1:65:4 1:65:5
+[SHIFT CAPS LCTRL RCTRL LALT RALT SHIFT K_NPSTAR]~1:106:287
+[K_A]\r|[K_B]\r[K_C]\r\r[K_D]~1:65:0 2:66:0 3:67:0 5:68:0
+\u{FEFF}# a note| \t|[K_A]|  #|~3:65:0
+[T_flip] [ctrl t_FLIP] [u_0041]~1:256:0 1:256:1 1:257:0
+caret 0~1:caret 0
+ caret\t0000005 ~1:caret 5
+caret 9999999~1:caret 9999999
+edit 0 1 \"ab\"~1:edit 0 1 ab
+edit 3 2 'a' \"b\"U+0041 'c'\t'd'~1:edit 3 2 abAcd
+option o \"1\"~1:option o 1
+option &layer ''~1:option &layer 
+option \"o\" U+00E9~1:option \"o\" é
+expect \"\"~1:expect 
+expect U+0041 U+1F600 U+00005A~1:expect A\u{1F600}Z
+expect \"it's\"'\"'\"# [\"~1:expect it's\"# [
+[K_A]|expect \"a\"|caret 0|~1:65:0 2:expect a 3:caret 0
+`~P01 1
+# a note|[K_QQ]|`~P01 1
+x~P02 1
+Caret 1~P02 1
+caret0~P02 1
+expect\"c\"~P02 1
+K_A]~P02 1
+\u{FEFF}\u{FEFF}[K_A]~P02 1
+[K_A]||#|hello [K_A]|[K_QQ]~P02 4
+[]~P03 1
+[ ]~P03 1
+[SHIFT]~P03 1
+[K_A SHIFT]~P03 1
+[K_A K_B]~P03 1
+[SHIFTK_A]~P03 1
+[NCAPS K_A]~P03 1
+[K_A] [K_QQ] x~P03 1
+[T_flop]~P03 1
+[[K_A]~P03 1
+[K_A~P03 1
+[K_A] [~P03 1
+[K_A]|[K_B]| |[K_C~P03 4
+expect~P04 1
+expect x~P04 1
+expect \"a~P04 1
+expect \"a'|[K_QQ]~P04 1
+expect \"a\" x~P04 1
+expect U+041~P04 1
+expect u+0041~P04 1
+expect U+D800~P04 1
+expect U+110000~P04 1
+expect U+0000041~P04 1
+expect U+0041\"x\"~P04 1
+option~P04 1
+option o~P04 1
+option o\"1\"~P04 1
+option o x~P04 1
+edit 0 0~P04 1
+edit 0 0 a~P04 1
+caret~P05 1
+caret x 0~P05 1
+caret -1~P05 1
+caret 00000001~P05 1
+edit \"a\"~P05 1
+edit 0 x \"a\"~P05 1
+edit 0 0\"a\"~P05 1
+caret 0 0~P08 1
+[K_A] x~P08 1
+[K_A]]~P08 1
+[K_A]|[K_A] x [K_QQ]~P08 2";
+
+/// The bytes of a row's script.
+fn script_of(alloc: Global, text: &str) -> Result<Vec<u8>, Fail> {
+    let mut script = Vec::new(alloc);
+    for byte in text.bytes() {
+        script.push(match byte {
+            b'|' => b'\n',
+            b'`' => 0xFF,
+            byte => byte,
+        })?;
+    }
+    Ok(script)
+}
+
+/// Appends a text behind a word.
+fn show_text(shown: &mut String, word: &str, text: &[char]) -> Result<(), Fail> {
+    write!(shown, "{word} ")?;
+    for c in text {
+        shown.push(*c)?;
+    }
+    Ok(())
+}
+
+/// Appends an event as a row has it.
+fn show_event(shown: &mut String, event: &Event) -> Result<(), Fail> {
+    match event {
+        Event::Key(press) => write!(shown, "{}:{}", press.code, press.mods)?,
+        Event::Caret(place) => write!(shown, "caret {place}")?,
+        Event::Edit { from, to, text } => {
+            write!(shown, "edit {from} ")?;
+            write!(shown, "{to}")?;
+            show_text(shown, "", text.as_slice())?;
+        }
+        Event::Setting { name, value } => {
+            shown.push_str("option ")?;
+            shown.push_str(str::from_utf8(name.as_slice()).unwrap_or("?"))?;
+            show_text(shown, "", value.as_slice())?;
+        }
+    }
+    Ok(())
+}
+
+/// Appends an entry as a row has it.
+fn show_entry(shown: &mut String, entry: &Entry) -> Result<(), Fail> {
+    match entry {
+        Entry::Act { line, event } => {
+            write!(shown, "{line}:")?;
+            show_event(shown, event)
+        }
+        Entry::Expect { line, text } => {
+            write!(shown, "{line}:")?;
+            show_text(shown, "expect", text.as_slice())
+        }
+    }
+}
+
+/// Entries as a row has them.
+fn shown_entries(alloc: Global, entries: &[Entry]) -> Result<String, Fail> {
+    let mut shown = String::new(alloc);
+    for entry in entries {
+        if !shown.is_empty() {
+            shown.push(' ')?;
+        }
+        show_entry(&mut shown, entry)?;
+    }
+    Ok(shown)
+}
+
+/// Whether a row has the code and the line of a refusal.
+fn is_refusal(refusal: Refusal, wanted: &str) -> bool {
+    match wanted.split_once(' ') {
+        Some((code, line)) => {
+            refusal.code.text() == code.as_bytes() && line.parse::<u32>().ok() == Some(refusal.line)
+        }
+        None => false,
+    }
+}
+
+/// Whether entries are those of a row.
+fn are_entries(alloc: Global, entries: &[Entry], wanted: &str) -> Result<bool, Fail> {
+    let shown = shown_entries(alloc, entries)?;
+    Ok(shown.as_str() == wanted)
+}
+
+/// Whether a script gives what a row says.
+fn gives(alloc: Global, script: &[u8], names: &KeyDictionary, wanted: &str) -> Result<bool, Fail> {
+    match read_script(alloc, script, names) {
+        Ok(entries) => are_entries(alloc, entries.as_slice(), wanted),
+        Err(ScriptError::Refused(refusal)) => Ok(is_refusal(refusal, wanted)),
+        Err(error) => Err(error.into()),
+    }
+}
+
+/// Whether a row says what its script gives.
+fn is_right(alloc: Global, names: &KeyDictionary, row: &str) -> Result<bool, Fail> {
+    let (text, wanted) = row.split_once('~').ok_or("a row without an answer")?;
+    gives(alloc, script_of(alloc, text)?.as_slice(), names, wanted)
+}
+
+/// A word, and a text as often as that, and then another.
+fn many(alloc: Global, word: &str, text: &str, count: usize, last: &str) -> Result<Vec<u8>, Fail> {
+    let mut script = Vec::from_slice(alloc, word.as_bytes())?;
+    for _ in 0..count {
+        script.extend_from_slice(text.as_bytes())?;
+    }
+    script.extend_from_slice(last.as_bytes())?;
+    Ok(script)
+}
+
+/// A line, how often it stands in a script, what stands behind it, and what the script gives.
+const LIMITS: [(&str, usize, &str, &str); 7] = [
+    ("#", 4_194_304, "", ""),
+    ("#", 4_194_305, "", "P06 1"),
+    ("[K_A]\n", 100_000, "#\nexpect ''x", "P04 100002"),
+    ("[K_A]\n", 100_000, "[K_A]", "P07 100001"),
+    ("[K_A]\n", 100_000, "caret 0 0", "P07 100001"),
+    ("[K_A]\n", 100_000, "caret x", "P05 100001"),
+    ("'a' ", 4_096, "\n", "P02 1"),
+];
+
+/// A word, what stands so many times behind it, and the end of the line: a string of so many characters, or a name; and
+/// whether it is read.
+const LENGTHS: [(&str, &str, usize, &str, bool); 4] = [
+    ("expect ", "'é'", 4_096, "", true),
+    ("expect ", "'é'", 4_097, "", false),
+    ("option ", "é", 80, " 'a'", true),
+    ("option ", "é", 81, " 'a'", false),
+];
+
+/// Whether a script of one line is read as one entry.
+fn is_read(alloc: Global, names: &KeyDictionary, script: &[u8]) -> bool {
+    match read_script(alloc, script, names) {
+        Ok(entries) => entries.len() == 1,
+        Err(_) => false,
+    }
+}
+
+/// The names of the keyboard's own keys.
+fn names(alloc: Global) -> Result<KeyDictionary, Fail> {
+    let mut names = KeyDictionary::new(alloc);
+    names.add(b"T_flip")?;
+    names.add(b"U_0041")?;
+    Ok(names)
+}
+
+/// The first row that says what its script doesn't give.
+fn wrong_row(alloc: Global) -> Result<Option<&'static str>, Fail> {
+    let names = names(alloc)?;
+    for row in ROWS.lines() {
+        if !is_right(alloc, &names, row)? {
+            return Ok(Some(row));
+        }
+    }
+    Ok(None)
+}
+
+/// The first row of `LIMITS` that isn't right, by what it wants.
+fn wrong_limit(alloc: Global) -> Result<Option<&'static str>, Fail> {
+    let names = names(alloc)?;
+    for (line, count, last, wanted) in LIMITS {
+        let script = many(alloc, "", line, count, last)?;
+        if !gives(alloc, script.as_slice(), &names, wanted)? {
+            return Ok(Some(wanted));
+        }
+    }
+    Ok(None)
+}
+
+/// The first row of `LENGTHS` that isn't right, by its word.
+fn wrong_length(alloc: Global) -> Result<Option<&'static str>, Fail> {
+    let names = names(alloc)?;
+    for (word, token, count, end, read) in LENGTHS {
+        let script = many(alloc, word, token, count, end)?;
+        if is_read(alloc, &names, script.as_slice()) != read {
+            return Ok(Some(word));
+        }
+    }
+    Ok(None)
+}
+
+#[test]
+fn scripts_give_entries(rt: HostRuntime) -> Result<(), Fail> {
+    let wrong = wrong_row(rt.alloc())?;
+    assert!(rt; wrong.is_none(), "{}", wrong.unwrap_or(""));
+    Ok(())
+}
+
+#[test]
+fn scripts_have_limits(rt: HostRuntime) -> Result<(), Fail> {
+    let wrong = wrong_limit(rt.alloc())?;
+    assert!(rt; wrong.is_none(), "{}", wrong.unwrap_or(""));
+    let wrong = wrong_length(rt.alloc())?;
+    assert!(rt; wrong.is_none(), "{}", wrong.unwrap_or(""));
+    Ok(())
+}
+
+/// Whether the lines of an event and of two values are as they should be.
+fn are_event_lines(alloc: Global) -> Result<bool, Fail> {
+    let outcome = Outcome {
+        delete: 2,
+        pass: true,
+        beeps: 1,
+        entered: 3,
+        put: 4,
+        saved: 5,
+    };
+    let context = [Item::Char('x'), Item::Mark(12), Item::Char('\u{1F600}')];
+    let value = [
+        Element::Char('1'),
+        Element::Mark(3),
+        Element::Key {
+            flags: 0x4000,
+            code: 65,
+        },
+    ];
+    let event = line_of(alloc, 7, outcome, &['à', 'b'], &context)?;
+    let option = value_line(alloc, false, b"o", &value)?;
+    let saved = value_line(alloc, true, b"", &[])?;
+    Ok(
+        is_line(
+            &event,
+            "7 del=2 ins=00E0.0062 pass=1 beep=1 ent=3 ctx=0078.d12.1F600\n",
+        ) && is_line(&option, "opt o 0031.d3.k0041\n")
+            && is_line(&saved, "save  -\n"),
+    )
+}
+
+/// Whether the other lines are as they should be.
+fn are_other_lines(alloc: Global) -> Result<bool, Fail> {
+    let expected = expect_line(alloc, 12)?;
+    let refused = refused_event_line(alloc, 3, Code::E1)?;
+    let text = text_line(alloc, &['b'], &[])?;
+    let end = end_line(alloc, 5, 2)?;
+    Ok(
+        is_line(&expected, "expect failed line=12\n")
+            && is_line(&refused, "refused E1 event 3\n")
+            && is_line(&text, "text 0062|-\n")
+            && is_line(&end, "end events=5 failed=2\n"),
+    )
+}
+
+fn is_line(line: &Text, wanted: &str) -> bool {
+    line.as_slice() == wanted.as_bytes()
+}
+
+#[test]
+fn lines_of_a_transcript(rt: HostRuntime) -> Result<(), Fail> {
+    assert!(rt; are_event_lines(rt.alloc())?);
+    assert!(rt; are_other_lines(rt.alloc())?);
+    Ok(())
+}

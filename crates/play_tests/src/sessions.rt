@@ -1,0 +1,191 @@
+//! Sessions with compiled keyboards, event by event.
+
+use crate::fixtures::{press, sign};
+use kmn_base::{Element, Event, Item, KeyPress, Memory, Seq};
+use kmn_compiler::compile;
+use kmx_verifier::{Verified, verify};
+use play_session::{Session, StepError};
+use std::alloc::Global;
+use std::test::Fail;
+
+/// The file of one rule, `+ 'a' > 'b'` in line 3, in a group `main` that uses keys.
+const ONE_RULE: [u8; 122] = [
+    0x4B, 0x58, 0x54, 0x53, 0x00, 0x0A, 0x00, 0x00, 0, 0, 0, 0, 0, 0, 0, 0, 0, 0, 0, 0, 0, 0, 0, 0,
+    0, 0, 0, 0, 1, 0, 0, 0, 0, 0, 0, 0, 0x40, 0, 0, 0, 0xFF, 0xFF, 0xFF, 0xFF, 0, 0, 0, 0, 0, 0, 0,
+    0, 0, 0, 0, 0, 0, 0, 0, 0, 0, 0, 0, 0, 0x6C, 0, 0, 0, 0x58, 0, 0, 0, 0, 0, 0, 0, 0, 0, 0, 0, 1,
+    0, 0, 0, 1, 0, 0, 0, 0x61, 0, 0, 0, 3, 0, 0, 0, 0, 0, 0, 0, 0x76, 0, 0, 0, 0, 0, 0, 0, 0x6D, 0,
+    0x61, 0, 0x69, 0, 0x6E, 0, 0, 0, 0x62, 0, 0, 0,
+];
+
+/// An option o that holds `0`, and rules that test and change it; one that puts a mark, and one that takes it.
+const KEYBOARD: &[u8] = b"begin Unicode > use(main)\nstore(o) '0'\ngroup(main) using keys\n\
+    if(o = '1') + 'a' > 'x'\n+ 'a' > 'y'\n+ 's' > set(o = '1')\n+ 'v' > save(o)\n\
+    + 'r' > reset(o)\n+ 'z' > set(o = '0')\n+ '`' > dk(x)\ndk(x) + 'q' > U+00E0\n";
+
+/// On each line the steps of a session with that keyboard. A step is a press, `=` and the name and the value of
+/// a setting, `|` and the place of a caret, or `-` and the places of an edit and its text. Behind a blank stand what it
+/// inserted, the context and the changed values, `!` before a saved one; or the refusal. `*` is a mark.
+const CASES: &str = "\
+K_A y,y, ; K_S ,y,o1 ; K_A x,yx, ; K_R ,yx,o0 ; =o,1 ,yx,o1!o1 ; K_Z ,yx,o0 ; K_R ,yx,o1 ; K_V ,yx,
+=O,0 ,,!o0 ; =x,1 ,,
+K_X x,x, ; K_BKQUOTE ,x*, ; |0 ,, ; |1 ,x, ; K_A y,xy,
+K_X x,x, ; K_BKQUOTE ,x*, ; -0,0,uu ,uux, ; |9 E1 ; -2,1, E1 ; -3,4, E1
+K_X x,x, ; K_BKQUOTE ,x*, ; -1,1,u ,x*,
+K_BKQUOTE ,*, ; K_Q à,à,";
+
+/// A number of the table.
+fn number(text: &str) -> u32 {
+    text.parse().unwrap_or(0)
+}
+
+/// The event of a step.
+fn event(alloc: Global, word: &str) -> Result<Event, Memory> {
+    if let Some(place) = word.strip_prefix('|') {
+        return Ok(Event::Caret(number(place)));
+    }
+    if let Some(setting) = word.strip_prefix('=') {
+        let (name, value) = setting.split_once(',').unwrap_or((setting, ""));
+        return Ok(Event::Setting {
+            name: Seq::from_slice(alloc, name.as_bytes())?,
+            value: Seq::from_vec(value.chars().collect(alloc)?),
+        });
+    }
+    if let Some(edit) = word.strip_prefix('-') {
+        let (from, rest) = edit.split_once(',').unwrap_or((edit, ""));
+        let (to, text) = rest.split_once(',').unwrap_or((rest, ""));
+        return Ok(Event::Edit {
+            from: number(from),
+            to: number(to),
+            text: Seq::from_vec(text.chars().collect(alloc)?),
+        });
+    }
+    Ok(Event::Key(press(word.as_bytes())))
+}
+
+/// Appends the names and the new values of what the last step changed.
+fn show_changes(alloc: Global, text: &mut String, session: &Session) -> Result<(), Memory> {
+    for change in session.changes() {
+        if change.saved {
+            text.push('!')?;
+        }
+        for byte in session.name(alloc, change.store)?.as_slice() {
+            text.push(*byte as char)?;
+        }
+        if let Some(value) = session.value(alloc, change.store, change.saved)? {
+            for element in value.as_slice() {
+                if let Element::Char(c) = element {
+                    text.push(*c)?;
+                }
+            }
+        }
+    }
+    Ok(())
+}
+
+/// What a session tells of its last step, as the table writes it.
+fn shown(alloc: Global, session: &Session) -> Result<String, Memory> {
+    let mut text = String::new(alloc);
+    for c in session.inserted() {
+        text.push(*c)?;
+    }
+    text.push(',')?;
+    for item in session.engine().context() {
+        text.push(sign(*item))?;
+    }
+    text.push(',')?;
+    show_changes(alloc, &mut text, session)?;
+    Ok(text)
+}
+
+/// Does one step; whether it shows what is wanted.
+fn shows(alloc: Global, session: &mut Session, step: &str) -> Result<bool, Fail> {
+    let (word, wanted) = step.split_once(' ').unwrap_or((step, ""));
+    let event = event(alloc, word)?;
+    match session.step(alloc, &event) {
+        Ok(_) => Ok(shown(alloc, session)?.as_str() == wanted),
+        Err(StepError::Place) => Ok(wanted == "E1"),
+        Err(StepError::Length) => Ok(wanted == "E2"),
+        Err(error) => Err(error.into()),
+    }
+}
+
+/// The first step of a session with the keyboard of a file, or of a copy made before it, that shows something else.
+fn wrong_step(
+    alloc: Global,
+    file: &Verified,
+    case: &'static str,
+) -> Result<Option<&'static str>, Fail> {
+    let mut session = Session::start(alloc, file)?;
+    for step in case.split(" ; ") {
+        let mut other = session.copy(alloc)?;
+        if !shows(alloc, &mut session, step)? || !shows(alloc, &mut other, step)? {
+            return Ok(Some(step));
+        }
+    }
+    Ok(None)
+}
+
+#[test]
+fn events_of_every_kind(rt: HostRuntime) -> Result<(), Fail> {
+    let compiled = compile(rt.alloc(), KEYBOARD, &[])?;
+    let file = verify(rt.alloc(), compiled.bytes.as_slice())?;
+    for case in CASES.lines() {
+        let wrong = wrong_step(rt.alloc(), &file, case)?;
+        assert!(rt; wrong.is_none(), "{}", wrong.unwrap_or(""));
+    }
+    Ok(())
+}
+
+/// Whether a press in the first session of a file puts a b into the text.
+fn puts_b(alloc: Global) -> Result<bool, Fail> {
+    let file = verify(alloc, &ONE_RULE)?;
+    let mut session = Session::start(alloc, &file)?;
+    let step = session.step(alloc, &Event::Key(KeyPress { code: 65, mods: 0 }))?;
+    Ok(
+        step.number == 1
+            && session.inserted() == ['b'].as_slice()
+            && session.editor().left() == ['b'].as_slice()
+            && session.engine().context() == [Item::Char('b')].as_slice(),
+    )
+}
+
+#[test]
+fn one_press(rt: HostRuntime) -> Result<(), Fail> {
+    assert!(rt; puts_b(rt.alloc())?);
+    Ok(())
+}
+
+/// The session of a file in a text of 991,232 characters, with the caret at its end.
+fn far_along<'f>(alloc: Global, file: &'f Verified<'f>) -> Result<Session<'f>, Fail> {
+    let mut session = Session::start(alloc, file)?;
+    for _ in 0..242 {
+        let text = Seq::from_vec(vec![in alloc; 'x'; 4096]?);
+        let event = Event::Edit {
+            from: 0,
+            to: 0,
+            text,
+        };
+        session.step(alloc, &event)?;
+    }
+    session.step(alloc, &Event::Caret(991_232))?;
+    Ok(session)
+}
+
+/// Whether so many presses there look at no more than the last items.
+fn stays_far_along(alloc: Global, presses: u32) -> Result<bool, Fail> {
+    let file = verify(alloc, &ONE_RULE)?;
+    let mut session = far_along(alloc, &file)?;
+    let press = Event::Key(press(b"K_F5"));
+    for _ in 0..presses {
+        if !session.step(alloc, &press)?.outcome.pass {
+            return Ok(false);
+        }
+    }
+    Ok(session.engine().context().len() == 64 && session.editor().left().len() == 991_232)
+}
+
+#[test]
+fn many_presses_in_a_long_text(rt: HostRuntime) -> Result<(), Fail> {
+    assert!(rt; stays_far_along(rt.alloc(), 99_000)?);
+    Ok(())
+}

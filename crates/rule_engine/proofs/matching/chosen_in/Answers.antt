@@ -1,0 +1,29 @@
+use Rattle.std.proofs.Common.{◌≡◌, List, map, sym, ◌∙◌, ap, subst}
+use Rattle.std.specs.Borrow.{Bor}
+use Rattle.std.specs.Prelude.{option_map}
+use Rattle.kmn_base.specs.declared.items.Item.{Item}
+use Rattle.kmn_base.specs.Lists.{window}
+use Rattle.rule_model.specs.declared.event_state.Caught.{Caught}
+use Rattle.rule_model.specs.declared.tables.Rule.{Rule}
+use Rattle.rule_model.specs.Choose.{first}
+use Rattle.rule_model.specs.Hold.{holds}
+use Rattle.rule_model.specs.Tab.{tab_rule, tab_group}
+use Rattle.rule_model.proofs.PlainKeyboard.{chosen_first}
+use Rattle.rule_engine.specs.Event.{EventValue, content_in}
+use Rattle.rule_engine.proofs.Contexts.{first_in_window}
+use Rattle.rule_engine.proofs.matching.chosen_in.Goals as goal
+
+pub returns-clause-chosen : goal.returns-clause-chosen
+returns-clause-chosen c =
+    let event : EventValue = c.args.event.now in
+    let using_keys = c.args.group.now.using_keys in
+    let rules : List Rule = c.args.group.now.rules in
+    let here : EventValue → List Item → _ = λ (v : EventValue) (items : List Item).
+    first (holds (content_in v) items c.args.press) (map (tab_rule v.tables.stores using_keys) rules) in
+    let last : c.items.result.now ≡ window event.state.left = c.items.ensures.value ∙ c.window-window.ensures.window in
+    subst (λ (v : EventValue). option_map (λ (chosen : Bor Rule × Caught). (tab_rule v.tables.stores using_keys chosen.0.now, chosen.1)) c.first_of.result ≡ here v c.items.result.now)
+    c.window-window.ensures.same (c.first_of.ensures ∙ ap (λ (xs : List Rule). first (holds (content_in c.window-window.new.self) c.items.result.now c.args.press)
+    (map (tab_rule c.window-window.new.self.tables.stores using_keys) xs)) c.as_slice.ensures)
+    ∙ (ap (here event) last
+    ∙ (first_in_window (content_in event) event.state.left c.args.press event.tables.stores using_keys rules c.requires
+    ∙ sym (chosen_first event.tables c.args.press (tab_group event.tables.stores c.args.group.now) event.state)))

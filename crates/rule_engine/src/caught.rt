@@ -1,0 +1,91 @@
+ghost use Rattle.std.specs.Prelude.{◌≡◌, ◌≤◌, [], None, length};
+ghost use Rattle.rule_model.specs.Act.{items_caught, place_for_index};
+
+use crate::elements::place_caught;
+use arrayvec::ArrayVec;
+use kmn_base::Item;
+use std::marker::Model;
+
+/// What an item of a context caught: an item of the text where it is a pattern, and of an `any` the first place of that
+/// item in its store.
+#[derive(Clone, Copy, Default, Drop)]
+pub struct Found {
+    pub item: Option<Item>,
+    pub place: Option<usize>,
+}
+
+impl Model for Found {
+    ghost use Rattle.rule_model.specs.declared.event_state.Catch.{Catch};
+
+    ghost Value = { Catch };
+
+    ghost view = { λ found. record { item = found.item; place = found.place } };
+
+    ghost inverse = { λ catch. record { item = catch.item; place = catch.place } };
+}
+
+/// What a record caught when it matched, by the items of its context. It stays so while the output acts.
+#[derive(Drop)]
+pub struct Caught {
+    found: ArrayVec<Found, 60>,
+}
+
+impl Model for Caught {
+    ghost use Rattle.std.specs.Prelude.{◌≤◌, length, None};
+    ghost use Rattle.rule_model.specs.declared.event_state.Caught.{Caught};
+
+    ghost Value = { Caught };
+
+    ghost view = { λ caught. record { catches = caught.found.items; key_place = None } };
+
+    ghost invariant = { λ caught. length caught.found.items ≤ 60 };
+}
+
+impl Caught {
+    /// What was found, item by item.
+    pub fn of(found: ArrayVec<Found, 60>) -> Caught
+        ensures { result ≡ record { catches = found.items; key_place = None } }
+    {
+        Caught { found }
+    }
+
+    /// What an output has that stands for no record.
+    pub fn nothing() -> Caught
+        ensures { result ≡ record { catches = []; key_place = None } }
+    {
+        Caught {
+            found: ArrayVec::new(),
+        }
+    }
+
+    /// What was found, item by item.
+    pub fn found(&self) -> &[Found]
+        ensures { result.now ≡ self.now.catches }
+    {
+        self.found.as_slice()
+    }
+
+    /// How many items were caught.
+    #[tactic(auto, using(rule_model::proofs::PlainLists::length_filter_map, crate::proofs::Catches::items_are_few))]
+    pub fn item_count(&self) -> usize
+        ensures value { result ≡ length (items_caught self.now) }
+        ensures few { result ≤ 60 }
+    {
+        self.found
+            .as_slice()
+            .iter()
+            .filter(|found| found.item.is_some())
+            .count()
+    }
+
+    /// The place that an `index` takes. No key is a store here, so none has a place.
+    pub fn place_for_index(&self, offset: u32) -> Option<usize>
+        ensures { result ≡ place_for_index self.now offset }
+    {
+        if offset > 0 && offset as usize - 1 == self.found.len() {
+            None
+        } else {
+            place_caught(self.found.as_slice(), offset)
+        }
+    }
+}

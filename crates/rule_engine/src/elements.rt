@@ -1,0 +1,69 @@
+ghost use Rattle.std.specs.Prelude.{◌≡◌, Some};
+ghost use Rattle.rule_model.specs.Match.{is_item, same_item, same_element, item_of, catch_at, item_caught, place_caught, is_element, is_same};
+
+use crate::caught::Found;
+use kmn_base::{Element, Item};
+
+/// Whether an item is the same as an element.
+pub fn is_item(item: Item, element: Element) -> bool
+    ensures { result ≡ is_item item element }
+{
+    match item {
+        Item::Char(c) => element == Element::Char(c),
+        Item::Mark(m) => element == Element::Mark(m),
+    }
+}
+
+/// Whether two elements are the same.
+#[tactic(auto, using(crate::proofs::Lying::equal_elements))]
+pub fn same_element(element: Element, other: Element) -> bool
+    ensures { result ≡ same_element element other }
+{
+    element == other
+}
+
+/// The item that stands for an element.
+pub fn item_of(element: Element) -> Option<Item>
+    ensures { result ≡ item_of element }
+{
+    match element {
+        Element::Char(c) => Some(Item::Char(c)),
+        Element::Mark(m) => Some(Item::Mark(m)),
+        Element::Key { .. } => None,
+    }
+}
+
+/// What was found at an offset, which counts from 1.
+fn found_at(seen: &[Found], offset: u32) -> Option<Found>
+    ensures { result ≡ catch_at seen.now offset }
+{
+    seen.get((offset as usize).checked_sub(1)?).copied()
+}
+
+/// The item that was caught at an offset.
+pub fn item_caught(seen: &[Found], offset: u32) -> Option<Item>
+    ensures { result ≡ item_caught seen.now offset }
+{
+    found_at(seen, offset)?.item
+}
+
+/// The place that was caught at an offset.
+pub fn place_caught(seen: &[Found], offset: u32) -> Option<usize>
+    ensures { result ≡ place_caught seen.now offset }
+{
+    found_at(seen, offset)?.place
+}
+
+/// Whether an item is the same as an element that there may be.
+pub fn is_element(item: Item, wanted: Option<Element>) -> bool
+    ensures { result ≡ is_element item wanted }
+{
+    wanted.is_some_and(|element| is_item(item, element))
+}
+
+/// Whether an item is the same as an item that there may be.
+pub fn is_same(item: Item, wanted: Option<Item>) -> bool
+    ensures { result ≡ is_same item wanted }
+{
+    wanted == Some(item)
+}

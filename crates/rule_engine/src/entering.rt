@@ -1,0 +1,198 @@
+ghost use Rattle.std.specs.Prelude.{◌≡◌, ◌<◌, map, length, option_map, slice_get, if◌then◌else◌};
+ghost use Rattle.kmn_base.specs.Lists.{without_last};
+ghost use Rattle.rule_model.specs.Keyboard.{Numbered};
+ghost use Rattle.rule_model.specs.Act.{act_one, act, enter_if_allowed, items_caught};
+ghost use Rattle.rule_model.specs.Enter.{do_chosen, do_unmatched, do_group, chosen_in, in_group};
+ghost use Rattle.rule_model.specs.KeyEvent.{after_key};
+ghost use Rattle.rule_model.specs.Tab.{tab_output, tab_rule, tab_group};
+ghost use Rattle.rule_engine.specs.Event.{keyboard_of, enters, AreShort};
+
+use crate::caught::Caught;
+use crate::defaults::by_default;
+use crate::elements::item_caught;
+use crate::event::Event;
+use crate::matching::chosen_in;
+use crate::outputs::{put_any, put_context, put_index};
+use kmn_base::limits::EVENT_ENTRIES;
+use kmn_base::{Item, KeyPress};
+use rule_model::{Group, Out, Rule};
+
+/// A press that enters groups, with so many entries inside one another that may still come.
+#[derive(Clone, Copy)]
+pub struct Entering {
+    pub press: KeyPress,
+    pub depth: u32,
+}
+
+/// What one item of an output does.
+#[cycle(acts)]
+fn act_one(entering: Entering, caught: &Caught, output: Out, event: &mut Event)
+    ensures { event.new ≡ record event.old {
+      state = act_one
+          (keyboard_of event.old) (enters event.old entering) caught.now (tab_output event.old.tables.stores output) event.old.state;
+    } }
+{
+    match output {
+        Out::Char(c) => event.put_item(Item::Char(c)),
+        Out::Mark(m) => event.put_item(Item::Mark(m)),
+        Out::Index(store, offset) => put_index(caught, store, offset, event),
+        Out::Context => put_context(caught, event),
+        Out::ContextAt(offset) => put_any(item_caught(caught.found(), offset), event),
+        Out::Enter(group) => enter_if_allowed(entering, group, event),
+        Out::Set(store, value) => event.set_current(store, value),
+        Out::Save(store) => event.save_current(store),
+        Out::Reset(store) => event.reset_current(store),
+        Out::Beep => event.beep(),
+        Out::Nul => {}
+        Out::Stop => event.stop(),
+    }
+}
+
+/// What the next item of an output does, unless the event is stopped.
+#[cycle(acts)]
+fn act_next(entering: Entering, caught: &Caught, output: Out, event: &mut Event)
+    ensures { event.new ≡ record event.old {
+      state = if event.old.state.stopped then event.old.state else act_one
+          (keyboard_of event.old) (enters event.old entering) caught.now (tab_output event.old.tables.stores output) event.old.state;
+    } }
+{
+    if !event.is_stopped() {
+        act_one(entering, caught, output, event);
+    }
+}
+
+/// The items of an output act in order; once the event is stopped nothing changes.
+#[cycle(acts)]
+fn act(entering: Entering, caught: &Caught, outputs: &[Out], event: &mut Event)
+    ensures { event.new ≡ record event.old {
+      state = act
+          (keyboard_of event.old) (enters event.old entering) caught.now (map (tab_output event.old.tables.stores) outputs.now) event.old.state;
+    } }
+{
+    for output in outputs {
+        act_next(entering, caught, *output, event);
+    }
+}
+
+/// Enters a group, or ends the event where no more may be entered.
+#[cycle(acts)]
+fn enter_if_allowed(entering: Entering, group: u32, event: &mut Event)
+    ensures { event.new ≡ record event.old { state = enter_if_allowed (enters event.old entering) (Numbered group) event.old.state } }
+{
+    if event.entered() >= EVENT_ENTRIES {
+        event.stop();
+    } else {
+        enter(entering, group, event);
+    }
+}
+
+/// Takes what a record has matched.
+fn take(caught: &Caught, event: &mut Event)
+    ensures { event.new ≡ record event.old {
+      state = record event.old.state {
+        left = without_last (length (items_caught caught.now)) event.old.state.left;
+      };
+    } }
+{
+    event.take(caught.item_count());
+}
+
+/// A chosen record: its items are taken, its output acts, then the group's match output.
+#[cycle(acts)]
+fn do_chosen(entering: Entering, group: &Group, rule: &Rule, caught: &Caught, event: &mut Event)
+    ensures { event.new ≡ record event.old {
+      state = do_chosen (keyboard_of event.old) (enters event.old entering)
+          (tab_group event.old.tables.stores group.now) (tab_rule event.old.tables.stores group.now.using_keys rule.now, caught.now) event.old.state;
+    } }
+{
+    take(caught, event);
+    act(entering, caught, rule.output.as_slice(), event);
+    act(
+        entering,
+        &Caught::nothing(),
+        group.on_match.as_slice(),
+        event,
+    );
+}
+
+/// Where no record holds: the nomatch output, else the default of a group with keys.
+#[cycle(acts)]
+fn do_unmatched(entering: Entering, group: &Group, event: &mut Event)
+    ensures { event.new ≡ record event.old {
+      state = do_unmatched (keyboard_of event.old) (enters event.old entering) entering.press
+          (tab_group event.old.tables.stores group.now).on_nomatch group.now.using_keys event.old.state;
+    } }
+{
+    if !group.on_nomatch.is_empty() {
+        act(
+            entering,
+            &Caught::nothing(),
+            group.on_nomatch.as_slice(),
+            event,
+        );
+    } else if group.using_keys {
+        by_default(entering.press, event);
+    }
+}
+
+/// What a group does.
+#[cycle(acts)]
+fn do_group(entering: Entering, group: &Group, event: &mut Event)
+    requires { AreShort group.now.rules }
+    ensures { event.new ≡ record event.old {
+      state = do_group (keyboard_of event.old) (enters event.old entering) entering.press (tab_group event.old.tables.stores group.now)
+          (chosen_in (keyboard_of event.old) entering.press (tab_group event.old.tables.stores group.now) event.old.state) event.old.state;
+    } }
+{
+    match chosen_in(entering.press, event, group) {
+        Some((rule, caught)) => do_chosen(entering, group, rule, &caught, event),
+        None => do_unmatched(entering, group, event),
+    }
+}
+
+/// What the group of a number does, if there is one.
+#[cycle(acts)]
+#[tactic(auto, using(crate::proofs::Contexts::short_in_group))]
+fn in_group(entering: Entering, group: u32, event: &mut Event)
+    ensures { event.new ≡ record event.old {
+      state = in_group (keyboard_of event.old) (enters event.old entering) entering.press
+          (option_map (tab_group event.old.tables.stores) (slice_get event.old.tables.groups group)) event.old.state;
+    } }
+{
+    if let Some(group) = event.indexed().group(group) {
+        do_group(entering, group, event);
+    }
+}
+
+/// Enters a group.
+#[cycle(acts)]
+#[tactic(auto, using(rule_model::proofs::PlainKeyboard::enter_more))]
+fn enter(entering: Entering, group: u32, event: &mut Event)
+    requires { event.old.state.entered < 50 }
+    ensures { event.new ≡ record event.old { state = enters event.old entering (Numbered group) event.old.state } }
+{
+    if entering.depth == 0 {
+        event.stop();
+        return;
+    }
+    event.count_entry();
+    let inside = Entering {
+        depth: entering.depth - 1,
+        ..entering
+    };
+    in_group(inside, group, event);
+}
+
+/// What a press leaves of an event.
+#[tactic(auto, unfolding(rule_model::specs::KeyEvent::after_key, rule_model::specs::Tab::tab))]
+pub fn press(press: KeyPress, event: &mut Event)
+    requires { event.old.state.entered ≡ 0 }
+    ensures { event.new ≡ record event.old { state = after_key (keyboard_of event.old) press event.old.state } }
+{
+    let entering = Entering {
+        press,
+        depth: EVENT_ENTRIES,
+    };
+    let start = event.indexed().start();
+    enter(entering, start, event);
+}

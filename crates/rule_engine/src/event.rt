@@ -1,0 +1,272 @@
+ghost use Rattle.std.specs.Prelude.{◌≡◌, ◌≤◌, ◌<◌, ◌+◌, ◌^◌, length, Some, true};
+ghost use Rattle.kmn_base.specs.declared.limits.TheConstants.{EVENT_PUTS};
+ghost use Rattle.kmn_base.specs.Lists.{characters, window, without_last, read_again};
+ghost use Rattle.option_store.specs.Meaning.{option_values, option_saves};
+ghost use Rattle.rule_model.specs.Act.{one_more, put_item, set_current, save_current, reset_current};
+ghost use Rattle.rule_model.specs.Content.{option_number, elements_at};
+ghost use Rattle.rule_model.specs.Enter.{delete_or_pass};
+ghost use Rattle.rule_model.specs.Keyboard.{Numbered};
+ghost use Rattle.rule_model.specs.KeyEvent.{begin_event, deleted, inserted, outcome_of};
+ghost use Rattle.rule_model.specs.Tab.{tab, elements_of};
+ghost use Rattle.rule_engine.specs.Event.{HasShortContexts, content_in, keyboard_of};
+ghost use Rattle.rule_engine.specs.StoreValues.{elements_in};
+
+use crate::contents::content;
+use crate::store_value::StoreValue;
+use context_cache::Cache;
+use event_text::{Inserted, Left};
+use kmn_base::limits::EVENT_PUTS;
+use kmn_base::{Item, KeyPress, Outcome};
+use option_store::Options;
+use rule_model::IndexedTables;
+use std::marker::Model;
+use virtual_keys::codes::K_BKSP;
+use virtual_keys::is_plain;
+
+/// What one key press acts on. Nothing of it takes memory.
+#[derive(Drop)]
+pub struct Event<'a> {
+    indexed: &'a IndexedTables<'a>,
+    left: Left<'a>,
+    options: Options,
+    pass: bool,
+    stopped: bool,
+    beeps: u32,
+    entered: u32,
+    saves: u32,
+}
+
+/// What a press leaves: what it did, the last items, what it inserted, and what the stores hold.
+#[derive(Drop)]
+pub struct Pressed {
+    pub outcome: Outcome,
+    pub cache: Cache,
+    pub inserted: Inserted,
+    pub options: Options,
+}
+
+impl<'a> Model for Event<'a> {
+    ghost use Rattle.std.specs.Prelude.{◌≡◌, [], length};
+    ghost use Rattle.option_store.specs.Meaning.{with_values};
+    ghost use Rattle.rule_model.specs.Tab.{tab};
+    ghost use Rattle.rule_engine.specs.Event.{EventValue, HasShortContexts};
+
+    ghost Value = { EventValue };
+
+    ghost view = { λ event. record {
+      tables = event.indexed.now;
+      lent = event.left.lent;
+      state = with_values (tab event.indexed.now).stores event.options (record {
+        left = event.left.items;
+        current = [];
+        saved = [];
+        pass = event.pass;
+        stopped = event.stopped;
+        beeps = event.beeps;
+        entered = event.entered;
+        put = event.left.put;
+        saves = event.saves;
+      });
+    } };
+
+    ghost invariant = { λ event. (length event.options ≡ length event.indexed.now.stores) × HasShortContexts event.indexed.now };
+}
+
+impl<'a> Event<'a> {
+    ghost use Rattle.rule_engine.specs.Event.{EventValue};
+
+    /// Begins on a text that is read again, with the last items and the options as they were before.
+    pub fn begin(
+        indexed: &'a IndexedTables<'a>,
+        lent: &'a [char],
+        inserted: Inserted,
+        cache: Cache,
+        options: Options,
+    ) -> Event<'a>
+        requires few { length lent.now < 2 ^ 32 }
+        requires room { inserted.room ≡ EVENT_PUTS }
+        requires stores { length options ≡ length indexed.now.stores }
+        requires short { HasShortContexts indexed.now }
+        ensures { result ≡ record {
+          tables = indexed.now;
+          lent = lent.now;
+          state = begin_event (read_again cache lent.now)
+              (option_values (tab indexed.now).stores options) (option_saves (tab indexed.now).stores options);
+        } }
+    {
+        Event {
+            indexed,
+            left: Left::begin(lent, inserted, cache),
+            options,
+            pass: false,
+            stopped: false,
+            beeps: 0,
+            entered: 0,
+            saves: 0,
+        }
+    }
+
+    /// Ends the event.
+    pub fn finish(self) -> Pressed
+        ensures outcome { (before : _) → characters before ≡ self.entry.lent → result.outcome ≡ outcome_of before self.entry.state }
+        ensures inserted { (before : _) → characters before ≡ self.entry.lent → result.inserted.text ≡ inserted before self.entry.state.left }
+        ensures cache { result.cache ≡ window self.entry.state.left }
+        ensures current { option_values (keyboard_of self.entry).stores result.options ≡ self.entry.state.current }
+        ensures saved { option_saves (keyboard_of self.entry).stores result.options ≡ self.entry.state.saved }
+        ensures stores { length result.options ≡ length self.entry.tables.stores }
+        ensures room { result.inserted.room ≡ EVENT_PUTS }
+        ensures few { length result.inserted.text ≤ EVENT_PUTS }
+    {
+        let put = self.left.puts();
+        let edited = self.left.finish();
+        Pressed {
+            outcome: Outcome {
+                delete: edited.deleted as u32,
+                pass: self.pass,
+                beeps: self.beeps,
+                entered: self.entered,
+                put,
+                saved: self.saves,
+            },
+            cache: edited.cache,
+            inserted: edited.inserted,
+            options: self.options,
+        }
+    }
+
+    /// The tables.
+    pub fn indexed(&self) -> &'a IndexedTables<'a>
+        ensures value { result.now ≡ self.now.tables }
+        ensures short { HasShortContexts result.now }
+    {
+        self.indexed
+    }
+
+    /// What a store has at this moment.
+    pub fn content(&self, store: u32) -> StoreValue<'_>
+        ensures { elements_in result ≡ content_in self.now (Numbered store) }
+    {
+        content(self.indexed, &self.options, store)
+    }
+
+    /// Whether the event's remaining effects are ended.
+    pub fn is_stopped(&self) -> bool
+        ensures { result ≡ self.now.state.stopped }
+    {
+        self.stopped
+    }
+
+    /// Ends the event's remaining effects.
+    pub fn stop(&mut self)
+        ensures { self.new ≡ record self.old { state = record self.old.state { stopped = true } } }
+    {
+        self.stopped = true;
+    }
+
+    /// Adds one beep.
+    pub fn beep(&mut self)
+        ensures { self.new ≡ record self.old { state = record self.old.state { beeps = one_more self.old.state.beeps } } }
+    {
+        self.beeps = self.beeps.saturating_add(1);
+    }
+
+    /// How many groups were entered.
+    pub fn entered(&self) -> u32
+        ensures { result ≡ self.now.state.entered }
+    {
+        self.entered
+    }
+
+    /// Counts a group that is entered.
+    pub fn count_entry(&mut self)
+        requires { self.old.state.entered < 50 }
+        ensures { self.new ≡ record self.old { state = record self.old.state { entered = self.old.state.entered + 1 } } }
+    {
+        self.entered += 1;
+    }
+
+    /// The last 64 items. They are filled in first, so that all of them are at hand.
+    pub fn window(&mut self) -> Cache
+        ensures window { result ≡ window self.old.state.left }
+        ensures same { self.new ≡ self.old }
+    {
+        self.left.fill();
+        self.left.copy_cache()
+    }
+
+    /// Takes the last items, at most as many as a window has.
+    #[tactic(auto, using(crate::proofs::Windows::taken_from_window))]
+    pub fn take(&mut self, count: usize)
+        requires { count ≤ 64 }
+        ensures { self.new ≡ record self.old { state = record self.old.state { left = without_last count self.old.state.left } } }
+    {
+        self.left.fill();
+        let here = self.left.cache().len();
+        self.left.take(count.min(here));
+    }
+
+    /// Puts an item, or ends the event where no more may be put.
+    pub fn put_item(&mut self, item: Item)
+        ensures { self.new ≡ record self.old { state = put_item item self.old.state } }
+    {
+        if self.stopped {
+            return;
+        }
+        if self.left.puts() >= EVENT_PUTS {
+            self.stopped = true;
+            return;
+        }
+        self.left.put(item);
+    }
+
+    /// A press that gives no character deletes back, or is passed on.
+    pub fn delete_or_pass(&mut self, press: KeyPress)
+        ensures { self.new ≡ record self.old { state = delete_or_pass press self.old.state } }
+    {
+        if press.code == K_BKSP && is_plain(press) && self.left.has_character() {
+            self.left.take_character();
+        } else {
+            self.pass = true;
+        }
+    }
+
+    /// What `set` does.
+    #[tactic(auto, using(crate::proofs::StoreContents::option_within, crate::proofs::OptionSteps::set_follows, crate::proofs::OptionSteps::nothing_set))]
+    pub fn set_current(&mut self, store: u32, value: u32)
+        ensures { self.new ≡ record self.old {
+          state = set_current
+              (option_number (keyboard_of self.old).stores (Numbered store)) (elements_of self.old.tables.stores value) self.old.state;
+        } }
+    {
+        if self.indexed.option_number(store).is_some() {
+            self.options.set(store, value);
+        }
+    }
+
+    /// What `save` does.
+    #[tactic(auto, using(crate::proofs::StoreContents::option_within, crate::proofs::OptionSteps::save_follows, crate::proofs::OptionSteps::nothing_saved))]
+    pub fn save_current(&mut self, store: u32)
+        ensures { self.new ≡ record self.old {
+          state = save_current
+              (option_number (keyboard_of self.old).stores (Numbered store)) self.old.state;
+        } }
+    {
+        if self.indexed.option_number(store).is_some() {
+            self.options.save(store);
+            self.saves = self.saves.saturating_add(1);
+        }
+    }
+
+    /// What `reset` does.
+    #[tactic(auto, using(crate::proofs::StoreContents::option_within, crate::proofs::OptionSteps::reset_follows, crate::proofs::OptionSteps::nothing_reset))]
+    pub fn reset_current(&mut self, store: u32)
+        ensures { self.new ≡ record self.old {
+          state = reset_current
+              (option_number (keyboard_of self.old).stores (Numbered store)) (elements_at (keyboard_of self.old).stores (Some store)) self.old.state;
+        } }
+    {
+        if self.indexed.option_number(store).is_some() {
+            self.options.reset(store);
+        }
+    }
+}

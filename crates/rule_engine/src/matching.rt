@@ -1,0 +1,240 @@
+ghost use Rattle.std.specs.Prelude.{◌≡◌, ◌≤◌, [], Some, None, IsTrue, length, map, option_map, if◌then◌else◌};
+ghost use Rattle.std.specs.List.{list_all, list_any};
+ghost use Rattle.kmn_base.specs.declared.limits.TheConstants.{CONTEXT_ITEMS};
+ghost use Rattle.kmn_base.specs.Lists.{window};
+ghost use Rattle.rule_model.specs.Keyboard.{Numbered};
+ghost use Rattle.rule_model.specs.Match.{same_value, takes_item, matches, place_for, catches_from};
+ghost use Rattle.rule_model.specs.Hold.{is_true, is_at_start, pattern_count, has_room, caught_by, holds};
+ghost use Rattle.rule_model.specs.Choose.{first};
+ghost use Rattle.rule_model.specs.Enter.{chosen_in};
+ghost use Rattle.rule_model.specs.Tab.{elements_of, tab_pattern, tab_rule, tab_group};
+ghost use Rattle.rule_model.specs.Plain.{caught_last};
+ghost use Rattle.rule_engine.specs.Event.{content_in, keyboard_of, AreShort};
+
+use crate::caught::{Caught, Found};
+use crate::elements::{is_element, is_item, is_same, item_caught, place_caught};
+use crate::event::Event;
+use crate::store_value::StoreValue;
+use arrayvec::ArrayVec;
+use kmn_base::{Element, Item, KeyPress, RuleKey};
+use rule_model::{Group, Pat, Rule};
+use virtual_keys::fits;
+
+/// Whether a pattern looks at an item of the text, whatever the stores are.
+fn takes_item(pattern: Pat) -> bool
+    ensures { result ≡ takes_item (tab_pattern [] pattern) }
+{
+    !matches!(&pattern, Pat::Equal(..) | Pat::Unequal(..) | Pat::Nul)
+}
+
+/// Whether an item stands to a pattern as the pattern asks, behind what was caught so far.
+fn matches(event: &Event, seen: &[Found], pattern: Pat, item: Item) -> bool
+    ensures { result ≡ matches (content_in event.now) seen.now (tab_pattern event.now.tables.stores pattern) item }
+{
+    match pattern {
+        Pat::Char(c) => is_item(item, Element::Char(c)),
+        Pat::Mark(m) => is_item(item, Element::Mark(m)),
+        Pat::Any(store) => event.content(store).place_of(item).is_some(),
+        Pat::NotAny(store) => event.content(store).place_of(item).is_none(),
+        Pat::Index(store, offset) => {
+            let place = place_caught(seen, offset);
+            is_element(item, event.content(store).element_at(place))
+        }
+        Pat::ContextAt(offset) => is_same(item, item_caught(seen, offset)),
+        Pat::Equal(..) | Pat::Unequal(..) | Pat::Nul => true,
+    }
+}
+
+/// The place that a pattern catches of an item that it matches.
+fn place_for(event: &Event, pattern: Pat, item: Item) -> Option<usize>
+    ensures { result ≡ place_for (content_in event.now) (tab_pattern event.now.tables.stores pattern) item }
+{
+    match pattern {
+        Pat::Any(store) => event.content(store).place_of(item),
+        _ => None,
+    }
+}
+
+/// What the patterns of a context catch of a text.
+fn caught_of(event: &Event, patterns: &[Pat], text: &[Item]) -> Option<ArrayVec<Found, 60>>
+    requires { length patterns.now ≤ CONTEXT_ITEMS }
+    ensures { option_map (λ seen. seen.items) result ≡ catches_from
+        (content_in event.now) [] (map (tab_pattern event.now.tables.stores) patterns.now) text.now }
+{
+    let mut seen = ArrayVec::new();
+    let mut rest = text;
+    for pattern in patterns {
+        if !takes_item(*pattern) {
+            seen.push(Found {
+                item: None,
+                place: None,
+            });
+            continue;
+        }
+        let [item, behind @ ..] = rest else {
+            return None;
+        };
+        if !matches(event, seen.as_slice(), *pattern, *item) {
+            return None;
+        }
+        seen.push(Found {
+            item: Some(*item),
+            place: place_for(event, *pattern, *item),
+        });
+        rest = behind;
+    }
+    if rest.is_empty() { Some(seen) } else { None }
+}
+
+/// Whether a store has the elements of a value store at a moment.
+fn has_value(event: &Event, store: u32, value: u32) -> bool
+    ensures { result ≡ same_value (content_in event.now (Numbered store)) (elements_of event.now.tables.stores value) }
+{
+    let wanted = StoreValue::Elements(event.indexed().elements(value));
+    event.content(store).is_same(&wanted)
+}
+
+/// Whether a condition is true at a moment; any other item of a context is none.
+fn is_true(event: &Event, pattern: Pat) -> bool
+    ensures { result ≡ is_true (content_in event.now) (tab_pattern event.now.tables.stores pattern) }
+{
+    match pattern {
+        Pat::Equal(store, value) => has_value(event, store, value),
+        Pat::Unequal(store, value) => !has_value(event, store, value),
+        _ => true,
+    }
+}
+
+/// Whether the conditions of a context are true at a moment.
+fn conditions_hold(event: &Event, context: &[Pat]) -> bool
+    ensures { result ≡ list_all (is_true (content_in event.now)) (map (tab_pattern event.now.tables.stores) context.now) }
+{
+    for pattern in context {
+        if !is_true(event, *pattern) {
+            return false;
+        }
+    }
+    true
+}
+
+/// How many items of the text a context looks at, whatever its stores are.
+fn pattern_count(context: &[Pat]) -> usize
+    ensures { result ≡ pattern_count (map (tab_pattern []) context.now) }
+{
+    context
+        .iter()
+        .filter(|pattern| takes_item(**pattern))
+        .count()
+}
+
+/// Whether a context has a `nul`.
+fn has_nul(context: &[Pat]) -> bool
+    ensures { result ≡ list_any is_at_start (map (tab_pattern []) context.now) }
+{
+    for pattern in context {
+        if *pattern == Pat::Nul {
+            return true;
+        }
+    }
+    false
+}
+
+/// Whether a list has room for a context, and with a `nul` nothing more.
+fn has_room(context: &[Pat], left: &[Item]) -> bool
+    ensures value { result ≡ has_room (map (tab_pattern []) context.now) left.now }
+    ensures enough { IsTrue result → pattern_count (map (tab_pattern []) context.now) ≤ length left.now }
+{
+    let count = pattern_count(context);
+    if has_nul(context) {
+        left.len() == count
+    } else {
+        count <= left.len()
+    }
+}
+
+/// What a context catches of the last items of a list, where it has room.
+fn caught_last(event: &Event, context: &[Pat], left: &[Item]) -> Option<ArrayVec<Found, 60>>
+    requires { length context.now ≤ CONTEXT_ITEMS }
+    ensures { option_map (λ seen. seen.items) result ≡ caught_last
+        (content_in event.now) (map (tab_pattern event.now.tables.stores) context.now) left.now }
+{
+    if !has_room(context, left) {
+        return None;
+    }
+    caught_of(event, context, &left[left.len() - pattern_count(context)..])
+}
+
+/// The key of a record; in a group without keys each press fits.
+fn key_of(using_keys: bool, rule: &Rule) -> RuleKey
+    ensures { result ≡ (if using_keys then rule.now.key else RuleKey.Any) }
+{
+    if using_keys { rule.key } else { RuleKey::Any }
+}
+
+/// What was caught with a key that is no store.
+fn with_key(found: Option<ArrayVec<Found, 60>>) -> Option<Caught>
+    ensures { result ≡ caught_by (option_map (λ seen. seen.items) found) (Some None) }
+{
+    Some(Caught::of(found?))
+}
+
+/// What a record has caught where it holds on a list at a moment.
+fn holds(
+    event: &Event,
+    press: KeyPress,
+    using_keys: bool,
+    rule: &Rule,
+    left: &[Item],
+) -> Option<Caught>
+    requires { length rule.now.context ≤ CONTEXT_ITEMS }
+    ensures { result ≡ holds (content_in event.now) left.now press (tab_rule event.now.tables.stores using_keys rule.now) }
+{
+    let context = rule.context.as_slice();
+    if !conditions_hold(event, context) || !fits(key_of(using_keys, rule), press) {
+        return None;
+    }
+    with_key(caught_last(event, context, left))
+}
+
+/// The first of some records that holds on a list at a moment, and what it has caught.
+fn first_of<'g>(
+    event: &Event,
+    press: KeyPress,
+    using_keys: bool,
+    rules: &'g [Rule],
+    left: &[Item],
+) -> Option<(&'g Rule, Caught)>
+    requires { AreShort rules.now }
+    ensures { option_map (λ c. (tab_rule event.now.tables.stores using_keys c.0.now, c.1)) result ≡ first
+        (holds (content_in event.now) left.now press) (map (tab_rule event.now.tables.stores using_keys) rules.now) }
+{
+    for rule in rules {
+        if let Some(caught) = holds(event, press, using_keys, rule, left) {
+            return Some((rule, caught));
+        }
+    }
+    None
+}
+
+/// The record of a group that goes first at a moment, and what it has caught. It is seen in the last 64 items, which are
+/// filled in before.
+#[tactic(auto, using(crate::proofs::Contexts::first_in_window), unfolding(rule_model::specs::Tab::tab))]
+pub fn chosen_in<'g>(
+    press: KeyPress,
+    event: &mut Event,
+    group: &'g Group,
+) -> Option<(&'g Rule, Caught)>
+    requires { AreShort group.now.rules }
+    ensures chosen { option_map (λ c. (tab_rule event.old.tables.stores group.now.using_keys c.0.now, c.1)) result ≡ chosen_in
+        (keyboard_of event.old) press (tab_group event.old.tables.stores group.now) event.old.state }
+    ensures same { event.new ≡ event.old }
+{
+    let window = event.window();
+    first_of(
+        event,
+        press,
+        group.using_keys,
+        group.rules.as_slice(),
+        window.items(),
+    )
+}

@@ -1,0 +1,49 @@
+ghost use Rattle.std.specs.Prelude.{◌≡◌};
+ghost use Rattle.rule_model.specs.Keyboard.{Numbered};
+ghost use Rattle.rule_model.specs.Match.{element_at};
+ghost use Rattle.rule_model.specs.Act.{put_items, item_list, put_element, items_caught, place_for_index};
+ghost use Rattle.rule_engine.specs.Event.{content_in};
+
+use crate::caught::Caught;
+use crate::elements::item_of;
+use crate::event::Event;
+use kmn_base::{Element, Item};
+
+/// Puts an item that there may be.
+pub fn put_any(item: Option<Item>, event: &mut Event)
+    ensures { event.new ≡ record event.old { state = put_items (item_list item) event.old.state } }
+{
+    if let Some(item) = item {
+        event.put_item(item);
+    }
+}
+
+/// Puts an element that there may be; a virtual key puts nothing.
+fn put_element(element: Option<Element>, event: &mut Event)
+    ensures { event.new ≡ record event.old { state = put_element element event.old.state } }
+{
+    if let Some(element) = element {
+        put_any(item_of(element), event);
+    }
+}
+
+/// What `index` does.
+pub fn put_index(caught: &Caught, store: u32, offset: u32, event: &mut Event)
+    ensures { event.new ≡ record event.old {
+      state = put_element
+          (element_at (content_in event.old (Numbered store)) (place_for_index caught.now offset)) event.old.state;
+    } }
+{
+    let place = caught.place_for_index(offset);
+    let element = event.content(store).element_at(place);
+    put_element(element, event);
+}
+
+/// What `context` does: puts all that was matched.
+pub fn put_context(caught: &Caught, event: &mut Event)
+    ensures { event.new ≡ record event.old { state = put_items (items_caught caught.now) event.old.state } }
+{
+    for found in caught.found() {
+        put_any(found.item, event);
+    }
+}

@@ -1,0 +1,16 @@
+-- The elements of a store as numbers, which an item has where it is the same.
+use Rattle.std.specs.Prelude.{ℕ, ◌+◌, ◌*◌}
+use Rattle.kmn_base.specs.declared.items.Item.{Item}
+use Rattle.kmn_base.specs.declared.items.Item.TheVariants as item
+use Rattle.kmn_base.specs.declared.items.Element.{Element}
+use Rattle.kmn_base.specs.declared.items.Element.TheVariants as element
+
+-- characters have odd numbers and marks even ones; a number that no item has stands for every virtual key
+abbrev pub element_number : Element → ℕ
+element_number (element.Char c) = 1 + 2 * c
+element_number (element.Mark m) = 2 + 2 * m
+element_number (element.Key flags code) = 0
+
+abbrev pub item_number : Item → ℕ
+item_number (item.Char c) = 1 + 2 * c
+item_number (item.Mark m) = 2 + 2 * m

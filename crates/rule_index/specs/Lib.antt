@@ -1,0 +1,6 @@
+pub mod Classes
+pub mod Elements
+pub mod Laws
+pub mod Next
+pub mod Rows
+pub mod Values

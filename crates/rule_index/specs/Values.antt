@@ -1,0 +1,27 @@
+-- Values by the number of the first that is the same.
+use Rattle.std.specs.Prelude.{◌≡◌, ℕ, ◌<◌, List, [], length, slice_index_or, slice_index, Option, Some, None, bytes_eq, if◌then◌else◌}
+use Rattle.std.specs.Ordering.{nat_cmp}
+use Rattle.std.specs.Cmp.Lexicographic.{slice_cmp}
+use Rattle.std.specs.Borrow.{Bor}
+use Rattle.std.specs.BTreeMap.{BTreeMap, get_by}
+
+-- values have the same number exactly where they are the same
+pub record AreNumbersOf (values : List (List ℕ)) (numbers : List ℕ) : Type 0 where
+  pub count : length numbers ≡ length values
+  pub same : (i j : ℕ) → i < length values → j < length values → slice_index_or values i [] ≡ slice_index_or values j [] → slice_index numbers i ≡ slice_index numbers j
+  pub other : (i j : ℕ) → i < length values → j < length values → slice_index numbers i ≡ slice_index numbers j → slice_index_or values i [] ≡ slice_index_or values j []
+
+-- the number that a map has for a value
+abbrev pub known_in : BTreeMap (Bor (List ℕ)) ℕ → List ℕ → Option ℕ
+known_in numbers value = get_by (λ (k : Bor (List ℕ)). slice_cmp nat_cmp value k.now) numbers
+
+-- a value has its number, or gets the next one
+pub data IsNumbered (old new : List ℕ → Option ℕ) (value : List ℕ) (next number : ℕ) : Type 0 where
+  Stayed : (found : old value ≡ Some number) → (same : (q : List ℕ) → new q ≡ old q) → IsNumbered old new value next number
+  Added : (none : old value ≡ None) → (added : (q : List ℕ) → new q ≡ (if bytes_eq value q then Some next else old q)) → (is : number ≡ next) → IsNumbered old new value next number
+
+-- the first n values are numbered, and the map has them
+pub record AreKnown (values : List (List ℕ)) (known : List ℕ → Option ℕ) (numbers : List ℕ) (n : ℕ) : Type 0 where
+  pub count : length numbers ≡ n
+  pub value : (q : List ℕ) (c : ℕ) → known q ≡ Some c → (c < length values) × (slice_index_or values c [] ≡ q)
+  pub number : (i : ℕ) → i < n → known (slice_index_or values i []) ≡ Some (slice_index numbers i)

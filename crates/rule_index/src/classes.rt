@@ -1,0 +1,132 @@
+ghost use Rattle.std.specs.Prelude.{◌≡◌, ◌<◌, [], map, None, IfOk};
+ghost use Rattle.virtual_keys.specs.Fits.{char_of_press};
+ghost use Rattle.rule_model.specs.Match.{takes_item};
+ghost use Rattle.rule_model.specs.Tab.{tab_pattern, tab_rule};
+ghost use Rattle.rule_index.specs.Classes.{key_class, pattern_class, last_class, given_class, item_class, last_item, class_of, rule_class, wanted_classes};
+
+use crate::class::Class;
+use kmn_base::{Item, KeyPress, Memory, RuleKey};
+use rule_model::{Pat, Rule};
+use std::alloc::Global;
+use virtual_keys::char_of;
+
+/// By which presses a key can be met.
+fn key_class(key: RuleKey) -> u64
+    ensures value { result ≡ key_class key }
+    ensures small { result < 2097152 }
+{
+    match key {
+        RuleKey::Any => 0,
+        RuleKey::Char(c) => 1 + u64::from(c),
+        RuleKey::Virtual { code, .. } => 65_537 + u64::from(code),
+    }
+}
+
+/// What a pattern wants.
+fn pattern_class(pattern: Pat) -> u64
+    ensures value { result ≡ pattern_class (tab_pattern [] pattern) }
+    ensures small { result < 2097152 }
+{
+    match pattern {
+        Pat::Char(c) => 1 + u64::from(c as u32),
+        Pat::Mark(m) => 1_114_113 + u64::from(m),
+        _ => 0,
+    }
+}
+
+/// Whether a pattern looks at an item of the text.
+fn takes_item(pattern: Pat) -> bool
+    ensures { result ≡ takes_item (tab_pattern [] pattern) }
+{
+    !matches!(&pattern, Pat::Equal(..) | Pat::Unequal(..) | Pat::Nul)
+}
+
+/// What the last pattern of a context wants.
+fn last_class(context: &[Pat]) -> u64
+    ensures value { result ≡ last_class 0 (map (tab_pattern []) context.now) }
+    ensures small { result < 2097152 }
+{
+    let mut class = 0;
+    for pattern in context {
+        if takes_item(*pattern) {
+            class = pattern_class(*pattern);
+        }
+    }
+    class
+}
+
+/// The class of a key's and a pattern's part.
+fn class_of(by_key: u64, by_item: u64) -> Class
+    requires key { by_key < 2097152 }
+    requires item { by_item < 2097152 }
+    ensures { result ≡ class_of by_key by_item }
+{
+    Class::of(by_key * 2_097_152 + by_item)
+}
+
+/// What a record can be met by; in a group without keys by every press.
+fn rule_class(using_keys: bool, rule: &Rule) -> Class
+    ensures { result ≡ rule_class (tab_rule [] using_keys rule.now) }
+{
+    let key = if using_keys { rule.key } else { RuleKey::Any };
+    class_of(key_class(key), last_class(rule.context.as_slice()))
+}
+
+/// The classes of records, in their order.
+pub fn rule_classes(alloc: Global, using_keys: bool, rules: &[Rule]) -> Result<Vec<Class>, Memory>
+    ensures { IfOk result (λ classes. classes.items ≡ map (λ rule. rule_class (tab_rule [] using_keys rule)) rules.now) }
+{
+    let mut classes = Vec::new(alloc);
+    for rule in rules {
+        classes.push(rule_class(using_keys, rule))?;
+    }
+    Ok(classes)
+}
+
+/// The last item of a list.
+#[tactic(auto, using(crate::proofs::Meeting::last_at))]
+fn last_item(left: &[Item]) -> Option<Item>
+    ensures { result ≡ last_item None left.now }
+{
+    left.last().copied()
+}
+
+/// What an item meets.
+fn item_class(item: Option<Item>) -> u64
+    ensures value { result ≡ item_class item }
+    ensures small { result < 2097152 }
+{
+    match item {
+        None => 0,
+        Some(Item::Char(c)) => 1 + u64::from(c as u32),
+        Some(Item::Mark(m)) => 1_114_113 + u64::from(m),
+    }
+}
+
+/// What the character of a press meets, and what its code does where it gives none.
+fn given_class(press: KeyPress) -> u64
+    ensures value { result ≡ given_class press (char_of_press press) }
+    ensures small { result < 2097152 }
+{
+    match char_of(press) {
+        Some(c) => 1 + u64::from(c as u32),
+        None => 65_537 + u64::from(press.code),
+    }
+}
+
+/// What a press on a list can meet of the records of a group.
+pub fn wanted_classes(press: KeyPress, left: &[Item]) -> [Class; 6]
+    ensures { result ≡ wanted_classes press left.now }
+{
+    let given = given_class(press);
+    let code = 65_537 + u64::from(press.code);
+    let last = item_class(last_item(left));
+    [
+        class_of(0, last),
+        class_of(0, 0),
+        class_of(given, last),
+        class_of(given, 0),
+        class_of(code, last),
+        class_of(code, 0),
+    ]
+}

@@ -1,0 +1,28 @@
+//! Finds, of a group's records, those that can hold for a press and the last item before the caret, and the first place of
+//! an item in a store, both by search.
+//!
+//! It stands on `kmn_base`, `rule_model` and `virtual_keys`. The layer above makes a `RuleIndex` of each group's records,
+//! asks `wanted_classes` of a press and the list before the caret, and tries the records that `next_candidate` answers, in
+//! the file's order. A `PlaceIndex` of a store answers the place that `any` catches, and `value_numbers` numbers values so
+//! that conditions compare numbers. `specs/Classes` says by what a record can be met, `specs/Next` which record is the next
+//! candidate. The laws stand in `laws`: a record that holds is among the wanted ones, so the first record that holds is the
+//! first candidate that does.
+#![tactic(auto)]
+
+mod class;
+mod classes;
+mod elements;
+pub mod laws;
+mod place_index;
+mod row;
+mod rows;
+mod rule_index;
+#[cfg(test)]
+mod tests;
+mod values;
+
+pub use class::Class;
+pub use classes::wanted_classes;
+pub use place_index::PlaceIndex;
+pub use rule_index::RuleIndex;
+pub use values::value_numbers;

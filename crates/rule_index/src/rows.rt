@@ -1,0 +1,91 @@
+ghost use Rattle.std.specs.Prelude.{◌≡◌, ◌<◌, ◌≤◌, ◌+◌, ◌*◌, ℕ, List, IfOk, length, slice_get, nat_lt};
+ghost use Rattle.std.specs.List.Sorted.{IsNonDecreasingBy};
+ghost use Rattle.kmn_base.specs.declared.limits.TheConstants.{RECORDS};
+ghost use Rattle.rule_index.specs.Rows.{rank, ranked, AreNumbered, IsIndexOf, StartsAt, number_if};
+ghost use Rattle.rule_index.specs.Next.{IsFirstOf};
+
+use crate::class::Class;
+use crate::row::Row;
+use kmn_base::Memory;
+use std::alloc::Global;
+
+/// A class and a number as one number, by which rows are sorted.
+fn rank_of(class: Class, number: u32) -> u64
+    requires { number < 131072 }
+    ensures { result ≡ ranked class number }
+{
+    class.number() * 131_072 + u64::from(number)
+}
+
+/// The rank of a row.
+fn rank(row: &Row) -> u64
+    ensures { result ≡ rank row.now }
+{
+    rank_of(row.class, row.number)
+}
+
+/// The rows of these classes, in their order.
+fn numbered(alloc: Global, classes: &[Class]) -> Result<Vec<Row>, Memory>
+    requires { length classes.now ≤ RECORDS }
+    ensures { IfOk result (λ rows. AreNumbered classes.now rows.items) }
+{
+    let mut rows = Vec::new(alloc);
+    for number in 0..classes.len() {
+        rows.push(Row {
+            class: classes[number],
+            number: number as u32,
+        })?;
+    }
+    Ok(rows)
+}
+
+/// The rows of these classes, by class and then by number.
+pub fn rows_of(alloc: Global, classes: &[Class]) -> Result<Vec<Row>, Memory>
+    requires { length classes.now ≤ RECORDS }
+    ensures { IfOk result (λ rows. IsIndexOf classes.now rows.items) }
+{
+    let mut rows = numbered(alloc, classes)?;
+    rows.sort_unstable_by_key(
+        |row: &Row| -> u64
+            ensures { result ≡ rank row.now }
+        { rank(row) },
+    );
+    Ok(rows)
+}
+
+/// The number of a row that there may be, where it has a class.
+fn number_if(row: Option<Row>, class: Class) -> Option<u32>
+    ensures { result ≡ number_if class row }
+{
+    match row {
+        Some(row) if row.class.number() == class.number() => Some(row.number),
+        _ => None,
+    }
+}
+
+/// The row at a place, None where there is none.
+fn row_at(rows: &[Row], place: usize) -> Option<Row>
+    ensures { result ≡ slice_get rows.now place }
+{
+    rows.get(place).copied()
+}
+
+/// The place of the first row whose rank is no less.
+fn place_from(rows: &[Row], start: u64) -> usize
+    ensures { (sorted : IsNonDecreasingBy rank rows.now) → StartsAt start rows.now result }
+{
+    rows.partition_point(
+        |row: &Row| -> bool
+            ensures { result ≡ nat_lt (rank row.now) start }
+        { rank(row) < start },
+    )
+}
+
+/// The first number from one on that has a class.
+#[tactic(auto, using(crate::proofs::Finding::first_found))]
+pub fn first_from(rows: &[Row], class: Class, from: u32) -> Option<u32>
+    requires { from ≤ RECORDS }
+    ensures { (classes : List ℕ) → IsIndexOf classes rows.now → IsFirstOf class classes from result }
+{
+    number_if(row_at(rows, place_from(rows, rank_of(class, from))), class)
+}

@@ -1,0 +1,242 @@
+//! Sources, and the tables that they have before records are put in order.
+
+use crate::fixtures::{KEYBOARD, with_line};
+use kmn_base::{Element, RuleKey};
+use kmn_compiler::front;
+use rule_expand::expand;
+use rule_model::{Group, Out, Pat, Rule, Store};
+use std::alloc::Global;
+use std::test::Fail;
+
+/// A store's system id and its elements.
+type StoreRow = (u32, &'static [Element]);
+
+/// A record's line, its place in the key store, its key, context and output.
+type RuleRow = (u32, u32, RuleKey, &'static [Pat], &'static [Out]);
+
+/// The statements of a source behind the two lines, and the stores and records that it has.
+const SOURCES: [(&str, &[StoreRow], &[RuleRow]); 6] = [
+    (
+        "+ 'a' > 'b'",
+        &[],
+        &[(3, 0, RuleKey::Char(97), &[], &[Out::Char('b')])],
+    ),
+    (
+        "store(v) \"aea\"\nstore(w) \"xyz\"\nany(v) + '1' > index(w,1)",
+        &[
+            (
+                0,
+                &[Element::Char('a'), Element::Char('e'), Element::Char('a')],
+            ),
+            (
+                0,
+                &[Element::Char('x'), Element::Char('y'), Element::Char('z')],
+            ),
+        ],
+        &[(5, 0, RuleKey::Char(49), &[Pat::Any(0)], &[Out::Index(1, 1)])],
+    ),
+    (
+        "store(k) [K_A] [SHIFT K_A]\nstore(o) 'xy'\n+ any(k) > index(o,1)",
+        &[
+            (
+                0,
+                &[
+                    Element::Key {
+                        flags: 16384,
+                        code: 65,
+                    },
+                    Element::Key {
+                        flags: 16400,
+                        code: 65,
+                    },
+                ],
+            ),
+            (0, &[Element::Char('x'), Element::Char('y')]),
+        ],
+        &[
+            (
+                5,
+                0,
+                RuleKey::Virtual {
+                    flags: 16384,
+                    code: 65,
+                },
+                &[],
+                &[Out::Char('x')],
+            ),
+            (
+                5,
+                1,
+                RuleKey::Virtual {
+                    flags: 16400,
+                    code: 65,
+                },
+                &[],
+                &[Out::Char('y')],
+            ),
+        ],
+    ),
+    (
+        "store(o) \"0\"\nif(o = \"1\") + 'a' > 'x'\n+ 's' > set(o = \"1\") save(o)\n+ 'z' > set(o = \"0\") reset(o)",
+        &[
+            (0, &[Element::Char('0')]),
+            (0, &[Element::Char('1')]),
+            (0, &[Element::Char('0')]),
+        ],
+        &[
+            (
+                4,
+                0,
+                RuleKey::Char(97),
+                &[Pat::Equal(0, 1)],
+                &[Out::Char('x')],
+            ),
+            (
+                5,
+                0,
+                RuleKey::Char(115),
+                &[],
+                &[Out::Set(0, 1), Out::Save(0)],
+            ),
+            (
+                6,
+                0,
+                RuleKey::Char(122),
+                &[],
+                &[Out::Set(0, 2), Out::Reset(0)],
+            ),
+        ],
+    ),
+    (
+        "store(s) dk(b) 'x'\nstore(t) outs(s) dk(a)\n+ [T_flip] > outs(t)\ndk(a) + [K_A] > nul\n+ [t_other] > $s",
+        &[
+            (0, &[Element::Mark(1), Element::Char('x')]),
+            (0, &[Element::Mark(1), Element::Char('x'), Element::Mark(2)]),
+            (34, &T_FLIP_T_OTHER),
+        ],
+        &[
+            (
+                5,
+                0,
+                RuleKey::Virtual {
+                    flags: 16384,
+                    code: 256,
+                },
+                &[],
+                &[Out::Mark(1), Out::Char('x'), Out::Mark(2)],
+            ),
+            (
+                6,
+                0,
+                RuleKey::Virtual {
+                    flags: 16384,
+                    code: 65,
+                },
+                &[Pat::Mark(2)],
+                &[Out::Nul],
+            ),
+            (
+                7,
+                0,
+                RuleKey::Virtual {
+                    flags: 16384,
+                    code: 257,
+                },
+                &[],
+                &[Out::Mark(1), Out::Char('x')],
+            ),
+        ],
+    ),
+    (
+        "store(&version) '9.0'\nstore(k) 'abc'\nstore(o) 'x'\n+ any(k) > index(o,1)",
+        &[
+            (
+                8,
+                &[Element::Char('9'), Element::Char('.'), Element::Char('0')],
+            ),
+            (
+                0,
+                &[Element::Char('a'), Element::Char('b'), Element::Char('c')],
+            ),
+            (0, &[Element::Char('x')]),
+        ],
+        &[
+            (6, 0, RuleKey::Char(97), &[], &[Out::Char('x')]),
+            (6, 1, RuleKey::Char(98), &[], &[Out::Nul]),
+            (6, 2, RuleKey::Char(99), &[], &[Out::Nul]),
+        ],
+    ),
+];
+
+/// The dictionary of the names `T_flip` and `t_other`.
+const T_FLIP_T_OTHER: [Element; 14] = [
+    Element::Char('T'),
+    Element::Char('_'),
+    Element::Char('f'),
+    Element::Char('l'),
+    Element::Char('i'),
+    Element::Char('p'),
+    Element::Char(' '),
+    Element::Char('t'),
+    Element::Char('_'),
+    Element::Char('o'),
+    Element::Char('t'),
+    Element::Char('h'),
+    Element::Char('e'),
+    Element::Char('r'),
+];
+
+fn are_stores(stores: &[Store], rows: &[StoreRow]) -> bool {
+    stores.len() == rows.len()
+        && stores.iter().zip(rows).all(|(store, row)| store.system == row.0
+            && store.elements.as_slice() == row.1)
+}
+
+fn is_record(rule: &Rule, row: RuleRow) -> bool {
+    let (line, place, key, context, output) = row;
+    rule.line == line
+        && rule.place == place
+        && rule.key == key
+        && rule.context.as_slice() == context
+        && rule.output.as_slice() == output
+}
+
+fn are_records(groups: &[Group], rows: &[RuleRow]) -> bool {
+    groups.iter().all(|group| {
+        group.rules.len() == rows.len()
+            && group
+                .rules
+                .as_slice()
+                .iter()
+                .zip(rows)
+                .all(|(rule, row)| is_record(rule, *row))
+    })
+}
+
+/// Whether a source has these stores and records.
+fn expands_to(
+    alloc: Global,
+    statements: &str,
+    stores: &[StoreRow],
+    records: &[RuleRow],
+) -> Result<bool, Fail> {
+    let source = with_line(alloc, KEYBOARD.as_bytes(), statements.as_bytes())?;
+    let checked = front(alloc, source.as_slice())?;
+    let tables = expand(alloc, &checked)?;
+    Ok(
+        are_stores(tables.stores.as_slice(), stores)
+            && tables.groups.len() == 1
+            && are_records(tables.groups.as_slice(), records),
+    )
+}
+
+#[test]
+fn expands_sources(rt: HostRuntime) -> Result<(), Fail> {
+    for (statements, stores, records) in SOURCES {
+        assert!(rt;
+            expands_to(rt.alloc(), statements, stores, records)?,
+            "{statements}"
+        );
+    }
+    Ok(())
+}

@@ -1,0 +1,785 @@
+//! Sources, each with the first refusal that it gets or with what it states. In a row, what stands before the first `:`
+//! opens the source: `K` two lines with the group `main` that uses keys, `G` one line with a group that uses none, `A`
+//! nothing. Then comes the source's text, and behind ` ⇒ ` the answer. In the text `¶` is a line feed, `␍` a carriage
+//! return, `␉` a tab, `␀` U+0000, `␡` U+FFFF, and `⌖` U+FEFF. What a source states is told without its opening,
+//! statement by statement with its line; characters are hexadecimal.
+
+use crate::fixtures::KEYBOARD;
+use kmn_base::{Code, CompileError, Refusal, Seq};
+use kmn_parser::parse;
+use rule_model::{BeginDef, GroupDef, KeyName, Program, RuleDef, RuleKind, SrcItem, StoreDef};
+use std::alloc::{AllocError, Global};
+use std::fmt::Write;
+use std::str;
+use std::test::Fail;
+
+const WITHOUT_KEYS: &str = "group(g)\n";
+
+const TOKENS: &str = r##"A:␀ ⇒ L02 1
+A:ab␀c ⇒ L02 1
+A:U+0000 ⇒ L02 1
+A:u+FFFF ⇒ L02 1
+A:U+00FFFF ⇒ L02 1
+A:'␀ ⇒ L02 1
+A:U+1␀ ⇒ L02 1
+K:+ 'a' > '␀' ⇒ L02 3
+K:+ 'a' > '␡' ⇒ L02 3
+K:+ 'a' > U+FFFF ⇒ L02 3
+K:+ 'a' > 'b' c ␀ ⇒ 3 + 61 > 62
+K:$keymanweb: ␀ ' U+1 ⇒ nothing
+K:+ 'a' > 'b ⇒ L03 3
+K:+ 'a' > "b' ⇒ L03 3
+K:+ 'a' > 'b c d ⇒ L03 3
+K:+ 'a' > 'b \¶'c' ⇒ L03 3
+K:+ 'a' > \¶'b ⇒ L03 3
+K:¶¶ ' ⇒ L03 5
+A:store(¶' ⇒ L03 2
+A:' U+1 ⇒ L03 1
+A:U+1 ' ⇒ L04 1
+A:U+1¶' ⇒ L04 1
+A:'¶U+1 ⇒ L03 1
+A:store(¶U+1 ⇒ L04 2
+K:+ 'a' > U+D800 ⇒ L04 3
+K:+ 'a' > U+DFFF ⇒ L04 3
+K:+ 'a' > U+110000 ⇒ L04 3
+K:+ 'a' > U+0 ⇒ L04 3
+K:+ 'a' > U+00E ⇒ L04 3
+K:+ 'a' > U+00000E9 ⇒ L04 3
+K:+ 'a' > U+00E9g ⇒ L04 3
+A:store(U+D800) 'a' ⇒ L04 1
+A:store(U+0041) 'a' ⇒ 1 store U+0041: 61
+K:+ 'a' > u+00e9 U+10FFFF U+FFFE ⇒ 3 + 61 > E9 10FFFF FFFE
+K:+ 'a' > U+D7FF U+E000 ⇒ 3 + 61 > D7FF E000"##;
+
+const LINES: &str = r##"A: ⇒ nothing
+A:¶ ␉¶c¶ C ¶ ⇒ nothing
+A:⌖begin Unicode > use(main)¶ ⇒ 1 Unicode main
+A:⌖store(a) 'x'¶ ⇒ 1 store a: 78
+A:¶⌖store(a) 'x' ⇒ S01 2
+K:+ 'a' > 'b'␍¶+ 'c' > 'd'␍¶ ⇒ 3 + 61 > 62; 4 + 63 > 64
+K:+ 'a' > 'b'␍+ 'c' > 'd'␍ ⇒ 3 + 61 > 62; 4 + 63 > 64
+K:␍) ⇒ S01 4
+K:+ 'a' > \¶'b' c x \¶+ 'c' > 'd' ⇒ 3 + 61 > 62; 5 + 63 > 64
+K:+ 'a' > \ ␉¶␉\¶'b' ⇒ 3 + 61 > 62
+K:+ 'a' > 'b' \¶+ 'c' > 'd' ⇒ S06 3
+K:+ 'a' > 'b' c \¶) ⇒ S01 4
+K:+ 'a' > '\'¶+ 'c' > 'd' ⇒ 3 + 61 > 5C; 4 + 63 > 64
+K:+ 'a' > \ 'b' ⇒ S06 3
+K:+ 'a' > 'b' \ ⇒ 3 + 61 > 62
+K:+ 'a' > 'b' C d > ⇒ 3 + 61 > 62
+K:+ 'a' > 'b'c d ⇒ S06 3
+K:c + 'a' > ⇒ nothing
+K:␉c␉+ 'a' > ⇒ nothing
+K:cx ⇒ S01 3
+K:+ 'a' > ' c ' ⇒ 3 + 61 > 20 63 20
+K:+␉'a'␉>␉'b' ⇒ 3 + 61 > 62
+K:+'a'>'b''c'"d" ⇒ 3 + 61 > 62 63 64
+K:+ 'a' > "'" '"' ⇒ 3 + 61 > 27 22
+K:$keyman:+ 'a' > 'b' ⇒ 3 + 61 > 62
+K: ␉$KeymanOnly: + 'a' > 'b' ⇒ 3 + 61 > 62
+K:$keyman:c x ⇒ S01 3
+K:$keymanweb: )¶$kmfl:)¶ $KMFL: ( \¶) ⇒ nothing
+K:$keymanonly:$keymanweb: x ⇒ S04 3
+K:$keyman: ⇒ nothing
+K:$keymanother: x ⇒ S04 3"##;
+
+const STATEMENTS: &str = r##"A:) ⇒ S01 1
+A:hello ⇒ S01 1
+A:NAME "x" ⇒ S01 1
+K:hello ⇒ S01 3
+K:hello 'x' ⇒ S01 3
+K:[K_A] ⇒ S01 3
+K:(a) ⇒ S01 3
+K:= 'a' ⇒ S01 3
+K:, ⇒ S01 3
+K:!= ⇒ S01 3
+K:D65 ⇒ S01 3
+K:\ 'a' ⇒ S01 3
+A:store ⇒ S01 1
+A:store x ⇒ S01 1
+A:store 'a' ⇒ S01 1
+A:store &name 'x' ⇒ S01 1
+A:begin ⇒ S01 1
+A:begin Unicode ⇒ S01 1
+A:begin Unicode > ⇒ S01 1
+A:begin > use(main) ⇒ S01 1
+A:begin use(main) ⇒ S01 1
+A:begin Unicode > main ⇒ S01 1
+A:begin Unicode > use main ⇒ S01 1
+A:begin Unicode > use(main) x ⇒ S01 1
+A:begin Unicode use(main) x ⇒ S01 1
+A:begin Unicode > use(a(b)c) ⇒ S01 1
+A:begin Unicode x > use(main) ⇒ S01 1
+A:begin Unicode > > use(main) ⇒ S01 1
+A:begin 'Unicode' > use(main) ⇒ S01 1
+A:begin NewContext > use(main) ⇒ S01 1
+A:begin PostKeystroke > use(main) ⇒ S01 1
+A:group ⇒ S01 1
+A:group main ⇒ S01 1
+A:group(main) using ⇒ S01 1
+A:group(main) keys ⇒ S01 1
+A:group(main) 'using' keys ⇒ S01 1
+A:group(main) using keys x ⇒ S01 1
+A:group(main) readonly ⇒ S01 1
+A:group(a(b)c) ⇒ S01 1
+A:group() x ⇒ S01 1
+A:store() ⇒ S02 1
+A:store( ⇒ S02 1
+A:store(a ⇒ S02 1
+A:store(a b) ⇒ S02 1
+A:store(a(b)c) ⇒ S02 1
+A:store('a') ⇒ S02 1
+A:store(&) ⇒ S02 1
+A:store(& name) ⇒ S02 1
+A:begin Unicode > use(&)¶group(&) using keys¶+ 'a' > use(&) ⇒ 1 Unicode &; 2 group & keys; 3 + 61 > use(&)
+A:store(&foo ⇒ S02 1
+A:store(&foo x) ⇒ S12 1
+A:begin Unicode > use() ⇒ S02 1
+A:begin Unicode > use(main ⇒ S02 1
+A:begin Unicode > use(a b) ⇒ S02 1
+A:begin Unicode > use('a') ⇒ S02 1
+A:group() ⇒ S02 1
+A:group(a ⇒ S02 1
+A:group(a using keys ⇒ S02 1
+A:group(a b) using keys ⇒ S02 1
+A:store(¶store( ⇒ S02 1
+A:'' ⇒ S03 1
+A:+ 'a' > 'b' ⇒ S03 1
+A:match ⇒ S03 1
+A:match > 'a' ⇒ S03 1
+A:nomatch x > ⇒ S03 1
+A:begin Unicode > use(main)¶+ 'a' > 'b'¶group(main) using keys ⇒ S03 2
+A:any ⇒ S02 1
+A:8 'a' > 'b' ⇒ L04 1
+A:0 'a' > 'b' ⇒ L02 1
+A:9 ⇒ L04 1
+K:match ⇒ S04 3
+K:nomatch 'x' ⇒ S04 3
+K:match x ⇒ S04 3
+K:+ 'a' ⇒ S04 3
+K:'a' 'b' ⇒ S04 3
+K:U+0041 ⇒ S04 3
+K:d65 ⇒ S04 3
+K:context ⇒ S04 3
+K:beep ⇒ S04 3
+K:call ⇒ S04 3
+K:$x ⇒ S04 3
+K:any ⇒ S02 3
+A:begin Unicode use(main) ⇒ S04 1
+A:begin ANSI use() ⇒ S04 1
+A:begin Unicode use(>) ⇒ S04 1
+K:match x > 'a' ⇒ S05 3
+K:nomatch + 'a' > 'b' ⇒ S05 3
+K:match 'a' > any(s) ⇒ S05 3
+K:match(x) > 'a' ⇒ S05 3
+K:> ⇒ S06 3
+K:match > ⇒ S06 3
+K:match x > ⇒ S06 3
+K:+ 'a' > ⇒ S06 3
+K:any > ⇒ S06 3
+K:nomatch > any(s) ⇒ S06 3
+K:match > 'a' > 'b' ⇒ S06 3
+G:+ 'a' > 'b' ⇒ S07 2
+G:'a' + 'b' > 'c' ⇒ S07 2
+G:'a' + 9 > 'b' ⇒ S07 2
+G:+ + > 'b' ⇒ S07 2
+G:+ 'a' ⇒ S04 2
+G:+ 'a' > ⇒ S06 2
+G:hello + 'a' > 'b' ⇒ S05 2
+G:'a' nul + 'a' > 'b' ⇒ S09 2
+K:'a' > 'b' ⇒ S08 3
+K:> 'b' ⇒ S08 3
+K:any(s) > 'b' ⇒ S08 3
+K:'a' > 'b' + 'c' ⇒ S08 3
+K:$ > 'b' ⇒ S05 3
+K:8 > 'b' ⇒ L04 3
+A:store(&foo) 'x' ⇒ S12 1
+A:store(&platform) 'x' ⇒ S12 1
+A:store(&layer) 'x' ⇒ S12 1
+A:store(&baselayout) 'x' ⇒ S12 1
+A:store(&names) 'x' ⇒ S12 1
+A:store(a) ⇒ 1 store a:
+A:store(\) 'x' ⇒ 1 store \: 78
+A:STORE(A) 'x'¶Begin UNICODE > USE(A)¶begin ansi > use(B)¶GROUP(a) Using Keys ⇒ 1 store A: 78; 2 Unicode A; 3 ANSI B; 4 group a keys
+A:store(&bitmap) 'a'¶store(&Copyright)¶store(&HOTKEY)¶store(&message)¶store(&name)¶store(&version)¶store(&mnemoniclayout) ⇒ 1 store 1: 61; 2 store 2:; 3 store 3:; 4 store 6:; 5 store 7:; 6 store 8:; 7 store 17:
+A:store(&visualkeyboard)¶store(&layoutfile)¶store(&keyboardversion)¶store(&targets) ⇒ 1 store 24:; 2 store 35:; 3 store 36:; 4 store 38:
+A:store(&casedkeys)¶store(&includecodes)¶store(&capsalwaysoff)¶store(&capsononly)¶store(&shiftfreescaps) ⇒ 1 store 65534:; 2 store 65534:; 3 store 65534:; 4 store 65534:; 5 store 65534:
+A:store(&ethnologuecode)¶store(&windowslanguages)¶store(&language)¶store(&layout)¶store(&languagename)¶store(&displaymap) ⇒ 1 store 65535:; 2 store 65535:; 3 store 65535:; 4 store 65535:; 5 store 65535:; 6 store 65535:
+A:store(&kmw_rtl)¶store(&kmw_helpfile)¶store(&kmw_helptext)¶store(&kmw_embedjs)¶store(&kmw_embedcss) ⇒ 1 store 65535:; 2 store 65535:; 3 store 65535:; 4 store 65535:; 5 store 65535:
+A:group(a)¶'x' > 'y'¶group(b)¶'z' > 'w'¶match > beep¶nomatch > nul ⇒ 1 group a; 2 78 > 79; 3 group b; 4 7A > 77; 5 match > beep; 6 nomatch > nul
+A:group(a) using keys¶+ 'x' > 'y'¶group(b)¶+ 'z' > 'w' ⇒ S07 4
+A:group(a)¶'x' > 'y'¶group(b) using keys¶'z' > 'w' ⇒ S08 4
+G:store(s) 'a'¶'b' > 'c' ⇒ 2 store s: 61; 3 62 > 63
+A:group(g) keys ⇒ S01 1
+A:begin > use(g) ⇒ S01 1
+A:begin ANSI use(g) ⇒ S04 1
+K:+>1 ⇒ S05 3
+K:match+>1 ⇒ S05 3
+A:store(s)> ⇒ S06 1
+G:+>1 ⇒ S07 2
+K:>1 ⇒ S08 3
+K:'a'nul+'b'>1 ⇒ S09 3
+K:nul nul+'a'>1 ⇒ S10 3
+K:+[]>1 ⇒ S11 3
+A:store(&a) ⇒ S12 1
+K:8+'a'>1 ⇒ L04 3
+K:+'a'>0 ⇒ L02 3
+G:> 'b' ⇒ 2 > 62"##;
+
+const ITEMS: &str = r##"K:$ + 'a' > 'b' ⇒ S05 3
+K:+ 'a' 9 > 'b' ⇒ S05 3
+K:context + 'a' > 'b' ⇒ S05 3
+K:hello > 'x' ⇒ S05 3
+K:outs(x) + 'a' > any(q) ⇒ S05 3
+K:use(main) + 'a' > 'b' ⇒ S05 3
+K:beep + 'a' > 'b' ⇒ S05 3
+K:[K_A] + 'a' > 'b' ⇒ S05 3
+K:) + 'a' > 'b' ⇒ S05 3
+K:'a', + 'b' > 'c' ⇒ S05 3
+K:+ > 'b' ⇒ S05 3
+K:'a' + > 'b' ⇒ S05 3
+K:+ '' > 'b' ⇒ S05 3
+K:+ 'ab' > any(q) ⇒ S05 3
+K:+ 'a' 'b' > 'c' ⇒ S05 3
+K:+ 'a' + 'b' > 'c' ⇒ S05 3
+K:+ dk(x) > 'c' ⇒ S05 3
+K:+ notany(s) > 'c' ⇒ S05 3
+K:+ index(s, 1) > 'c' ⇒ S05 3
+K:+ nul > 'c' ⇒ S05 3
+K:+ any(s) 'a' > 'c' ⇒ S05 3
+K:+ [K_A] [K_B] > 'c' ⇒ S05 3
+K:+ 'a' > any(q) ⇒ S06 3
+K:+ 'a' > '' ⇒ S06 3
+K:match > '' ⇒ S06 3
+K:+ 'a' > hello ⇒ S06 3
+K:+ 'a' > D65 ⇒ S06 3
+K:+ 'a' > X41 ⇒ S06 3
+K:+ 'a' > xg ⇒ S06 3
+K:+ 'a' > dx ⇒ S06 3
+K:+ 'a' > notany(s) ⇒ S06 3
+K:+ 'a' > if(s = "v") ⇒ S06 3
+K:+ 'a' > platform(x) ⇒ S06 3
+K:+ 'a' > baselayout(x) ⇒ S06 3
+K:+ 'a' > 'b' > 'c' ⇒ S06 3
+K:+ 'a' > 'b' + 'c' ⇒ S06 3
+K:+ 'a' > ) ⇒ S06 3
+K:+ 'a' > clearcontext(x) ⇒ S06 3
+A:store(v) any ⇒ S06 1
+A:store(v) nul ⇒ S06 1
+A:store(v) beep ⇒ S06 1
+A:store(v) context ⇒ S06 1
+A:store(v) index(s, 1) ⇒ S06 1
+A:store(v) call(x) ⇒ S06 1
+A:store(v) > ⇒ S06 1
+A:store(v) hello ⇒ S06 1
+A:store(v) 'a', 'b' ⇒ S06 1
+A:store(v) 'a' .. 'b' ⇒ S06 1
+A:store(v) 'a' U+0041..U+0043 ⇒ L04 1
+K:+ 'a' > 0 ⇒ L02 3
+K:+ 'a' > d0 ⇒ L02 3
+K:+ 'a' > d65535 ⇒ L02 3
+K:+ 'a' > xFFFF ⇒ L02 3
+K:+ 'a' > 177777 ⇒ L02 3
+K:+ 'a' > 8 ⇒ L04 3
+K:+ 'a' > 18 ⇒ L04 3
+K:+ 'a' > 1a ⇒ L04 3
+K:+ 'a' > d1a ⇒ L04 3
+K:+ 'a' > x1g ⇒ L04 3
+K:+ 'a' > d55296 ⇒ L04 3
+K:+ 'a' > xD800 ⇒ L04 3
+K:+ 'a' > x110000 ⇒ L04 3
+K:+ 'a' > d4294967361 ⇒ L04 3
+K:+ 'a' > d99999999999999999999999999 ⇒ L04 3
+A:store(v) 'a' 9 ⇒ L04 1
+K:+ 'a' > index(s, 0000000001) ⇒ L04 3
+K:+ 'a' > index(s, x) ⇒ L04 3
+K:+ 'a' > index(s, 1a) ⇒ L04 3
+K:+ 'a' > index(s, U+0041) ⇒ L04 3
+K:+ 'a' > context(1234567890) ⇒ L04 3
+K:+ 'a' > context(a) ⇒ L04 3
+K:+ 'a' > index(s, '1') ⇒ S02 3
+K:+ 'a' > index(s, >) ⇒ S02 3
+K:+ 'a' > context() ⇒ S02 3
+K:+ 'a' > context(1 ⇒ S02 3
+K:+ 'a' > index(s) ⇒ S02 3
+K:+ 'a' > index(s 1) ⇒ S02 3
+K:+ 'a' > outs(x ⇒ S02 3
+K:+ 'a' > outs x ⇒ S02 3
+K:+ 'a' > outs( c ) ⇒ S02 3
+K:+ 'a' > outs() ⇒ S02 3
+K:+ 'a' > $ ⇒ S02 3
+K:+ 'a' > use('main') ⇒ S02 3
+K:+ 'a' > set(s) ⇒ S02 3
+K:+ 'a' > set(s = v) ⇒ S02 3
+K:+ 'a' > set(s != "v") ⇒ S02 3
+K:+ 'a' > set(s = "v" ⇒ S02 3
+K:+ 'a' > call ⇒ S02 3
+K:+ 'a' > call() ⇒ S02 3
+K:+ 'a' > call()) ⇒ S02 3
+K:+ 'a' > call(a b) ⇒ S02 3
+K:any + 'a' > 'b' ⇒ S02 3
+K:any( + 'a' > 'b' ⇒ S02 3
+K:any() + 'a' > 'b' ⇒ S02 3
+K:if(s) + 'a' > 'b' ⇒ S02 3
+K:if(s = v) + 'a' > 'b' ⇒ S02 3
+K:if(s = "v" + 'a' > 'b' ⇒ S02 3
+K:platform(>) + 'a' > 'b' ⇒ S08 3
+G:platform(>) 'b' ⇒ S02 2
+K:dk('x') + 'a' > 'b' ⇒ S02 3
+K:'a' nul + 'b' > 'c' ⇒ S09 3
+K:any(s) nul + 'b' > 'c' ⇒ S09 3
+K:dk(x) nul + 'b' > 'c' ⇒ S09 3
+K:'a' context(1) nul + 'b' > 'c' ⇒ S09 3
+K:'a' if(s = "v") + 'ab' > 'c' ⇒ S09 3
+K:'a' platform('x') + 'b' > 'c' ⇒ S09 3
+K:'a' layer(x) + 'b' > 'c' ⇒ S09 3
+K:'a' baselayout(x) + 'b' > 'c' ⇒ S09 3
+K:'a' if(&x = "v") + 'b' > 'c' ⇒ S09 3
+K:'a' nul nul + 'b' > 'c' ⇒ S09 3
+K:nul nul + 'a' > 'b' ⇒ S10 3
+K:nul if(s = "v") nul + 'a' > 'b' ⇒ S10 3
+K:+ [] > 'b' ⇒ S11 3
+K:+ [K_A > 'b' ⇒ S11 3
+K:+ [SHIFT] > 'b' ⇒ S11 3
+K:+ [K_A K_B] > 'b' ⇒ S11 3
+K:+ [K_A SHIFT] > 'b' ⇒ S11 3
+K:+ [FOO K_A] > 'b' ⇒ S11 3
+K:+ [K_QQ] > 'b' ⇒ S11 3
+K:+ [T_] > 'b' ⇒ S11 3
+K:+ [U_D800] > 'b' ⇒ S11 3
+K:+ [U_00E] > 'b' ⇒ S11 3
+K:+ ['a'] > 'b' ⇒ S11 3
+K:+ 'a' > [K_A ⇒ S11 3
+A:store(k) [K_A K_B] ⇒ S11 1
+K:'a' "bc" + 'd' > 'e' ⇒ 3 61 62 63 + 64 > 65
+K:+ '' 'a' > 'b' ⇒ 3 + 61 > 62
+K:'' nul + 'a' > 'b' ⇒ 3 nul + 61 > 62
+K:+ 'a' > d233 xE9 xe9 351 ⇒ 3 + 61 > E9 E9 E9 E9
+K:+ d97 > x1F600 ⇒ 3 + 61 > 1F600
+K:dk(x) deadkey(U+0041) + 'a' > DK(x) ⇒ 3 dk(x) dk(U+0041) + 61 > dk(x)
+K:any(s) notany(t) index(s, 1) context(000000001) + any(u) > index(s, 3) context context(2) ⇒ 3 any(s) notany(t) index(s,1) context(1) + any(u) > index(s,3) context context(2)
+K:if(s = "v") if(t != 'ab') nul + 'a' > nul ⇒ 3 if(s=76) if(t!=61 62) nul + 61 > nul
+K:if(s!="v") + 'a' > set(s="") ⇒ 3 if(s!=76) + 61 > set(s=)
+K:+ 'a' > outs(s) $t use(g) set(s = "1") save(s) reset(s) beep return ⇒ 3 + 61 > outs(s) outs(t) use(g) set(s=31) save(s) reset(s) beep return
+K:+ 'a' > call(x) call(() call(')') ⇒ 3 + 61 > call(x) call(() call(')')
+K:+ 'a' > switch(x) clearcontext fix layer('x') set(&x = "v") [K_A] ⇒ 3 + 61 > - - - - - -
+K:platform('x') layer(x) baselayout(x) if(&x = "v") if(&x != "v") nul + 'a' > 'b' ⇒ 3 - - - - - nul + 61 > 62
+K:+ [K_A] > 'b'¶+ [shift ctrl k_b] > 'b'¶+ [T_flip] > 'b'¶+ [CAPS U_0061_0301] > 'b' ⇒ 3 + [4000 65] > 62; 4 + [4030 66] > 62; 5 + [4000 0 T_flip] > 62; 6 + [4100 0 U_0061_0301] > 62
+K:+ [SHIFT SHIFT K_A] > 'b'¶+ [NCAPS RALT LALT RCTRL LCTRL ALT K_oE2] > 'b' ⇒ 3 + [4010 65] > 62; 4 + [424F 226] > 62
+A:store(v) 'a' dk(x) [SHIFT K_A] outs(s) $t U+0042 d67 ⇒ 1 store v: 61 dk(x) [4010 65] outs(s) outs(t) 42 43
+K:match > context context(1) index(s, 1)¶nomatch > use(main) ⇒ 3 match > context context(1) index(s,1); 4 nomatch > use(main)
+K:+ 'a' > 0x41 ⇒ L04 3
+K:+ 'a' > x00000000000000000041 101 xFFFE ⇒ 3 + 61 > 41 41 FFFE
+K:+ 'a' > index(s,) ⇒ S02 3
+K:+ 'a' > dk 1 ⇒ S02 3
+K:+ 'a' > outs(&) $& dk(&) save(&x) use(&x) call(&) ⇒ 3 + 61 > outs(&) outs(&) dk(&) save(&x) use(&x) call(&)
+K:dk(&) notany(&) index(&x, 1) + any(&x) > 'b' ⇒ 3 dk(&) notany(&) index(&x,1) + any(&x) > 62
+K:if(& = "v") + 'a' > 'b' ⇒ S02 3
+K:+ 'a' > set(& = "v") ⇒ S02 3
+K:if(&& = "v") + 'a' > set(&& = "v") ⇒ 3 - + 61 > -
+K:if(s == "v") + 'a' > 'b' ⇒ S02 3
+K:'a' if + 'a' > 'b' ⇒ S09 3
+K:nul 'a' nul + 'a' > 'b' ⇒ S09 3
+K:+ 'a' > nul nul ⇒ 3 + 61 > nul nul
+K:+ 'a' '' > 'b' ⇒ 3 + 61 > 62
+K:any(s) + 'a' > context 'x' context(1) context(999999999) ⇒ 3 any(s) + 61 > context 78 context(1) context(999999999)
+K:platform("mac") if(s = "v") 'a' + 'a' > 'b' ⇒ 3 - if(s=76) 61 + 61 > 62
+K:+ 'a' > call(x:y) ⇒ 3 + 61 > call(x:y)
+K:layer(x) nul + 'a' > 'b' ⇒ 3 - nul + 61 > 62"##;
+
+/// A keyboard of every kind of statement.
+const SAMPLE: &str = r##"c Acute and grave vowels
+store(&version) '10.0'
+store(&name) 'Sample Accents'
+store(&copyright) '(c) Example'
+store(&bitmap) 'sample.ico'
+store(&targets) 'any'
+store(&layoutfile) 'sample.keyman-touch-layout'
+store(&keyboardversion) '1.0'
+begin Unicode > use(main)
+store(plain) 'aeiouAEIOU'
+store(acute) U+00E1 U+00E9 U+00ED U+00F3 U+00FA U+00C1 U+00C9 U+00CD U+00D3 U+00DA
+store(grave) U+00E0 U+00E8 U+00EC U+00F2 U+00F9 U+00C0 U+00C8 U+00CC U+00D2 U+00D9
+store(quotes) "0"
+group(main) using keys
++ "'" > dk(acute)
++ '`' > dk(grave)
+dk(acute) + any(plain) > index(acute, 2)
+dk(grave) + any(plain) > index(grave, 2)
+dk(acute) + "'" > "'"
+any(acute) + [K_BKSP] > index(plain, 1) dk(acute)
++ [T_flip] > use(flip)
+if(quotes = "1") + '"' > U+201C
++ [CTRL ALT K_Q] > set(quotes = "1") save(quotes)
++ '-' > '-'
+match > use(after)
+group(flip)
+any(acute) > index(grave, 1)
+any(grave) > index(acute, 1)
+nomatch > beep
+group(after)
+'--' > U+2013
+"##;
+
+/// What the sample states but for its stores.
+const SAMPLE_RULES: &str = "9 Unicode main; \
+    14 group main keys; \
+    15 + 27 > dk(acute); \
+    16 + 60 > dk(grave); \
+    17 dk(acute) + any(plain) > index(acute,2); \
+    18 dk(grave) + any(plain) > index(grave,2); \
+    19 dk(acute) + 27 > 27; \
+    20 any(acute) + [4000 8] > index(plain,1) dk(acute); \
+    21 + [4000 0 T_flip] > use(flip); \
+    22 if(quotes=31) + 22 > 201C; \
+    23 + [4060 81] > set(quotes=31) save(quotes); \
+    24 + 2D > 2D; \
+    25 match > use(after); \
+    26 group flip; \
+    27 any(acute) > index(grave,1); \
+    28 any(grave) > index(acute,1); \
+    29 nomatch > beep; \
+    30 group after; \
+    31 2D 2D > 2013";
+
+/// A character of a row's text.
+fn character(c: char) -> char {
+    match c {
+        '¶' => '\n',
+        '␍' => '\r',
+        '␉' => '\t',
+        '␀' => '\0',
+        '␡' => '\u{FFFF}',
+        '⌖' => '\u{FEFF}',
+        other => other,
+    }
+}
+
+/// What opens a row's source, and how many lines it has.
+fn opening(word: &str) -> (&'static str, u32) {
+    match word {
+        "K" => (KEYBOARD, 2),
+        "G" => (WITHOUT_KEYS, 1),
+        _ => ("", 0),
+    }
+}
+
+fn name(bytes: &Seq<u8>) -> &str {
+    str::from_utf8(bytes.as_slice()).unwrap_or("?")
+}
+
+fn write_number(out: &mut String, number: u32) -> Result<(), AllocError> {
+    write!(out, "{number}")
+}
+
+fn write_hex(out: &mut String, number: u32) -> Result<(), AllocError> {
+    write!(out, "{number:X}")
+}
+
+/// Writes what begins a statement: its line and a blank.
+fn write_line(out: &mut String, line: u32) -> Result<(), AllocError> {
+    out.push_str("; ")?;
+    write_number(out, line)?;
+    out.push(' ')
+}
+
+fn write_chars(out: &mut String, chars: &Seq<char>) -> Result<(), AllocError> {
+    let mut parting = "";
+    for c in chars.as_slice() {
+        out.push_str(parting)?;
+        write_hex(out, *c as u32)?;
+        parting = " ";
+    }
+    Ok(())
+}
+
+fn write_key(out: &mut String, key: &KeyName) -> Result<(), AllocError> {
+    out.push('[')?;
+    write_hex(out, u32::from(key.flags))?;
+    out.push(' ')?;
+    write_number(out, u32::from(key.code))?;
+    if key.code == 0 {
+        out.push(' ')?;
+        out.push_str(name(&key.name))?;
+    }
+    out.push(']')
+}
+
+fn write_value(
+    out: &mut String,
+    word: &str,
+    store: &Seq<u8>,
+    sign: &str,
+    value: &Seq<char>,
+) -> Result<(), AllocError> {
+    out.push_str(word)?;
+    out.push_str(name(store))?;
+    out.push_str(sign)?;
+    write_chars(out, value)?;
+    out.push(')')
+}
+
+fn write_index(out: &mut String, store: &Seq<u8>, offset: u32) -> Result<(), AllocError> {
+    out.push_str("index(")?;
+    out.push_str(name(store))?;
+    out.push(',')?;
+    write_number(out, offset)?;
+    out.push(')')
+}
+
+fn write_context(out: &mut String, offset: u32) -> Result<(), AllocError> {
+    out.push_str("context(")?;
+    write_number(out, offset)?;
+    out.push(')')
+}
+
+/// Writes an item that has a number or a value.
+fn write_item(out: &mut String, item: &SrcItem) -> Result<(), AllocError> {
+    match item {
+        SrcItem::Char(c) => write_hex(out, *c as u32),
+        SrcItem::Key(key) => write_key(out, key),
+        SrcItem::Index(store, offset) => write_index(out, store, *offset),
+        SrcItem::ContextAt(offset) => write_context(out, *offset),
+        SrcItem::Equal(store, value) => write_value(out, "if(", store, "=", value),
+        SrcItem::Unequal(store, value) => write_value(out, "if(", store, "!=", value),
+        SrcItem::Set(store, value) => write_value(out, "set(", store, "=", value),
+        other => write_named(out, other),
+    }
+}
+
+fn write_call(out: &mut String, word: &str, argument: &Seq<u8>) -> Result<(), AllocError> {
+    out.push_str(word)?;
+    out.push('(')?;
+    out.push_str(name(argument))?;
+    out.push(')')
+}
+
+/// Writes an item that has at most a name.
+fn write_named(out: &mut String, item: &SrcItem) -> Result<(), AllocError> {
+    match item {
+        SrcItem::Dead(mark) => write_call(out, "dk", mark),
+        SrcItem::Any(store) => write_call(out, "any", store),
+        SrcItem::NotAny(store) => write_call(out, "notany", store),
+        SrcItem::Outs(store) => write_call(out, "outs", store),
+        SrcItem::Enter(group) => write_call(out, "use", group),
+        SrcItem::Save(store) => write_call(out, "save", store),
+        SrcItem::Reset(store) => write_call(out, "reset", store),
+        SrcItem::Call(library) => write_call(out, "call", library),
+        other => out.push_str(word_of(other)),
+    }
+}
+
+/// The word of an item without a name.
+fn word_of(item: &SrcItem) -> &'static str {
+    match item {
+        SrcItem::Context => "context",
+        SrcItem::Nul => "nul",
+        SrcItem::Beep => "beep",
+        SrcItem::Stop => "return",
+        _ => "-",
+    }
+}
+
+fn write_items(out: &mut String, items: &Seq<SrcItem>) -> Result<(), AllocError> {
+    for item in items.as_slice() {
+        out.push(' ')?;
+        write_item(out, item)?;
+    }
+    Ok(())
+}
+
+fn write_store(out: &mut String, store: &StoreDef) -> Result<(), AllocError> {
+    write_line(out, store.line)?;
+    out.push_str("store ")?;
+    if store.system == 0 {
+        out.push_str(name(&store.name))?;
+    } else {
+        write_number(out, store.system)?;
+    }
+    out.push(':')?;
+    write_items(out, &store.items)
+}
+
+fn write_rule(out: &mut String, rule: &RuleDef) -> Result<(), AllocError> {
+    out.push_str("; ")?;
+    write_number(out, rule.line)?;
+    match rule.kind {
+        RuleKind::Plain => write_items(out, &rule.context)?,
+        RuleKind::OnMatch => out.push_str(" match")?,
+        RuleKind::OnNoMatch => out.push_str(" nomatch")?,
+    }
+    if let Some(key) = &rule.key {
+        out.push_str(" + ")?;
+        write_item(out, key)?;
+    }
+    out.push_str(" >")?;
+    write_items(out, &rule.output)
+}
+
+/// Writes a group with its rules, but its own line only behind the opening.
+fn write_group(out: &mut String, opened: u32, group: &GroupDef) -> Result<(), AllocError> {
+    if opened < group.line {
+        write_line(out, group.line)?;
+        out.push_str("group ")?;
+        out.push_str(name(&group.name))?;
+        out.push_str(if group.using_keys { " keys" } else { "" })?;
+    }
+    for rule in group.rules.as_slice() {
+        write_rule(out, rule)?;
+    }
+    Ok(())
+}
+
+fn write_begin(out: &mut String, begin: &BeginDef) -> Result<(), AllocError> {
+    write_line(out, begin.line)?;
+    out.push_str(if begin.unicode { "Unicode " } else { "ANSI " })?;
+    out.push_str(name(&begin.group))
+}
+
+/// Writes the begin statements and groups behind so many lines.
+fn write_groups(out: &mut String, opened: u32, program: &Program) -> Result<(), AllocError> {
+    for begin in program.begins.as_slice() {
+        if opened < begin.line {
+            write_begin(out, begin)?;
+        }
+    }
+    for group in program.groups.as_slice() {
+        write_group(out, opened, group)?;
+    }
+    Ok(())
+}
+
+/// Writes what a program states behind so many lines.
+fn write_program(out: &mut String, opened: u32, program: &Program) -> Result<(), AllocError> {
+    for store in program.stores.as_slice() {
+        write_store(out, store)?;
+    }
+    write_groups(out, opened, program)
+}
+
+fn write_error(out: &mut String, error: &CompileError) -> Result<(), AllocError> {
+    match error {
+        CompileError::Refused(refusal) => {
+            write!(out, "{} ", refusal.code)?;
+            write_number(out, refusal.line)
+        }
+        _ => out.push_str("another error"),
+    }
+}
+
+/// What the parser answers of a source, behind its opening.
+fn answer(alloc: Global, opened: u32, source: &[u8]) -> Result<String, Fail> {
+    let mut out = String::new(alloc);
+    match parse(alloc, source) {
+        Ok(program) => write_program(&mut out, opened, &program)?,
+        Err(error) => {
+            out.push_str("; ")?;
+            write_error(&mut out, &error)?;
+        }
+    }
+    Ok(out)
+}
+
+/// The source of a row, and how many lines its opening has.
+fn source_of(alloc: Global, row: &str) -> Result<(String, u32), Fail> {
+    let (word, text) = row.split_once(':').ok_or("a row without an opening")?;
+    let (lines, opened) = opening(word);
+    let mut source = String::new(alloc);
+    source.push_str(lines)?;
+    for c in text.chars() {
+        source.push(character(c))?;
+    }
+    Ok((source, opened))
+}
+
+/// Whether the parser answers as a row of a table says.
+fn is_answered(alloc: Global, row: &str) -> Result<bool, Fail> {
+    let (text, wanted) = row.split_once(" ⇒ ").ok_or("a row without an answer")?;
+    let (source, opened) = source_of(alloc, text)?;
+    let given = answer(alloc, opened, source.as_bytes())?;
+    Ok(given.as_str().strip_prefix("; ").unwrap_or("nothing") == wanted)
+}
+
+/// Whether the sample has its stores and rules.
+fn has_parsed_sample(alloc: Global) -> Result<bool, Fail> {
+    let program = parse(alloc, SAMPLE.as_bytes())?;
+    let mut rules = String::new(alloc);
+    write_groups(&mut rules, 0, &program)?;
+    Ok(program.stores.len() == 11 && rules.as_str().strip_prefix("; ") == Some(SAMPLE_RULES))
+}
+
+/// A name of so many of one character between two texts, and how many stores are stated or the refusal.
+type LimitRow = (&'static str, char, u32, &'static str, &'static str);
+
+const LIMITS: [LimitRow; 22] = [
+    ("store(", 'a', 80, ")", "1"),
+    ("store(", 'a', 81, ")", "S02 2"),
+    ("store(", 'é', 80, ")", "1"),
+    ("store(", 'é', 81, ")", "S02 2"),
+    ("store(&", 'a', 80, ")", "S12 2"),
+    ("store(&", 'a', 81, ")", "S02 2"),
+    ("group(&", 'a', 79, ")", "0"),
+    ("group(&", 'a', 80, ")", "S02 2"),
+    ("begin ANSI > use(&", 'a', 79, ")", "0"),
+    ("begin ANSI > use(&", 'a', 80, ")", "S02 2"),
+    ("> save(&", 'a', 79, ")", "0"),
+    ("> save(&", 'a', 80, ")", "S02 2"),
+    ("> $&", 'a', 79, "", "0"),
+    ("> $&", 'a', 80, "", "S02 2"),
+    ("> set(&", 'a', 80, " = '')", "0"),
+    ("> set(&", 'a', 81, " = '')", "S02 2"),
+    ("if(&", 'a', 80, " = '') > 'b'", "0"),
+    ("if(&", 'a', 81, " = '') > 'b'", "S02 2"),
+    ("> $", 'a', 80, "", "0"),
+    ("> $", 'a', 81, "", "S02 2"),
+    ("store(k) [T_", 'a', 78, "]", "1"),
+    ("store(k) [T_", 'a', 79, "]", "S11 2"),
+];
+
+/// Whether the parser answers as a row says of a source that has the row's name.
+fn is_limited(alloc: Global, row: LimitRow) -> Result<bool, Fail> {
+    let (before, c, count, after, wanted) = row;
+    let mut source = String::new(alloc);
+    source.push_str(WITHOUT_KEYS)?;
+    source.push_str(before)?;
+    for _ in 0..count {
+        source.push(c)?;
+    }
+    source.push_str(after)?;
+    let mut out = String::new(alloc);
+    match parse(alloc, source.as_bytes()) {
+        Ok(program) => write!(out, "{}", program.stores.len())?,
+        Err(error) => write_error(&mut out, &error)?,
+    }
+    Ok(out.as_str() == wanted)
+}
+
+/// Whether bytes are refused in their first line by this code.
+fn is_refused(alloc: Global, source: &[u8], code: Code) -> bool {
+    match parse(alloc, source) {
+        Err(CompileError::Refused(refusal)) => refusal == Refusal { line: 1, code },
+        _ => false,
+    }
+}
+
+#[test]
+fn worked_rows(rt: HostRuntime) -> Result<(), Fail> {
+    for table in [TOKENS, LINES, STATEMENTS, ITEMS] {
+        for row in table.lines() {
+            assert!(rt; is_answered(rt.alloc(), row)?, "{row}");
+        }
+    }
+    assert!(rt; has_parsed_sample(rt.alloc())?);
+    Ok(())
+}
+
+#[test]
+fn limits(rt: HostRuntime) -> Result<(), Fail> {
+    for row in LIMITS {
+        assert!(rt; is_limited(rt.alloc(), row)?, "{} {}", row.0, row.2);
+    }
+    assert!(rt; is_refused(rt.alloc(), &[b'\n', 0xFF, b'\''], Code::L01));
+    let long = vec![in rt.alloc(); 0xFFu8; 4_194_305]?;
+    assert!(rt; is_refused(rt.alloc(), &long, Code::L05));
+    Ok(())
+}
