@@ -1,0 +1,63 @@
+-- Records that stand one after the other, by number; units that are read again.
+use Rattle.std.proofs.Common.{◌≡◌, ℕ, zero, suc, ◌+◌, ◌*◌, ◌<◌, ◌≤◌, Bool, List, [], ◌∷◌, length, refl, sym, ap, ◌∙◌, append-nil, arith}
+use Rattle.std.specs.Prelude.{Some, None, slice_get}
+use Rattle.std.proofs.lemmas.Option.{slice_get_past}
+use Rattle.kmn_base.specs.Spelling.{unit_bytes, whole_units}
+use Rattle.kmn_base.proofs.UnitBytes.{whole_units-unit_bytes}
+use Rattle.kmx_format.specs.TablesOf.{store_at, stores_from, rule_at, rules_from, group_at, groups_from}
+
+-- the units of the bytes of units
+pub units_again : (units : List ℕ) → whole_units (unit_bytes units) ≡ units
+units_again units = ap whole_units (sym (append-nil (unit_bytes units))) ∙ whole_units-unit_bytes units [] ∙ append-nil units
+
+-- records of one size that stand one after the other
+module _ {X : Type 0} (record_at : ℕ → X) (size : ℕ) (records_from : ℕ → ℕ → List X)
+    (none : (place : ℕ) → records_from place zero ≡ [])
+    (more : (place count : ℕ) → records_from place (suc count) ≡ record_at place ∷ records_from (place + size) count) where
+  record_count : (place count : ℕ) → count ≡ length (records_from place count)
+  record_count place zero = sym (ap length (none place))
+  record_count place (suc count) = ap suc (record_count (place + size) count) ∙ sym (ap length (more place count))
+
+  record_there : (place count i : ℕ) → i < count → Some (record_at (place + size * i)) ≡ slice_get (records_from place count) i
+  record_there place zero i below = absurd (omega arith)
+  record_there place (suc count) zero below =
+      let here : place + size * zero ≡ place = omega arith in
+      ap (λ p. Some (record_at p)) here ∙ sym (ap (λ (xs : List X). slice_get xs zero) (more place count))
+  record_there place (suc count) (suc i) below =
+      let behind : place + size * suc i ≡ place + size + size * i = omega arith in
+      ap (λ p. Some (record_at p)) behind ∙ record_there (place + size) count i (omega arith)
+      ∙ sym (ap (λ (xs : List X). slice_get xs (suc i)) (more place count))
+
+  record_past : (place count i : ℕ) → count ≤ i → None ≡ slice_get (records_from place count) i
+  record_past place count i past = sym (slice_get_past (records_from place count) i (omega (arith, record_count place count)))
+
+-- so many stores are there, each at its place, and no other
+pub store_count : (bytes : List ℕ) (place count : ℕ) → count ≡ length (stores_from bytes place count)
+store_count bytes = record_count (store_at bytes) 12 (stores_from bytes) (λ _. refl) (λ _ _. refl)
+
+pub store_there : (bytes : List ℕ) (place count i : ℕ) → i < count → Some (store_at bytes (place + 12 * i)) ≡ slice_get (stores_from bytes place count) i
+store_there bytes = record_there (store_at bytes) 12 (stores_from bytes) (λ _. refl) (λ _ _. refl)
+
+pub store_past : (bytes : List ℕ) (place count i : ℕ) → count ≤ i → None ≡ slice_get (stores_from bytes place count) i
+store_past bytes = record_past (store_at bytes) 12 (stores_from bytes) (λ _. refl) (λ _ _. refl)
+
+-- the same of groups
+pub group_count : (bytes : List ℕ) (place count : ℕ) → count ≡ length (groups_from bytes place count)
+group_count bytes = record_count (group_at bytes) 24 (groups_from bytes) (λ _. refl) (λ _ _. refl)
+
+pub group_there : (bytes : List ℕ) (place count i : ℕ) → i < count → Some (group_at bytes (place + 24 * i)) ≡ slice_get (groups_from bytes place count) i
+group_there bytes = record_there (group_at bytes) 24 (groups_from bytes) (λ _. refl) (λ _ _. refl)
+
+pub group_past : (bytes : List ℕ) (place count i : ℕ) → count ≤ i → None ≡ slice_get (groups_from bytes place count) i
+group_past bytes = record_past (group_at bytes) 24 (groups_from bytes) (λ _. refl) (λ _ _. refl)
+
+-- the same of the key records of a group
+pub rule_count : (bytes : List ℕ) (using_keys : Bool) (place count : ℕ) → count ≡ length (rules_from bytes using_keys place count)
+rule_count bytes using_keys = record_count (rule_at bytes using_keys) 20 (rules_from bytes using_keys) (λ _. refl) (λ _ _. refl)
+
+pub rule_there : (bytes : List ℕ) (using_keys : Bool) (place count i : ℕ) → i < count
+    → Some (rule_at bytes using_keys (place + 20 * i)) ≡ slice_get (rules_from bytes using_keys place count) i
+rule_there bytes using_keys = record_there (rule_at bytes using_keys) 20 (rules_from bytes using_keys) (λ _. refl) (λ _ _. refl)
+
+pub rule_past : (bytes : List ℕ) (using_keys : Bool) (place count i : ℕ) → count ≤ i → None ≡ slice_get (rules_from bytes using_keys place count) i
+rule_past bytes using_keys = record_past (rule_at bytes using_keys) 20 (rules_from bytes using_keys) (λ _. refl) (λ _ _. refl)

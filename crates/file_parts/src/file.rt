@@ -1,0 +1,111 @@
+//! The tables of a file as a whole.
+
+ghost use Rattle.std.specs.Prelude.{◌≡◌, ◌≤◌, length, slice_get};
+ghost use Rattle.kmn_base.specs.declared.limits.TheConstants.{FILE_BYTES};
+ghost use Rattle.kmx_format.specs.TablesOf.{tables_of};
+
+use crate::groups::FileGroup;
+use crate::stores::FileStore;
+use kmx_format::sizes::{GROUP_BYTES, STORE_BYTES};
+use kmx_view::{half_at, word_at};
+use std::marker::Model;
+
+/// The tables of a file, read where they lie. Contracts see them as the tables that the bytes have.
+#[derive(Drop)]
+pub struct FileTables<'a> {
+    bytes: &'a [u8],
+}
+
+impl<'a> Model for FileTables<'a> {
+    ghost use Rattle.std.specs.Prelude.{◌≤◌, length};
+    ghost use Rattle.kmn_base.specs.declared.limits.TheConstants.{FILE_BYTES};
+    ghost use Rattle.rule_model.specs.declared.tables.Tables.{Tables};
+    ghost use Rattle.kmx_format.specs.TablesOf.{tables_of};
+
+    ghost Value = { Tables };
+
+    ghost view = { λ file. tables_of file.bytes.now };
+
+    ghost invariant = { λ file. length file.bytes.now ≤ FILE_BYTES };
+}
+
+impl<'a> FileTables<'a> {
+    /// The tables that bytes have.
+    pub fn of(bytes: &'a [u8]) -> FileTables<'a>
+        requires { length bytes.now ≤ FILE_BYTES }
+        ensures { result ≡ tables_of bytes.now }
+    {
+        FileTables { bytes }
+    }
+
+    /// The same tables once more.
+    pub fn copy(&self) -> FileTables<'a>
+        ensures { result ≡ self.now }
+    {
+        FileTables { bytes: self.bytes }
+    }
+
+    /// The version of the file's format.
+    #[tactic(auto, unfolding(kmx_format::specs::TablesOf::tables_of))]
+    pub fn version(&self) -> u16
+        ensures { result ≡ self.now.version }
+    {
+        half_at(self.bytes, 4)
+    }
+
+    /// The group in which a press begins.
+    #[tactic(auto, unfolding(kmx_format::specs::TablesOf::tables_of))]
+    pub fn start_unicode(&self) -> u32
+        ensures { result ≡ self.now.start_unicode }
+    {
+        word_at(self.bytes, 44)
+    }
+
+    /// The group in which a press begins where a system knows no Unicode; `0xFFFF_FFFF` is none.
+    #[tactic(auto, unfolding(kmx_format::specs::TablesOf::tables_of))]
+    pub fn start_ansi(&self) -> u32
+        ensures { result ≡ self.now.start_ansi }
+    {
+        word_at(self.bytes, 40)
+    }
+
+    /// How many stores there are.
+    #[tactic(auto, using(crate::proofs::Reading::store_count), unfolding(kmx_format::specs::TablesOf::tables_of))]
+    pub fn store_count(&self) -> u32
+        ensures { result ≡ length self.now.stores }
+    {
+        word_at(self.bytes, 24)
+    }
+
+    /// How many groups there are.
+    #[tactic(auto, using(crate::proofs::Reading::group_count), unfolding(kmx_format::specs::TablesOf::tables_of))]
+    pub fn group_count(&self) -> u32
+        ensures { result ≡ length self.now.groups }
+    {
+        word_at(self.bytes, 28)
+    }
+
+    /// The store of a number, from 0.
+    #[tactic(auto, using(crate::proofs::Reading::store_there, crate::proofs::Reading::store_past), unfolding(kmx_format::specs::TablesOf::tables_of))]
+    pub fn store(&self, i: u32) -> Option<FileStore<'a>>
+        ensures { result ≡ slice_get self.now.stores i }
+    {
+        if i >= word_at(self.bytes, 24) {
+            return None;
+        }
+        let place = word_at(self.bytes, 32) as usize + STORE_BYTES * i as usize;
+        Some(FileStore::at(self.bytes, place))
+    }
+
+    /// The group of a number, from 0.
+    #[tactic(auto, using(crate::proofs::Reading::group_there, crate::proofs::Reading::group_past), unfolding(kmx_format::specs::TablesOf::tables_of))]
+    pub fn group(&self, i: u32) -> Option<FileGroup<'a>>
+        ensures { result ≡ slice_get self.now.groups i }
+    {
+        if i >= word_at(self.bytes, 28) {
+            return None;
+        }
+        let place = word_at(self.bytes, 36) as usize + GROUP_BYTES * i as usize;
+        Some(FileGroup::at(self.bytes, place))
+    }
+}

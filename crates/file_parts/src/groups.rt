@@ -1,0 +1,96 @@
+//! The groups of a file.
+
+ghost use Rattle.std.specs.Prelude.{◌≡◌, ◌<◌, ◌≤◌, ◌^◌, length, slice_get, IfOk};
+ghost use Rattle.kmn_base.specs.declared.limits.TheConstants.{FILE_BYTES};
+ghost use Rattle.kmx_format.specs.TablesOf.{group_at};
+
+use crate::names::name_at;
+use crate::records::FileRule;
+use crate::walks::Outputs;
+use kmn_base::{Memory, Text};
+use kmx_format::sizes::RULE_BYTES;
+use kmx_view::word_at;
+use std::alloc::Global;
+use std::marker::Model;
+
+/// A group of a file, read where its record stands.
+#[derive(Drop)]
+pub struct FileGroup<'a> {
+    bytes: &'a [u8],
+    place: usize,
+}
+
+impl<'a> Model for FileGroup<'a> {
+    ghost use Rattle.std.specs.Prelude.{◌<◌, ◌≤◌, ◌^◌, length};
+    ghost use Rattle.kmn_base.specs.declared.limits.TheConstants.{FILE_BYTES};
+    ghost use Rattle.rule_model.specs.declared.tables.Group.{Group};
+    ghost use Rattle.kmx_format.specs.TablesOf.{group_at};
+
+    ghost Value = { Group };
+
+    ghost view = { λ group. group_at group.bytes.now group.place };
+
+    ghost invariant = { λ group. (length group.bytes.now ≤ FILE_BYTES) × (group.place < 2 ^ 62) };
+}
+
+impl<'a> FileGroup<'a> {
+    /// The group whose record stands at a place.
+    pub(crate) fn at(bytes: &'a [u8], place: usize) -> FileGroup<'a>
+        requires fits { length bytes.now ≤ FILE_BYTES }
+        requires place { place < 2 ^ 62 }
+        ensures { result ≡ group_at bytes.now place }
+    {
+        FileGroup { bytes, place }
+    }
+
+    /// The name, in UTF-8.
+    pub fn name(&self, alloc: Global) -> Result<Text, Memory>
+        ensures { IfOk result (λ name. name ≡ self.now.name) }
+    {
+        name_at(alloc, self.bytes, word_at(self.bytes, self.place))
+    }
+
+    /// Whether its rules have keys.
+    pub fn using_keys(&self) -> bool
+        ensures { result ≡ self.now.using_keys }
+    {
+        word_at(self.bytes, self.place + 20) != 0
+    }
+
+    /// How many key records it has.
+    #[tactic(auto, using(crate::proofs::Reading::rule_count))]
+    pub fn rule_count(&self) -> u32
+        ensures { result ≡ length self.now.rules }
+    {
+        word_at(self.bytes, self.place + 16)
+    }
+
+    /// The key record of a number, from 0.
+    #[tactic(auto, using(crate::proofs::Reading::rule_there, crate::proofs::Reading::rule_past))]
+    pub fn rule(&self, i: u32) -> Option<FileRule<'a>>
+        ensures { result ≡ slice_get self.now.rules i }
+    {
+        if i >= word_at(self.bytes, self.place + 16) {
+            return None;
+        }
+        let using_keys = word_at(self.bytes, self.place + 20) != 0;
+        let place = word_at(self.bytes, self.place + 4) as usize + RULE_BYTES * i as usize;
+        Some(FileRule::at(self.bytes, using_keys, place))
+    }
+
+    /// What is put behind a rule that matched, empty where there is nothing.
+    pub fn on_match(&self) -> Outputs<'a>
+        ensures value { result ≡ self.now.on_match }
+        ensures few { length result ≤ FILE_BYTES }
+    {
+        Outputs::at(self.bytes, word_at(self.bytes, self.place + 8))
+    }
+
+    /// What is put where no rule matched, empty where there is nothing.
+    pub fn on_nomatch(&self) -> Outputs<'a>
+        ensures value { result ≡ self.now.on_nomatch }
+        ensures few { length result ≤ FILE_BYTES }
+    {
+        Outputs::at(self.bytes, word_at(self.bytes, self.place + 12))
+    }
+}

@@ -1,0 +1,25 @@
+//! The tables of a compiled file, read where they lie: each part is found by its place in the bytes, and a string is
+//! walked item by item. Nothing is copied, and only a name takes memory.
+//!
+//! It stands on `kmx_format`, whose `tables_of` says which tables bytes have, on `kmx_view`, which reads numbers and
+//! strings, and on `item_codec`, which walks the items of a string. The layer above makes `FileTables` of bytes, which
+//! contracts see as their tables, and asks them for stores, groups and key records: each is the one that the tables have
+//! there. What a string spells comes as an iterator, which contracts see as the list of what is left.
+#![tactic(auto)]
+
+mod file;
+mod groups;
+mod kinds;
+mod names;
+mod records;
+mod stores;
+#[cfg(test)]
+mod tests;
+mod walks;
+
+pub use file::FileTables;
+pub use groups::FileGroup;
+pub use kinds::Part;
+pub use records::FileRule;
+pub use stores::FileStore;
+pub use walks::{Elements, Outputs, Parts, Patterns};

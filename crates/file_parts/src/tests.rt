@@ -1,0 +1,94 @@
+use crate::{FileGroup, FileStore, FileTables};
+use kmn_base::{Element, Memory, RuleKey};
+use rule_model::Out;
+use std::alloc::Global;
+use std::test::Fail;
+
+/// The file of one rule, `+ 'a' > 'b'` in line 3, in a group `main` that uses keys.
+const ONE_RULE: [u8; 122] = [
+    0x4B, 0x58, 0x54, 0x53, 0x00, 0x0A, 0x00, 0x00, 0, 0, 0, 0, 0, 0, 0, 0, 0, 0, 0, 0, 0, 0, 0, 0,
+    0, 0, 0, 0, 1, 0, 0, 0, 0, 0, 0, 0, 0x40, 0, 0, 0, 0xFF, 0xFF, 0xFF, 0xFF, 0, 0, 0, 0, 0, 0, 0,
+    0, 0, 0, 0, 0, 0, 0, 0, 0, 0, 0, 0, 0, 0x6C, 0, 0, 0, 0x58, 0, 0, 0, 0, 0, 0, 0, 0, 0, 0, 0, 1,
+    0, 0, 0, 1, 0, 0, 0, 0x61, 0, 0, 0, 3, 0, 0, 0, 0, 0, 0, 0, 0x76, 0, 0, 0, 0, 0, 0, 0, 0x6D, 0,
+    0x61, 0, 0x69, 0, 0x6E, 0, 0, 0, 0x62, 0, 0, 0,
+];
+
+/// The bytes of one store `v` of the system id 9, whose string has an `a`, a `nul`, the first deadkey, a code that no
+/// item has, and a `b`.
+const ONE_STORE: [u8; 100] = [
+    0x4B, 0x58, 0x54, 0x53, 0x00, 0x0A, 0x00, 0x00, 0, 0, 0, 0, 0, 0, 0, 0, 0, 0, 0, 0, 0, 0, 0, 0,
+    1, 0, 0, 0, 0, 0, 0, 0, 0x40, 0, 0, 0, 0, 0, 0, 0, 0, 0, 0, 0, 0, 0, 0, 0, 0, 0, 0, 0, 0, 0, 0,
+    0, 0, 0, 0, 0, 0, 0, 0, 0, 9, 0, 0, 0, 0x4C, 0, 0, 0, 0x50, 0, 0, 0, 0x76, 0, 0, 0, 0x61, 0,
+    0xFF, 0xFF, 4, 0, 0xFF, 0xFF, 8, 0, 1, 0, 0xFF, 0xFF, 9, 0, 0x62, 0, 0, 0,
+];
+
+/// Whether the file has the numbers and counts of the one rule.
+fn has_numbers(file: &FileTables<'_>) -> bool {
+    file.version() == 0x0A00
+        && file.start_unicode() == 0
+        && file.start_ansi() == 0xFFFF_FFFF
+        && file.store_count() == 0
+        && file.group_count() == 1
+        && file.store(0).is_none()
+        && file.group(1).is_none()
+}
+
+/// Whether the group has the one rule, and puts nothing else.
+fn has_rule(group: &FileGroup<'_>) -> bool {
+    let Some(rule) = group.rule(0) else {
+        return false;
+    };
+    let mut output = rule.output();
+    rule.key() == RuleKey::Char(0x61)
+        && rule.line() == 3
+        && rule.context().next().is_none()
+        && output.next() == Some(Out::Char('b'))
+        && output.next().is_none()
+        && group.using_keys()
+        && group.rule_count() == 1
+        && group.rule(1).is_none()
+        && group.on_match().next().is_none()
+        && group.on_nomatch().next().is_none()
+}
+
+/// Whether the store has what may stand in one before the first place at which no item stands.
+fn has_elements(store: &FileStore<'_>) -> bool {
+    let mut elements = store.elements();
+    store.system() == 9
+        && elements.next() == Some(Element::Char('a'))
+        && elements.next() == Some(Element::Mark(1))
+        && elements.next().is_none()
+        && elements.next().is_none()
+}
+
+/// Whether the first group is called `main` and has the one rule.
+fn has_group(alloc: Global, file: &FileTables<'_>) -> Result<bool, Memory> {
+    let Some(group) = file.group(0) else {
+        return Ok(false);
+    };
+    let name = group.name(alloc)?;
+    Ok(name.as_slice() == b"main".as_slice() && has_rule(&group))
+}
+
+/// Whether the first store is called `v` and has the elements.
+fn has_store(alloc: Global, file: &FileTables<'_>) -> Result<bool, Memory> {
+    let Some(store) = file.store(0) else {
+        return Ok(false);
+    };
+    let name = store.name(alloc)?;
+    Ok(name.as_slice() == b"v".as_slice() && has_elements(&store))
+}
+
+#[test]
+fn parts_of_one_rule(rt: HostRuntime) -> Result<(), Fail> {
+    let file = FileTables::of(&ONE_RULE);
+    assert!(rt; has_numbers(&file.copy()));
+    assert!(rt; has_group(rt.alloc(), &file)?);
+    Ok(())
+}
+
+#[test]
+fn parts_of_one_store(rt: HostRuntime) -> Result<(), Fail> {
+    assert!(rt; has_store(rt.alloc(), &FileTables::of(&ONE_STORE))?);
+    Ok(())
+}

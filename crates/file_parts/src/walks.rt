@@ -1,0 +1,77 @@
+//! The strings of a file, part by part.
+
+ghost use Rattle.std.specs.Prelude.{◌≡◌, ◌≤◌, length};
+ghost use Rattle.std.specs.List.{filter_map};
+ghost use Rattle.kmn_base.specs.declared.limits.TheConstants.{FILE_BYTES};
+ghost use Rattle.kmx_format.specs.TablesOf.{string_at, items_of};
+
+use crate::kinds::Part;
+use item_codec::{Items, items_of};
+use kmn_base::Element;
+use kmx_view::string_bytes;
+use rule_model::{Out, Pat};
+use std::marker::{Model, PhantomData};
+
+/// The parts that a string spells, read in place up to the first place at which no item stands, without those that may
+/// not stand there. Contracts see it as the list of what is left.
+#[derive(Drop)]
+pub struct Parts<'a, T: Part> {
+    items: Items<'a>,
+    kind: PhantomData<T>,
+}
+
+/// The elements of a store.
+pub type Elements<'a> = Parts<'a, Element>;
+/// The items of a context.
+pub type Patterns<'a> = Parts<'a, Pat>;
+/// The items of an output.
+pub type Outputs<'a> = Parts<'a, Out>;
+
+impl<'a, T: Part> Model for Parts<'a, T> {
+    ghost use Rattle.std.specs.Prelude.{List};
+    ghost use Rattle.std.specs.List.{filter_map};
+    ghost use Rattle.item_codec.specs.Walk.{items_given};
+
+    ghost Value = { List T };
+
+    ghost view = { λ parts. filter_map T.of_unit_item (items_given parts.items) };
+}
+
+impl<'a, T: Part> Parts<'a, T> {
+    /// The parts that the string at an offset spells.
+    #[tactic(auto, using(crate::proofs::Counts::few_parts), unfolding(kmx_format::specs::TablesOf::items_of))]
+    pub(crate) fn at(bytes: &'a [u8], offset: u32) -> Parts<'a, T>
+        requires { length bytes.now ≤ FILE_BYTES }
+        ensures value { result ≡ filter_map T.of_unit_item (items_of (string_at bytes.now offset)) }
+        ensures few { length result ≤ FILE_BYTES }
+    {
+        Parts {
+            items: items_of(string_bytes(bytes, offset)),
+            kind: PhantomData,
+        }
+    }
+}
+
+impl<'a, T: Part> Iterator for Parts<'a, T> {
+    ghost use Rattle.std.specs.Iterator.{YieldsFirst, item_count};
+
+    type Item = T;
+
+    ghost next_gives = { YieldsFirst (λ parts. parts) };
+
+    ghost remaining = { item_count (λ parts. parts) };
+
+    #[tactic(auto, unfolding(item_codec::specs::Walk::results_of))]
+    fn next(&mut self) -> Option<T> {
+        while let Some(read) = self.items.next() {
+            let Ok(item) = read else {
+                self.items = items_of(&[]);
+                return None;
+            };
+            if let Some(part) = T::of_unit_item(item) {
+                return Some(part);
+            }
+        }
+        None
+    }
+}
