@@ -1,6 +1,8 @@
-//! Runs of the commands over a folder and a sink in memory: the tables of `rows`, and what is too long for a table.
+//! Runs of the commands over a folder and a sink in memory: the tables of `rows`, what is too long for a table, and faults
+//! and full sizes (`hostile`).
 ghost use Rattle.std.specs.Prelude.{◌≡◌, IfOk};
 
+mod hostile;
 mod rows;
 
 use crate::run::run;

@@ -198,34 +198,9 @@ test b.kmn out a.keys
 [K_A]
 3 0
 
-test a.kmn out a.keys
-@+ 'a' > 'b'~
-[K_A]
-4 122 0 2
-1 del=0 ins=0062 pass=0 beep=0 ent=1 ctx=0062~
 compile a.kmn out
 @+ 'a' > 'b'~
 
-4 122 0 1
-
-test a.kmn out a.keys
-@+ 'a' > 'b'~
-[K_A]~
-3 0 1
-
-test a.kmn out a.keys
-@+ 'a' > 'b'~
-[K_A]~
-3 0 2
-
-test a.kmn out a.keys
-@+ 'a' > 'b'~
-[K_A]~
-4 61 3
-
-test a.kmn out a.keys
-@+ 'a' > 'b'~
-[K_A]~
 4 122 0 1
 
 test a.kmn out a.keys
@@ -631,11 +606,6 @@ pub const LONG_RUNS: &str = r##"test a.kmn out a.keys
 ⟨[K_F5]~×100001⟩
 1
 refused P07 line 100001~
-compile a.kmn out
-⟨ ×4194305⟩
-
-1
-refused L05 line 1~
 layout a.kmn a.keys
 @+ 'a' > 'b'~
 ⟨ ×4194305⟩
