@@ -21,7 +21,7 @@ use Rattle.compile_laws.proofs.Known.{has_values}
 use Rattle.kmx_format.specs.FileUnits.{unit_item_of_pattern}
 use Rattle.kmx_format.specs.Writable.{stores_of_pattern, is_any, is_matched, PointsTo, PointsBack, IsWritableContext}
 use Rattle.kmn_parser.specs.ProgramLaws.{IsReadItem}
-use Rattle.rule_checker.specs.Items.{is_pattern_item, is_any_item, passes, points_to, misses_pattern, misses_any, context_item_code, context_code}
+use Rattle.item_checker.specs.Items.{is_pattern_item, is_any_item, passes, points_to, misses_pattern, misses_any, context_item_code, context_code}
 use Rattle.rule_checker.specs.Refused.{IsRead}
 use Rattle.checker_laws.proofs.Unrefused.{none_both, none_broken}
 use Rattle.checker_laws.proofs.Lists.{not_false}

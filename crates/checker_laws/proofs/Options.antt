@@ -20,7 +20,8 @@ use Rattle.rule_model.specs.Src.{pattern_uses, output_uses, rule_uses, group_use
 use Rattle.rule_model.specs.Tab.{with_options}
 use Rattle.compile_laws.specs.WellNamed.{is_fixed}
 use Rattle.store_table.specs.Names.{is_named}
-use Rattle.rule_checker.specs.Items.{known, is_option, option_named, rule_options}
+use Rattle.store_table.specs.Known.{known, option_named, rule_options}
+use Rattle.item_checker.specs.Items.{is_option}
 use Rattle.store_table.proofs.Naming.{position_cons, some_place}
 
 any_flat_map : {X Y : Type 0} (q : Y → Bool) (f : X → List Y) (xs : List X) → list_any q (flat_map f xs) ≡ list_any (λ x. list_any q (f x)) xs

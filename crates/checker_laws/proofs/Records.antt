@@ -32,7 +32,8 @@ use Rattle.kmx_format.specs.Writable.{IsWritableKey, IsWritableRule, IsWritableM
 use Rattle.kmx_format.proofs.WritableParts.{no_output}
 use Rattle.kmn_parser.specs.ProgramLaws.{IsReadItem, IsReadRule, IsReadGroup, StandsAsKey}
 use Rattle.store_table.specs.First.{or_else, first_code}
-use Rattle.rule_checker.specs.Items.{known, is_far, is_unfit_key, are_unfit_keys, is_unfit_store, is_option, context_code, key_code, rule_output_code, match_output_code, plain_code, rule_code}
+use Rattle.store_table.specs.Known.{known}
+use Rattle.item_checker.specs.Items.{is_far, is_unfit_key, are_unfit_keys, is_unfit_store, is_option, context_code, key_code, rule_output_code, match_output_code, plain_code, rule_code}
 use Rattle.rule_checker.specs.Refused.{IsRead}
 use Rattle.checker_laws.proofs.Unrefused.{none_both, none_broken}
 use Rattle.checker_laws.proofs.Lists.{none_or}

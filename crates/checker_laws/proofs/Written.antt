@@ -35,8 +35,9 @@ use Rattle.kmx_format.specs.File.{all_rules, rules_of}
 use Rattle.kmx_format.specs.Writable.{is_version, IsWritable, IsWritableGroup}
 use Rattle.kmn_parser.specs.ProgramLaws.{IsReadRule, IsReadGroup}
 use Rattle.store_table.specs.Names.{stated, is_named, is_begun, begins_no_group, begin_code, begin_refusal}
-use Rattle.rule_checker.specs.Items.{Known, known, rule_code, rule_refusal, rules_refusal}
-use Rattle.rule_checker.specs.Limits.{OfStore, OfRule, in_line_order, key_count, record_count, records_of_statement, all_records}
+use Rattle.store_table.specs.Known.{Known, known}
+use Rattle.item_checker.specs.Items.{rule_code, rule_refusal, rules_refusal}
+use Rattle.limit_checker.specs.Limits.{OfStore, OfRule, in_line_order, key_count, record_count, records_of_statement, all_records}
 use Rattle.rule_checker.specs.Refused.{IsRead, refused}
 use Rattle.checker_laws.proofs.Unrefused.{none_at_line, none_broken, none_first, Stands}
 use Rattle.checker_laws.proofs.Lists.{not_false, all_true, All-append_parts}

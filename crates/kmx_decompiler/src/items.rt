@@ -6,7 +6,7 @@ ghost use Rattle.program_text.specs.Names.{is_inner};
 ghost use Rattle.virtual_keys.specs.Dictionary.{is_nameable};
 ghost use Rattle.rule_model.specs.Tab.{element_char};
 ghost use Rattle.kmx_format.specs.Writable.{is_matched};
-ghost use Rattle.rule_checker.specs.Items.{is_no_character};
+ghost use Rattle.item_checker.specs.Items.{is_no_character};
 ghost use Rattle.decompile_laws.specs.WrittenOut.{output_values, pattern_values};
 ghost use Rattle.spelled_files.specs.Causes.{is_far_mark, is_far_output, is_far_pattern, is_nul, stands_behind_match};
 

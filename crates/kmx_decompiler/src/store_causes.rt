@@ -3,7 +3,7 @@
 ghost use Rattle.std.specs.Prelude.{◌≡◌, ◌<◌, ◌&&◌, ◌||◌, IfOk, length, nat_eq};
 ghost use Rattle.std.specs.List.{list_any};
 ghost use Rattle.rule_model.specs.Tab.{tab_options};
-ghost use Rattle.rule_checker.specs.Items.{is_layout_text};
+ghost use Rattle.item_checker.specs.Items.{is_layout_text};
 ghost use Rattle.spelled_files.specs.Causes.{is_first_dictionary, is_unspelled_option, is_unspelled_store, is_unspelled_system};
 
 use crate::causes::has_unspelled_element;

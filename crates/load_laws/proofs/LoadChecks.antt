@@ -14,15 +14,16 @@ use Rattle.program_text.proofs.Programs.{programs_read_back}
 use Rattle.store_table.specs.First.{at_line, earlier, first_of, or_else, or_refusal}
 use Rattle.store_table.specs.Names.{is_named, names_refusal, rule_refusal, stated}
 use Rattle.store_table.specs.declared.stating.Stated.{Stated}
-use Rattle.rule_checker.specs.Counting.{capped, no_counts}
-use Rattle.rule_checker.specs.Items.{Known, items_refusal, known, rule_refusal as items_rule_refusal}
-use Rattle.rule_checker.specs.Limits.{in_line_order, limits_refusal}
+use Rattle.store_table.specs.Known.{Known, known}
+use Rattle.limit_checker.specs.Counting.{capped, no_counts}
+use Rattle.item_checker.specs.Items.{items_refusal, rule_refusal as items_rule_refusal}
+use Rattle.limit_checker.specs.Limits.{in_line_order, limits_refusal}
 use Rattle.rule_checker.specs.Refused.{checked, refused}
-use Rattle.rule_checker.specs.Walking.{no_totals, walked}
-use Rattle.rule_checker.specs.declared.counting.StoreCounts.{StoreCounts}
-use Rattle.rule_checker.specs.declared.totals.Totals.{Totals}
-use Rattle.rule_checker.specs.declared.walking.Walk.{Walk}
-use Rattle.rule_checker.proofs.FirstPassed.{first_passed}
+use Rattle.limit_checker.specs.Walking.{no_totals, walked}
+use Rattle.limit_checker.specs.declared.counting.StoreCounts.{StoreCounts}
+use Rattle.limit_checker.specs.declared.totals.Totals.{Totals}
+use Rattle.limit_checker.specs.declared.walking.Walk.{Walk}
+use Rattle.limit_checker.proofs.FirstPassed.{first_passed}
 use Rattle.load_laws.specs.Files.{SourcesAreChecked}
 use Rattle.load_laws.specs.Programs.{load_program, rule_def, rule_defs}
 use Rattle.load_laws.proofs.LoadTexts.{program_spelled, text_is}

@@ -1,11 +1,1 @@
-pub mod Counted
-pub mod FirstItems
-pub mod FirstPassed
-pub mod Gathered
-pub mod KnownValues
-pub mod Options
 pub mod Refusals
-pub mod SpelledTexts
-pub mod SummaryTests
-pub mod Summed
-pub mod Walked

@@ -5,8 +5,8 @@ use Rattle.rule_model.specs.declared.program.Program.{Program}
 use Rattle.store_table.specs.First.{or_else, or_refusal}
 use Rattle.store_table.specs.Names.{names_refusal}
 use Rattle.store_table.specs.Numbering.{NameLists, lists_of, numbered}
-use Rattle.rule_checker.specs.Items.{items_refusal}
-use Rattle.rule_checker.specs.Limits.{limits_refusal}
+use Rattle.item_checker.specs.Items.{items_refusal}
+use Rattle.limit_checker.specs.Limits.{limits_refusal}
 use Rattle.rule_checker.specs.Refused.{refused, start_refusal}
 
 -- what is answered as a value isn't refused

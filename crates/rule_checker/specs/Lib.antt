@@ -1,6 +1,1 @@
-pub mod Counting
-pub mod Items
-pub mod Limits
 pub mod Refused
-pub mod Summaries
-pub mod Walking

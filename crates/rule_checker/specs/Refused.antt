@@ -12,8 +12,8 @@ use Rattle.kmn_parser.specs.SourceLaws.{IsInOrder}
 use Rattle.store_table.specs.First.{or_else, broken, at_line, or_refusal}
 use Rattle.store_table.specs.Names.{names_refusal}
 use Rattle.store_table.specs.Numbering.{NameLists, lists_of}
-use Rattle.rule_checker.specs.Items.{items_refusal}
-use Rattle.rule_checker.specs.Limits.{limits_refusal}
+use Rattle.item_checker.specs.Items.{items_refusal}
+use Rattle.limit_checker.specs.Limits.{limits_refusal}
 
 -- C01: there is no `begin Unicode`
 abbrev pub has_no_start : Program → Bool

@@ -4,19 +4,17 @@ ghost use Rattle.kmn_base.specs.Answers.{Answers};
 ghost use Rattle.rule_model.specs.Src.{is_unicode};
 ghost use Rattle.store_table.specs.First.{or_else, or_refusal};
 ghost use Rattle.store_table.specs.Numbering.{lists_of};
-ghost use Rattle.rule_checker.specs.Items.{items_refusal};
-ghost use Rattle.rule_checker.specs.Limits.{limits_refusal};
+ghost use Rattle.item_checker.specs.Items.{items_refusal};
+ghost use Rattle.limit_checker.specs.Limits.{limits_refusal};
 ghost use Rattle.rule_checker.specs.Refused.{IsRead, refused, start_refusal};
 
-use crate::facts::Facts;
-use crate::limits::limits_refusal;
-use crate::rules::groups_refusal;
-use crate::stores::stores_refusal;
+use item_checker::items_refusal;
 use kmn_base::{Code, CompileError, Memory, Refusal};
+use limit_checker::limits_refusal;
 use rule_model::{BeginDef, Program};
 use std::alloc::Global;
 use std::marker::Model;
-use store_table::{Names, earlier, number};
+use store_table::{Names, number};
 
 /// A program that was read and isn't refused, with its names. Contracts see it as the program.
 #[derive(Drop)]
@@ -78,17 +76,6 @@ fn start_refusal(program: &Program) -> Option<Refusal>
             code: Code::C01,
         })
     }
-}
-
-/// The first refusal for items.
-#[tactic(auto, unfolding(crate::specs::Items::items_refusal))]
-fn items_refusal(alloc: Global, program: &Program) -> Result<Option<Refusal>, Memory>
-    ensures { IfOk result (λ refusal. refusal ≡ items_refusal program.now) }
-{
-    let facts = Facts::of(alloc, program)?;
-    let stores = stores_refusal(alloc, &facts, program.stores.as_slice())?;
-    let rules = groups_refusal(&facts, program.groups.as_slice());
-    Ok(earlier(stores, rules))
 }
 
 /// The first refusal for items, then for limits.

@@ -38,7 +38,8 @@ use Rattle.compile_laws.proofs.Ordered.{in_order_permutes}
 use Rattle.kmx_format.specs.Writable.{is_matched}
 use Rattle.kmx_format.specs.TablesOf.{rule_without_place, group_without_places}
 use Rattle.kmn_parser.specs.ProgramLaws.{IsCharacter, IsReadItem}
-use Rattle.rule_checker.specs.Items.{known, is_no_character, is_pattern_item, context_item_code, context_code, key_code, rule_output_code, rule_code}
+use Rattle.store_table.specs.Known.{known}
+use Rattle.item_checker.specs.Items.{is_no_character, is_pattern_item, context_item_code, context_code, key_code, rule_output_code, rule_code}
 use Rattle.rule_checker.specs.Refused.{IsRead}
 use Rattle.store_table.specs.First.{or_else, first_code}
 use Rattle.checker_laws.proofs.Unrefused.{none_both}

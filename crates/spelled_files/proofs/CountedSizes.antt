@@ -22,8 +22,8 @@ use Rattle.rule_model.specs.Naming.{names_of, stores_of, store_of, is_dropped, r
 use Rattle.compile_laws.specs.Numbers.{item_values, values_of, value_store, dictionary_stores, compiled_stores}
 use Rattle.kmx_format.specs.Writable.{elements_of}
 use Rattle.kmx_format.specs.Playable.{IsPlayable}
-use Rattle.rule_checker.specs.Items.{Known, known, statement_elements}
-use Rattle.rule_checker.specs.Limits.{Statement, OfStore, OfRule, in_line_order, items_of, values_of_statement, statement_size, store_size, dictionary_size, sizes, have_many_elements, limits_refusal}
+use Rattle.store_table.specs.Known.{Known, known, statement_elements}
+use Rattle.limit_checker.specs.Limits.{Statement, OfStore, OfRule, in_line_order, items_of, values_of_statement, statement_size, store_size, dictionary_size, sizes, have_many_elements, limits_refusal}
 use Rattle.rule_checker.specs.Refused.{IsRead}
 use Rattle.checker_laws.proofs.Sizes.{element_count, items_in_order, parted, joined_size}
 use Rattle.checker_laws.proofs.Reading.{own_keys_read}

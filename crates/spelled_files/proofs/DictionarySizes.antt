@@ -17,7 +17,7 @@ use Rattle.kmn_parser.proofs.CleanTexts.{counted-characters}
 use Rattle.rule_model.specs.declared.tables.Store.{Store}
 use Rattle.rule_model.specs.declared.tables.Tables.{Tables}
 use Rattle.rule_model.specs.Tab.{distinct_onto, element_char, is_dictionary, store_elements, tab_dictionary, words}
-use Rattle.rule_checker.specs.Limits.{names_size}
+use Rattle.limit_checker.specs.Limits.{names_size}
 use Rattle.kmx_format.specs.Playable.{IsPlayable, IsPlayableStore}
 use Rattle.compile_laws.specs.Numbers.{dictionary_stores}
 use Rattle.checker_laws.proofs.Sizes.{joined_size}

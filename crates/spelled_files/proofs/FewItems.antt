@@ -27,8 +27,8 @@ use Rattle.rule_model.specs.Naming.{names_of, all_rules, source_items, mark_name
 use Rattle.rule_model.specs.Tab.{distinct_onto}
 use Rattle.kmx_format.specs.Writable.{IsWritableRule}
 use Rattle.kmx_format.specs.Playable.{IsPlayable, IsPlayableGroup}
-use Rattle.rule_checker.specs.Items.{Known, known}
-use Rattle.rule_checker.specs.Limits.{Statement, OfStore, OfRule, in_line_order, item_size, output_size, key_count, records_of_statement, record_count, mark_count, all_records, group_refusal}
+use Rattle.store_table.specs.Known.{Known, known}
+use Rattle.limit_checker.specs.Limits.{Statement, OfStore, OfRule, in_line_order, item_size, output_size, key_count, records_of_statement, record_count, mark_count, all_records, group_refusal}
 use Rattle.checker_laws.proofs.Sizes.{items_in_order}
 use Rattle.store_table.specs.First.{first_of}
 use Rattle.decompile_laws.specs.Marks.{greatest_mark}

@@ -39,7 +39,7 @@ use Rattle.program_text.specs.Spelled.{IsSpelledName, IsSpelledValue, IsSpelledI
 use Rattle.decompile_laws.specs.Items.{Names, back_element, back_pattern, back_output, back_key, some_items}
 use Rattle.decompile_laws.specs.WrittenOut.{has_key_name}
 use Rattle.decompile_laws.proofs.Choosing.{choose-else}
-use Rattle.rule_checker.specs.Items.{is_no_character}
+use Rattle.item_checker.specs.Items.{is_no_character}
 use Rattle.spelled_files.specs.Causes.{is_far_mark, is_unspelled_element, is_unspelled_key, is_unspelled_value, have_both_quotes, stands_behind_match, is_nul}
 use Rattle.spelled_files.proofs.TameNames.{number_name}
 use Rattle.spelled_files.proofs.SpelledKeys.{IsKeyName, key_spelled}

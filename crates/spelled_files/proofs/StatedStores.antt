@@ -23,8 +23,9 @@ use Rattle.store_table.specs.First.{broken, first_code, first_of}
 use Rattle.store_table.specs.declared.stating.Stated.{Stated}
 use Rattle.store_table.specs.Names.{stated, is_named, kept_name, store_names, is_store_again, names_no_store, puts_later_store}
 use Rattle.store_table.specs.Names.{store_refusal as name_refusal, store_item_code as name_item_code, store_code as name_code}
+use Rattle.store_table.specs.Known.{Known, known, brought, statement_elements}
 use Rattle.store_table.proofs.Naming.{some_place}
-use Rattle.rule_checker.specs.Items.{Known, known, brought, statement_elements, is_no_character, is_left_out, is_layout_text, is_system_text, is_other_text, puts_option, wants_characters, brings_no_character, store_item_code, store_head_code, store_code, store_refusal}
+use Rattle.item_checker.specs.Items.{is_no_character, is_left_out, is_layout_text, is_system_text, is_other_text, puts_option, wants_characters, brings_no_character, store_item_code, store_head_code, store_code, store_refusal}
 use Rattle.rule_checker.specs.Refused.{IsRead}
 use Rattle.checker_laws.proofs.Unrefused.{none_both, none_earlier, none_at_line, none_broken, Stands, none_first}
 use Rattle.checker_laws.proofs.Lists.{not_false}

@@ -17,8 +17,9 @@ use Rattle.rule_model.specs.Naming.{stores_of, rule_items, all_rules}
 use Rattle.rule_model.specs.Src.{pattern_uses, output_uses, rule_uses, group_uses, numbers_named, src_options, is_plain, is_on_match, is_on_nomatch}
 use Rattle.compile_laws.proofs.Places.{position-cons}
 use Rattle.store_table.specs.Names.{is_named}
+use Rattle.store_table.specs.Known.{known, option_named, rule_options}
 use Rattle.store_table.proofs.Naming.{some_place}
-use Rattle.rule_checker.specs.Items.{known, is_option, option_named, rule_options}
+use Rattle.item_checker.specs.Items.{is_option}
 use Rattle.program_text.specs.Spelled.{IsSpelledName}
 use Rattle.decompile_laws.proofs.Choosing.{all_parts, all_join, all_split, all_weaker, all_both}
 use Rattle.spelled_files.specs.Written.{IsWrittenItem, IsWrittenRule, WasWritten}

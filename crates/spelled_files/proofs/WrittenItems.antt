@@ -31,7 +31,7 @@ use Rattle.kmn_items.specs.Forms.{word_slots, condition, equal_at, word_item}
 use Rattle.kmn_items.specs.Brackets.{flags_of, named_key, key_item, modifier_count}
 use Rattle.kmn_items.specs.Item.{unseen, formed, read_word, read_quoted, read_bracket, read_led, read_item, prepend, then_items, read_items, last_item, read_key}
 use Rattle.kmn_parser.proofs.ReadItems.{text_at-drop}
-use Rattle.rule_checker.specs.Items.{is_pattern_item}
+use Rattle.item_checker.specs.Items.{is_pattern_item}
 use Rattle.program_text.specs.Spelled.{IsSpelledName, IsSpelledValue, IsSpelledKey}
 use Rattle.spelled_files.specs.Written.{IsWrittenItem, stands_in_context, has_late_item, is_nul_item, IsWrittenContext}
 use Rattle.spelled_files.proofs.CompiledStores.{all_at}

@@ -21,7 +21,7 @@ use Rattle.rule_model.specs.declared.tables.Store.{Store}
 use Rattle.rule_model.specs.declared.tables.Group.{Group}
 use Rattle.rule_model.specs.declared.tables.Tables.{Tables}
 use Rattle.rule_model.specs.Tab.{store_elements, elements_of, element_char, tab_dictionary, tab_options}
-use Rattle.rule_checker.specs.Items.{is_no_character}
+use Rattle.item_checker.specs.Items.{is_no_character}
 use Rattle.kmx_format.specs.Writable.{stores_of_pattern, stores_of_output, IsWritableRule}
 use Rattle.kmx_format.specs.TablesOf.{tables_of}
 use Rattle.kmx_format.specs.Playable.{IsPlayable, IsPlayableGroup}

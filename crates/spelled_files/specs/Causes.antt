@@ -18,7 +18,7 @@ use Rattle.rule_model.specs.declared.tables.Out.TheVariants as output
 use Rattle.rule_model.specs.declared.tables.Store.{Store}
 use Rattle.rule_model.specs.Tab.{elements_of, element_char, words, is_dictionary}
 use Rattle.kmx_format.specs.Writable.{is_matched}
-use Rattle.rule_checker.specs.Items.{is_no_character, is_layout_text}
+use Rattle.item_checker.specs.Items.{is_no_character, is_layout_text}
 use Rattle.program_text.specs.Names.{is_inner, is_source_name}
 use Rattle.decompile_laws.specs.Items.{Names, store_called}
 use Rattle.decompile_laws.specs.Names.{named_by_pattern, named_by_output}

@@ -7,7 +7,7 @@ use Rattle.rule_model.specs.declared.program.StoreDef.{StoreDef}
 use Rattle.rule_model.specs.declared.program.RuleDef.{RuleDef}
 use Rattle.rule_model.specs.declared.program.Program.{Program}
 use Rattle.rule_model.specs.Naming.{rule_items, all_rules}
-use Rattle.rule_checker.specs.Items.{is_pattern_item}
+use Rattle.item_checker.specs.Items.{is_pattern_item}
 use Rattle.program_text.specs.Spelled.{IsSpelledName, IsStoreName, IsSpelledValue, IsSpelledKey}
 
 -- an item: what it names has a name of a source, its value can stand in quotes, and its key has a name

@@ -3,7 +3,8 @@
 //! It stands on `kmn_base`, `virtual_keys`, `rule_model` and `indexmap`. `specs/Names` says which refusal for names is
 //! the first (`names_refusal`), by the words of `specs/First`, and `specs/Numbering` which numbers names get. The layer
 //! above calls `number`, which answers `numbered` of a program, and looks names up in the `Names` that it gives. The
-//! checker above says its own refusals by the words of `specs/First` too, and takes `earlier` and `at_line` for them.
+//! checkers above say their own refusals by the words of `specs/First` too, take `earlier` and `at_line` for them, and look
+//! at a program with what is `known` of it (`specs/Known`).
 #![tactic(auto)]
 
 mod appearing;

@@ -1,0 +1,4 @@
+pub mod FirstItems
+pub mod Options
+pub mod SummaryTests
+pub mod Summed

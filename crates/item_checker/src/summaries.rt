@@ -1,0 +1,181 @@
+//! What is kept of the elements of each store, which are never built: stores that put one another may come to far more
+//! elements than there is memory.
+
+ghost use Rattle.std.specs.Prelude.{◌≡◌, ◌||◌, ◌&&◌, false, nat_lt, [], IfOk, OnOk};
+ghost use Rattle.std.specs.Option.{option_copied};
+ghost use Rattle.item_checker.specs.Summaries.{found_summary, joined, joined_found, no_summaries, summary, with_character, with_characters, with_item, with_items, with_store, with_stores};
+
+use kmn_base::{Memory, Seq};
+use rule_model::{SrcItem, StoreDef};
+use std::alloc::Global;
+use store_table::{DROPPED, NameTable};
+
+/// How many characters are kept of elements: one more than the longest text that a store is compared with.
+pub const FRONT_CHARACTERS: usize = 5;
+
+/// What is kept of elements: whether there are any, whether a mark, a virtual key or a character past U+FFFF is among
+/// them, and of their characters the first few.
+#[derive(Drop)]
+pub struct Summary {
+    pub is_empty: bool,
+    pub has_mark: bool,
+    pub has_key: bool,
+    pub has_far: bool,
+    pub front: Seq<char>,
+}
+
+/// The names of the stores of a file, in their order, with a summary for each.
+#[derive(Drop)]
+pub struct Summaries {
+    pub names: NameTable,
+    pub summaries: Seq<Summary>,
+}
+
+/// The summary of no elements.
+#[tactic(auto, unfolding(crate::specs::Summaries::summary))]
+fn empty_summary(alloc: Global) -> Summary
+    ensures { result ≡ summary [] }
+{
+    Summary {
+        is_empty: true,
+        has_mark: false,
+        has_key: false,
+        has_far: false,
+        front: Seq::new(alloc),
+    }
+}
+
+/// Adds a character to a front that has room for it.
+fn add_character(front: &mut Seq<char>, character: char) -> Result<(), Memory>
+    ensures { OnOk result (front.new ≡ with_character front.old character) }
+{
+    if front.len() < FRONT_CHARACTERS {
+        front.add(character)
+    } else {
+        Ok(())
+    }
+}
+
+/// Adds characters to a front, as far as there is room.
+fn add_characters(front: &mut Seq<char>, characters: &[char]) -> Result<(), Memory>
+    ensures { OnOk result (front.new ≡ with_characters front.old characters.now) }
+{
+    for character in characters {
+        add_character(front, *character)?;
+    }
+    Ok(())
+}
+
+/// Whether one of two holds.
+fn either(one: bool, other: bool) -> bool
+    ensures { result ≡ (one || other) }
+{
+    one || other
+}
+
+/// Whether both of two hold.
+fn both(one: bool, other: bool) -> bool
+    ensures { result ≡ (one && other) }
+{
+    one && other
+}
+
+/// Adds the elements of a summary.
+fn join(sum: &mut Summary, other: &Summary) -> Result<(), Memory>
+    ensures { OnOk result (sum.new ≡ joined sum.old other.now) }
+{
+    sum.is_empty = both(sum.is_empty, other.is_empty);
+    sum.has_mark = either(sum.has_mark, other.has_mark);
+    sum.has_key = either(sum.has_key, other.has_key);
+    sum.has_far = either(sum.has_far, other.has_far);
+    add_characters(&mut sum.front, other.front.as_slice())
+}
+
+/// Adds the elements of a summary that there may be.
+fn join_found(sum: &mut Summary, found: Option<&Summary>) -> Result<(), Memory>
+    ensures { OnOk result (sum.new ≡ joined_found sum.old (option_copied found.entry)) }
+{
+    match found {
+        Some(other) => join(sum, other),
+        None => Ok(()),
+    }
+}
+
+/// Adds a character.
+fn add_element_character(sum: &mut Summary, character: char) -> Result<(), Memory>
+    ensures { OnOk result (sum.new ≡ record sum.old { is_empty = false; has_far = sum.old.has_far || nat_lt 0xFFFF character; front = with_character sum.old.front character }) }
+{
+    sum.is_empty = false;
+    sum.has_far = either(sum.has_far, character > '\u{FFFF}');
+    add_character(&mut sum.front, character)
+}
+
+/// Adds the elements that an item of a store stands for.
+fn add_item(stores: &Summaries, sum: &mut Summary, item: &SrcItem) -> Result<(), Memory>
+    ensures { OnOk result (sum.new ≡ with_item stores.now sum.old item.now) }
+{
+    match item {
+        SrcItem::Char(character) => add_element_character(sum, *character),
+        SrcItem::Dead(_) => {
+            sum.is_empty = false;
+            sum.has_mark = true;
+            Ok(())
+        }
+        SrcItem::Key(_) => {
+            sum.is_empty = false;
+            sum.has_key = true;
+            Ok(())
+        }
+        SrcItem::Outs(name) => join_found(sum, found_summary(stores, name.as_slice())),
+        _ => Ok(()),
+    }
+}
+
+/// The summary of the store of a name.
+pub fn found_summary<'a>(stores: &'a Summaries, name: &[u8]) -> Option<&'a Summary>
+    ensures { option_copied result ≡ found_summary stores.now name.now }
+{
+    let place = stores.names.place_of(name)?;
+    stores.summaries.as_slice().get(place)
+}
+
+/// The summary of the elements that items of a store stand for.
+pub fn items_summary(
+    alloc: Global,
+    stores: &Summaries,
+    items: &[SrcItem],
+) -> Result<Summary, Memory>
+    ensures { IfOk result (λ sum. sum ≡ with_items stores.now (summary []) items.now) }
+{
+    let mut sum = empty_summary(alloc);
+    for item in items {
+        add_item(stores, &mut sum, item)?;
+    }
+    Ok(sum)
+}
+
+/// Adds the store of a statement, unless it is dropped.
+fn add_store(alloc: Global, stores: &mut Summaries, store: &StoreDef) -> Result<(), Memory>
+    ensures { OnOk result (stores.new ≡ with_store stores.old store.now) }
+{
+    if store.system == DROPPED {
+        return Ok(());
+    }
+    let summary = items_summary(alloc, stores, store.items.as_slice())?;
+    stores.names.push(store.name.as_slice())?;
+    stores.summaries.add(summary)
+}
+
+/// The summaries of stores, each by those before it.
+pub fn stores_summaries(alloc: Global, stores: &[StoreDef]) -> Result<Summaries, Memory>
+    ensures { IfOk result (λ summaries. summaries ≡ with_stores no_summaries stores.now) }
+{
+    let mut summaries = Summaries {
+        names: NameTable::new(alloc),
+        summaries: Seq::new(alloc),
+    };
+    for store in stores {
+        add_store(alloc, &mut summaries, store)?;
+    }
+    Ok(summaries)
+}

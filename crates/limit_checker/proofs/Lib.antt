@@ -1,0 +1,6 @@
+pub mod Counted
+pub mod FirstPassed
+pub mod Gathered
+pub mod KnownValues
+pub mod SpelledTexts
+pub mod Walked
