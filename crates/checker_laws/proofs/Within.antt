@@ -1,5 +1,5 @@
 -- The limits that an accepted program keeps.
-use Rattle.std.proofs.Common.{◌≡◌, ℕ, suc, ◌+◌, ◌≤◌, false, List, [], ◌∷◌, ◌++◌, length, map, Option, None, refl, sym, ap, subst, arith, append-nil, append_assoc}
+use Rattle.std.proofs.Common.{◌≡◌, ℕ, suc, ◌+◌, ◌≤◌, false, List, [], ◌∷◌, ◌++◌, length, map, Option, None, refl, sym, ap, subst, arith, append-nil, append_assoc, take_all}
 use Rattle.std.specs.Prelude.{nat_lt, flat_map, sum, All}
 use Rattle.std.specs.List.{list_any, join_with_byte, AllByRecursion}
 use Rattle.std.specs.Str.{chars}
@@ -19,18 +19,20 @@ use Rattle.rule_model.specs.declared.program.RuleDef.{RuleDef}
 use Rattle.rule_model.specs.declared.program.GroupDef.{GroupDef}
 use Rattle.rule_model.specs.declared.program.Program.{Program}
 use Rattle.rule_model.specs.declared.tables.Store.{Store}
+use Rattle.rule_model.specs.Src.{src}
 use Rattle.rule_model.specs.Tab.{distinct_onto}
 use Rattle.rule_model.specs.Naming.{names_of, stores_of, all_rules, stores_before, stores_after, mark_names, source_items}
 use Rattle.compile_laws.specs.Numbers.{compiled_stores, dictionary_stores, value_store, values_of}
 use Rattle.kmn_parser.specs.ProgramLaws.{IsOwnKey}
 use Rattle.store_table.specs.First.{broken, first_of}
+use Rattle.store_table.specs.Numbering.{lists_of}
 use Rattle.store_table.specs.Known.{Known, known}
 use Rattle.limit_checker.specs.Limits.{Statement, OfStore, OfRule, in_line_order, line_of, items_of, output_size, names_size, sizes, mark_count, all_records, is_long_context, is_long_output, have_many_elements, are_many_stores, have_many_marks, have_many_records, are_many_groups, limit_code, statement_refusal, group_refusal, limits_refusal}
-use Rattle.rule_checker.specs.Refused.{IsRead}
+use Rattle.rule_checker.specs.Refused.{IsRead, refused}
 use Rattle.checker_laws.specs.Laws.{statements_of}
 use Rattle.checker_laws.proofs.Unrefused.{none_earlier, none_at_line, none_broken, none_first, Stands}
 use Rattle.checker_laws.proofs.Lists.{none_or, All-append_parts, all_behind}
-use Rattle.checker_laws.proofs.Accepted.{IsUnrefused}
+use Rattle.checker_laws.proofs.Accepted.{IsUnrefused, unrefused}
 use Rattle.checker_laws.proofs.Reading.{own_keys_read}
 use Rattle.checker_laws.proofs.Sizes.{element_count, items_in_order, joined_size, sizes_counted}
 
@@ -189,3 +191,8 @@ few_keys program read whole =
     let behind = All-append_parts (λ (s : Store). length s.elements ≤ STORE_ELEMENTS) (stores_of program) (dictionary_stores (names_of program).keys ++ map value_store (values_of program)) few in
     let dictionary = All-append_parts (λ (s : Store). length s.elements ≤ STORE_ELEMENTS) (dictionary_stores (names_of program).keys) (map value_store (values_of program)) behind.1 in
     few_names (names_of program).keys (own_keys_read program read.statements) dictionary.0
+
+-- and their names are the words of its dictionary
+pub keys_are_coded : (program : Program) → IsRead program → refused program ≡ None → (lists_of program).keys ≡ (src program).dictionary
+unfolding lists_of src
+keys_are_coded program read accepted = take_all KEY_NAMES (names_of program).keys (few_keys program read (unrefused program accepted))

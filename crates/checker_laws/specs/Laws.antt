@@ -4,12 +4,14 @@ use Rattle.rule_model.specs.declared.program.Program.{Program}
 use Rattle.rule_model.specs.declared.tables.Store.{Store}
 use Rattle.rule_model.specs.declared.tables.Tables.{Tables}
 use Rattle.rule_model.specs.Naming.{all_rules}
+use Rattle.rule_model.specs.Src.{src}
 use Rattle.compile_laws.specs.Compiles.{Compiles}
 use Rattle.compile_laws.specs.Numbers.{compiled_stores}
 use Rattle.compile_laws.specs.WellNamed.{IsWellNamed}
 use Rattle.kmx_format.specs.File.{all_rules as records_of}
 use Rattle.kmx_format.specs.Writable.{IsWritable}
 use Rattle.store_table.specs.Known.{known}
+use Rattle.store_table.specs.Numbering.{lists_of}
 use Rattle.limit_checker.specs.Limits.{Statement, in_line_order, sizes, all_records}
 use Rattle.rule_checker.specs.Refused.{IsRead, refused}
 
@@ -21,6 +23,11 @@ AcceptedIsWellNamed = (program : Program) → IsRead program → refused program
 abbrev pub AcceptedCanBeWritten : Type 0
 AcceptedCanBeWritten =
     (program : Program) (tables : Tables) → IsRead program → refused program ≡ None → Compiles program tables → IsWritable tables
+
+-- each key name of an accepted program has a code, so that they are the words of its dictionary
+abbrev pub KeysHaveCodes : Type 0
+KeysHaveCodes =
+    (program : Program) → IsRead program → refused program ≡ None → (lists_of program).keys ≡ (src program).dictionary
 
 -- the statements of a program that have items, in the order of their lines
 abbrev pub statements_of : Program → List Statement

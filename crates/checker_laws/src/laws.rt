@@ -1,4 +1,4 @@
-ghost use Rattle.checker_laws.specs.Laws.{AcceptedIsWellNamed, AcceptedCanBeWritten, StoresAreCounted, RecordsAreCounted};
+ghost use Rattle.checker_laws.specs.Laws.{AcceptedIsWellNamed, AcceptedCanBeWritten, KeysHaveCodes, StoresAreCounted, RecordsAreCounted};
 
 /// What an accepted program names is stated, and its keys can be told apart: so its tables keep its meaning.
 pub fn accepted_is_well_named()
@@ -9,6 +9,11 @@ pub fn accepted_is_well_named()
 /// what is there.
 pub fn accepted_can_be_written()
     ensures { AcceptedCanBeWritten }
+{}
+
+/// The names of an accepted program have a code for each word of its dictionary, and no other.
+pub fn keys_have_codes()
+    ensures { KeysHaveCodes }
 {}
 
 /// The limits count statements of the source as they come. Counted to the end, they are what the file has.

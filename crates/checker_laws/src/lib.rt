@@ -8,4 +8,6 @@
 
 mod laws;
 
-pub use laws::{accepted_can_be_written, accepted_is_well_named, limits_count_the_file};
+pub use laws::{
+    accepted_can_be_written, accepted_is_well_named, keys_have_codes, limits_count_the_file,
+};

@@ -23,6 +23,7 @@ use Rattle.store_table.specs.First.{or_else, broken, first_code, at_line, earlie
 use Rattle.store_table.specs.Known.{Known, known, brought, statement_elements}
 use Rattle.store_table.specs.Names.{is_named}
 
+-- some rule uses the store of a name as an option
 abbrev pub is_option : Known → List ℕ → Bool
 is_option known name = is_named known.options name
 

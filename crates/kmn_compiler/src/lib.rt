@@ -5,11 +5,14 @@
 //! `compile_laws` and `checker_laws` for what holds of such tables. The layer above calls `front`, `picture_name` and
 //! `back`, or `compile`, which is all of it for a picture that is at hand. Its bytes are the file of the tables that the
 //! source's program compiles to, and mean the program, so that both take the same steps whatever events come (`CompilesTo`
-//! of `specs/Source`); a refusal is the source's first.
+//! of `specs/Source`); a refusal is the source's first. What holds of each program that a source is accepted with, whether
+//! or not it was compiled, is the contracts of `laws`, functions with empty bodies.
 #![tactic(auto)]
 
 mod compiling;
+mod laws;
 mod picture;
 
 pub use compiling::{Compiled, back, compile, front};
+pub use laws::{files_mean_their_source, tables_keep_meaning};
 pub use picture::picture_name;
