@@ -1,11 +1,12 @@
--- What the steps of a scan answer.
+-- What the tokens of a line come to, and what the steps of a scan answer.
 use Rattle.std.specs.Prelude.{◌≡◌, ℕ, ◌+◌, ◌<◌, ◌≤◌, List, ◌++◌, length, drop, Option, None, Some, Result, Ok, Err}
 use Rattle.kmn_base.specs.declared.codes.Code.{Code}
 use Rattle.kmn_base.specs.declared.refusals.Refusal.{Refusal}
 use Rattle.kmn_base.specs.declared.refusals.CompileError.{CompileError}
-use Rattle.kmn_base.specs.declared.refusals.CompileError.TheVariants.{Refused, TooLarge, Memory}
+use Rattle.kmn_base.specs.declared.refusals.CompileError.TheVariants.{Refused, Memory}
+use Rattle.kmn_lines.specs.declared.logical.Logical.{Logical}
 use Rattle.kmn_lines.specs.declared.token.Token.{Token}
-use Rattle.kmn_lines.specs.Tokens.{refusal, scanned, first_fault}
+use Rattle.kmn_lines.specs.Tokens.{refusal, scanned, first_fault, line_tokens, line_refusal}
 use Rattle.kmn_tokens.specs.declared.token_error.TokenError.{TokenError}
 use Rattle.kmn_tokens.specs.declared.token_error.TokenError.TheVariants.{Fault, NoMemory}
 
@@ -14,12 +15,14 @@ abbrev pub error_at : ℕ → TokenError → CompileError
 error_at line (Fault code) = Refused (refusal line code)
 error_at line NoMemory = Memory
 
--- the tokens of a line where there is no refusal, else the refusal; want of memory alone is free
-abbrev pub GivesTokens : Option Refusal → List Token → Result (List Token) CompileError → Type 0
-GivesTokens refusal tokens (Ok found) = (refusal ≡ None) × (found ≡ tokens)
-GivesTokens refusal tokens (Err (Refused r)) = refusal ≡ Some r
-GivesTokens refusal tokens (Err (TooLarge code size)) = ⊥
-GivesTokens refusal tokens (Err Memory) = Unit {0}
+-- tokens, or the refusal that there is in their place
+abbrev pub or_refused : Option Refusal → List Token → Result (List Token) Refusal
+or_refused None tokens = Ok tokens
+or_refused (Some refused) tokens = Err refused
+
+-- the tokens of a logical line, or its first refusal
+abbrev pub scanned_line : List ℕ → Logical → Result (List Token) Refusal
+scanned_line source line = or_refused (line_refusal source line) (line_tokens source line)
 
 -- the value where there is no fault, else the fault
 abbrev pub Gives : {A : Type 0} → Option Code → A → Result A Code → Type 0

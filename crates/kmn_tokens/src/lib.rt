@@ -6,10 +6,10 @@
 #![tactic(auto)]
 
 ghost use Rattle.std.specs.Prelude.{◌≤◌, length};
+ghost use Rattle.kmn_base.specs.Answers.{Answers};
 ghost use Rattle.kmn_base.specs.declared.limits.TheConstants.{TEXT_BYTES};
 ghost use Rattle.kmn_lines.specs.Places.{IsPlaced};
-ghost use Rattle.kmn_lines.specs.Tokens.{line_tokens, line_refusal};
-ghost use Rattle.kmn_tokens.specs.Scanning.{GivesTokens};
+ghost use Rattle.kmn_tokens.specs.Scanning.{scanned_line};
 
 mod faults;
 mod numbers;
@@ -32,7 +32,7 @@ use std::alloc::Global;
 pub fn tokens(alloc: Global, source: &str, logical: Logical) -> Result<Seq<Token>, CompileError>
     requires few { length source.now ≤ TEXT_BYTES }
     requires placed { IsPlaced source.now logical }
-    ensures { GivesTokens (line_refusal source.now logical) (line_tokens source.now logical) result }
+    ensures { Answers (scanned_line source.now logical) result }
 {
     let mut out = Seq::new(alloc);
     match add_all(&mut out, source.as_bytes(), parts(source, logical)) {
