@@ -25,4 +25,4 @@ pub use items::{is_item_word, read_items, read_key};
 pub use slots::broken;
 pub use syntax::{Fault, ItemWord, Lead, Seen, Slot, Taken, Trouble, Where};
 pub use text::{LineTokens, begins_open, text_in};
-pub use words::{bare_name, is_system_name};
+pub use words::{bare_name, is_name, is_own_key, is_system_name};

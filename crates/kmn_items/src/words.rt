@@ -98,7 +98,7 @@ fn is_touch_name(text: &[u8]) -> bool
 }
 
 /// Whether a word names a key of the keyboard's own dictionary.
-fn is_own_key(text: &[u8]) -> bool
+pub fn is_own_key(text: &[u8]) -> bool
     ensures { result ≡ is_own_key text.now }
 {
     is_touch_name(text) || named_chars(text).is_some()

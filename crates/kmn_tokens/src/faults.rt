@@ -21,7 +21,7 @@ fn begins_forbidden(text: &[u8]) -> bool
 }
 
 /// Whether U+0000 or U+FFFF stands in a text.
-fn has_forbidden(text: &[u8]) -> bool
+pub fn has_forbidden(text: &[u8]) -> bool
     ensures { result ≡ has_forbidden text.now }
 {
     let mut at = 0;

@@ -2,7 +2,8 @@
 //!
 //! It stands on `kmn_base` and `kmn_lines`, whose `specs/Tokens` says what the tokens of a line are and which fault
 //! comes first. The layer above calls `tokens` for each line that `kmn_lines::lines` gives, and reads statements from
-//! what it answers.
+//! what it answers. What a text is of a token can be asked of it alone: `word_size`, `starts_number`, `number`,
+//! `has_forbidden`.
 #![tactic(auto)]
 
 ghost use Rattle.std.specs.Prelude.{◌≤◌, length};
@@ -21,8 +22,11 @@ mod token_error;
 
 use kmn_base::{CompileError, Seq};
 use kmn_lines::{Logical, parts};
+pub use faults::has_forbidden;
 pub use kmn_lines::{Token, TokenKind};
+pub use numbers::number;
 use scan::add_all;
+pub use sizes::{starts_number, word_size};
 use std::alloc::Global;
 
 /// The tokens of a logical line of this source, in their order. A refusal bears the number of the line's first physical

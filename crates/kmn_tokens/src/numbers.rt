@@ -36,8 +36,9 @@ fn char_of(value: u32) -> Result<char, Code>
     char::from_u32(value).ok_or(Code::L04)
 }
 
-/// The character of 4 to 6 hexadecimal digits.
-pub(crate) fn number(digits: &[u8]) -> Result<char, Code>
+/// The character of 4 to 6 hexadecimal digits: L04 where there are others or more, or no character has the number, L02 for
+/// U+0000 and U+FFFF.
+pub fn number(digits: &[u8]) -> Result<char, Code>
     ensures { Gives (digits_fault digits.now) (hex_value 0 digits.now) result }
 {
     if 4 <= digits.len() && digits.len() <= 6 && all_digits(digits) {

@@ -43,7 +43,7 @@ fn in_word(byte: u8, next: u8) -> bool
 }
 
 /// How many bytes of a word a text begins with.
-fn word_size(text: &[u8]) -> usize
+pub fn word_size(text: &[u8]) -> usize
     ensures is { result ≡ word_size text.now }
     ensures within { result ≤ length text.now }
 {
@@ -70,7 +70,7 @@ fn quoted_size(quote: u8, text: &[u8]) -> usize
 }
 
 /// Whether a text begins with `U+` and a hexadecimal digit.
-pub(crate) fn starts_number(text: &[u8]) -> bool
+pub fn starts_number(text: &[u8]) -> bool
     ensures is { result ≡ starts_number text.now }
     ensures long { result ≡ true → 3 ≤ length text.now }
 {

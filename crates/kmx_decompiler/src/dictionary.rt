@@ -4,22 +4,18 @@ ghost use Rattle.std.specs.Prelude.{◌≡◌, ◌+◌, ◌++◌, [], ◌∷◌,
 ghost use Rattle.std.specs.List.{list_any, slice_split};
 ghost use Rattle.std.specs.Str.{is_utf8};
 ghost use Rattle.kmn_base.specs.Names.{same_name};
-ghost use Rattle.kmn_items.specs.Words.{is_touch_name, is_own_key};
+ghost use Rattle.kmn_items.specs.Words.{is_own_key};
 ghost use Rattle.rule_model.specs.Plain.{words_behind, bytes_behind};
 ghost use Rattle.rule_model.specs.Tab.{words};
 ghost use Rattle.spelled_files.specs.Causes.{is_dictionary_name, is_unspelled_dictionary};
 ghost use Rattle.kmx_decompiler.specs.Words.{are_unfit, not_empty};
 
 use file_names::{is_source_name, text_of};
-use kmn_base::limits::SOURCE_NAME_CHARS;
-use kmn_base::names::same_name;
-use kmn_base::slices::before;
-use kmn_base::texts::character_count;
 use kmn_base::{Element, Memory};
+use kmn_items::is_own_key;
 use std::alloc::Global;
 use std::str;
 use store_table::NameTable;
-use virtual_keys::named_chars;
 
 /// The place of the first space of a text.
 fn first_space(text: &[u8]) -> Option<usize>
@@ -38,22 +34,6 @@ fn first_word(text: &[u8]) -> (&[u8], Option<&[u8]>)
         Some(at) => (&text[..at], Some(&text[at + 1..])),
         None => (text, None),
     }
-}
-
-/// Whether a word is `T_` and at least one more character, of at most 80 characters.
-fn is_touch_name(text: &[u8]) -> bool
-    ensures { result ≡ is_touch_name text.now }
-{
-    same_name(before(text, 2), b"T_")
-        && 2 < text.len()
-        && character_count(text) <= SOURCE_NAME_CHARS
-}
-
-/// Whether a word names a key of the keyboard's own dictionary.
-fn is_own_key(text: &[u8]) -> bool
-    ensures { result ≡ is_own_key text.now }
-{
-    is_touch_name(text) || named_chars(text).is_some()
 }
 
 #[tactic(auto, using(crate::proofs::DictionaryWords::is_text, crate::proofs::DictionaryWords::is_no_text))]
