@@ -1,7 +1,7 @@
 ghost use Rattle.std.specs.Prelude.{◌≡◌, SomeIff, IsTrue, OnSome, ◌+◌, ◌≤◌, ◌∷◌, if◌then◌else◌, Some, None, length, option_copied, option_map};
 ghost use Rattle.std.specs.List.{list_all, position};
 ghost use Rattle.virtual_keys.specs.Dictionary.{is_hex_digit, hex_value, is_nameable, is_group, is_parting, groups, group_chars, name_chars};
-ghost use Rattle.virtual_keys.specs.Groups.{groups_left, bytes_left};
+ghost use Rattle.virtual_keys.specs.Groups.{groups_behind, bytes_behind};
 
 use arrayvec::ArrayVec;
 use kmn_base::bytes::hex_digit;
@@ -51,8 +51,8 @@ fn parting(text: &[u8]) -> Option<usize>
 /// The first group of a text, and the text behind the `_` that ends it.
 #[tactic(auto, using(crate::proofs::GroupLemmas::groups_parted, crate::proofs::GroupLemmas::groups_alone))]
 fn first_group(text: &[u8]) -> (&[u8], Option<&[u8]>)
-    ensures parts { groups text.now ≡ result.0.now ∷ groups_left (option_copied result.1) }
-    ensures sizes { length result.0.now + bytes_left (option_copied result.1) ≡ length text.now }
+    ensures parts { groups text.now ≡ result.0.now ∷ groups_behind (option_copied result.1) }
+    ensures sizes { length result.0.now + bytes_behind (option_copied result.1) ≡ length text.now }
 {
     match parting(text) {
         Some(at) => (&text[..at], Some(&text[at + 1..])),
@@ -66,11 +66,11 @@ fn group_chars(text: &[u8]) -> Option<ArrayVec<char, 16>>
     ensures { option_map (λ chars. chars.items) result ≡ group_chars (groups text.now) }
 {
     let mut chars = ArrayVec::new();
-    let mut left = Some(text);
-    while let Some(text) = left {
+    let mut rest = Some(text);
+    while let Some(text) = rest {
         let (group, behind) = first_group(text);
         chars.push(group_char(group)?);
-        left = behind;
+        rest = behind;
     }
     Some(chars)
 }
