@@ -5,7 +5,7 @@ ghost use Rattle.kmn_items.specs.TokenTexts.{texts, Reads};
 ghost use Rattle.kmn_parser.specs.Line.{begins_kind, is_use, begin_head, begin_fault, read_begin, is_using_keys, group_head, group_fault, read_group};
 
 use crate::signs::{begins_word, behind_close, place_of};
-use crate::statement::{Sign, Statement};
+use crate::statement::{Line, Sign, Statement};
 use kmn_base::{Code, Seq};
 use kmn_items::{Fault, LineTokens, Slot, Trouble, begins_open, broken};
 use rule_model::{BeginDef, GroupDef};
@@ -55,20 +55,16 @@ fn begin_fault(last: usize, tokens: LineTokens<'_>) -> Option<Fault>
 
 /// Reads a begin statement.
 #[tactic(auto, unfolding(crate::specs::Line::read_begin))]
-pub(crate) fn read_begin(
-    alloc: Global,
-    line: u32,
-    last: usize,
-    tokens: LineTokens<'_>,
-) -> Result<Statement, Trouble>
-    requires { length (texts tokens) < 2 ^ 59 }
-    ensures { Reads (read_begin line last (texts tokens.entry)) result }
+pub(crate) fn read_begin(alloc: Global, line: Line<'_>) -> Result<Statement, Trouble>
+    requires { length (texts line.tokens) < 2 ^ 59 }
+    ensures { Reads (read_begin line.entry.number line.entry.last (texts line.entry.tokens)) result }
 {
+    let Line { number, last, tokens, .. } = line;
     if let Some(fault) = begin_fault(last, tokens) {
         return Err(Trouble::Broken(fault));
     }
     Ok(Statement::Begin(BeginDef {
-        line,
+        line: number,
         unicode: begins_word(b"Unicode", tokens.behind(1)),
         group: tokens.name(alloc, 5)?,
     }))
@@ -109,20 +105,16 @@ fn group_fault(last: usize, tokens: LineTokens<'_>) -> Option<Fault>
 
 /// Reads a group statement.
 #[tactic(auto, unfolding(crate::specs::Line::read_group))]
-pub(crate) fn read_group(
-    alloc: Global,
-    line: u32,
-    last: usize,
-    tokens: LineTokens<'_>,
-) -> Result<Statement, Trouble>
-    requires { length (texts tokens) < 2 ^ 59 }
-    ensures { Reads (read_group line last (texts tokens.entry)) result }
+pub(crate) fn read_group(alloc: Global, line: Line<'_>) -> Result<Statement, Trouble>
+    requires { length (texts line.tokens) < 2 ^ 59 }
+    ensures { Reads (read_group line.entry.number line.entry.last (texts line.entry.tokens)) result }
 {
+    let Line { number, last, tokens, .. } = line;
     if let Some(fault) = group_fault(last, tokens) {
         return Err(Trouble::Broken(fault));
     }
     Ok(Statement::Group(GroupDef {
-        line,
+        line: number,
         name: tokens.name(alloc, 2)?,
         using_keys: is_using_keys(behind_close(tokens.behind(2))),
         rules: Seq::new(alloc),

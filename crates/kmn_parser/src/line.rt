@@ -7,35 +7,29 @@ ghost use Rattle.kmn_parser.specs.Line.{read_tokens, read_line};
 use crate::group_line::{read_begin, read_group};
 use crate::rule_line::{read_match, read_rule};
 use crate::signs::begins_word;
-use crate::statement::{LastGroup, Statement};
+use crate::statement::{LastGroup, Line, Statement};
 use crate::store_line::read_store;
 use kmn_items::{LineTokens, Trouble};
 use rule_model::RuleKind;
 use std::alloc::Global;
 
-/// Reads the tokens of a line, of which there is one, by the first word.
-fn read_tokens(
-    alloc: Global,
-    group: LastGroup,
-    line: u32,
-    last: usize,
-    tokens: LineTokens<'_>,
-) -> Result<Statement, Trouble>
-    requires { length (texts tokens) < 2 ^ 59 }
-    ensures { Reads (read_tokens group line last (texts tokens.entry)) result }
+/// Reads a line by its first word.
+fn read_tokens(alloc: Global, line: Line<'_>) -> Result<Statement, Trouble>
+    requires { length (texts line.tokens) < 2 ^ 59 }
+    ensures { Reads (read_tokens line.entry.group line.entry.number line.entry.last (texts line.entry.tokens)) result }
 {
-    if begins_word(b"store", tokens) {
-        read_store(alloc, line, last, tokens)
-    } else if begins_word(b"begin", tokens) {
-        read_begin(alloc, line, last, tokens)
-    } else if begins_word(b"group", tokens) {
-        read_group(alloc, line, last, tokens)
-    } else if begins_word(b"match", tokens) {
-        read_match(alloc, RuleKind::OnMatch, group, line, last, tokens)
-    } else if begins_word(b"nomatch", tokens) {
-        read_match(alloc, RuleKind::OnNoMatch, group, line, last, tokens)
+    if begins_word(b"store", line.tokens) {
+        read_store(alloc, line)
+    } else if begins_word(b"begin", line.tokens) {
+        read_begin(alloc, line)
+    } else if begins_word(b"group", line.tokens) {
+        read_group(alloc, line)
+    } else if begins_word(b"match", line.tokens) {
+        read_match(alloc, RuleKind::OnMatch, line)
+    } else if begins_word(b"nomatch", line.tokens) {
+        read_match(alloc, RuleKind::OnNoMatch, line)
     } else {
-        read_rule(alloc, group, line, last, tokens)
+        read_rule(alloc, line)
     }
 }
 
@@ -43,14 +37,23 @@ fn read_tokens(
 pub(crate) fn read_line(
     alloc: Global,
     group: LastGroup,
-    line: u32,
+    number: u32,
     tokens: LineTokens<'_>,
 ) -> Result<Statement, Trouble>
     requires { length (texts tokens) < 2 ^ 59 }
-    ensures { Reads (read_line group line (texts tokens.entry)) result }
+    ensures { Reads (read_line group number (texts tokens.entry)) result }
 {
     if tokens.is_empty() {
         return Ok(Statement::Nothing);
     }
-    read_tokens(alloc, group, line, tokens.len() - 1, tokens)
+    let last = tokens.len() - 1;
+    read_tokens(
+        alloc,
+        Line {
+            number,
+            group,
+            last,
+            tokens,
+        },
+    )
 }

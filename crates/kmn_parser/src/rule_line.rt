@@ -5,7 +5,7 @@ ghost use Rattle.kmn_items.specs.TokenTexts.{texts, with_text, Reads};
 ghost use Rattle.kmn_parser.specs.Line.{no_group, is_empty_quote, has_items, no_output, match_fault, read_match, begins_rule, uses_keys, rule_head, rule_key, rule_body, code_number, earlier, rule_at, read_rule};
 
 use crate::signs::place_of;
-use crate::statement::{LastGroup, Sign, Statement};
+use crate::statement::{LastGroup, Line, Sign, Statement};
 use kmn_base::{Code, Seq};
 use kmn_items::{Fault, LineTokens, Trouble, Where, is_item_word, read_items, read_key, text_in};
 use kmn_lines::{Token, TokenKind};
@@ -91,21 +91,19 @@ fn match_fault(group: LastGroup, arrow: usize, tokens: LineTokens<'_>) -> Option
 pub(crate) fn read_match(
     alloc: Global,
     kind: RuleKind,
-    group: LastGroup,
-    line: u32,
-    last: usize,
-    tokens: LineTokens<'_>,
+    line: Line<'_>,
 ) -> Result<Statement, Trouble>
-    requires { length (texts tokens) < 2 ^ 59 }
-    ensures { Reads (read_match kind group line last (texts tokens.entry)) result }
+    requires { length (texts line.tokens) < 2 ^ 59 }
+    ensures { Reads (read_match kind line.entry.group line.entry.number line.entry.last (texts line.entry.tokens)) result }
 {
+    let Line { number, group, last, tokens } = line;
     let arrow = place_of(Sign::Arrow, tokens);
     if let Some(fault) = match_fault(group, arrow, tokens) {
         return Err(Trouble::Broken(fault));
     }
     match read_items(alloc, Where::Output, last, 2, tokens.behind(2)) {
         Ok(output) => Ok(Statement::Rule(RuleDef {
-            line,
+            line: number,
             kind,
             context: Seq::new(alloc),
             key: None,
@@ -164,26 +162,24 @@ fn rule_head(group: LastGroup, signs: Signs, tokens: LineTokens<'_>) -> Option<C
 #[tactic(auto, unfolding(crate::specs::Line::rule_key))]
 fn rule_key(
     alloc: Global,
-    group: LastGroup,
-    last: usize,
+    line: Line<'_>,
     signs: Signs,
-    tokens: LineTokens<'_>,
 ) -> Result<Option<SrcItem>, Trouble>
-    requires few { length (texts tokens) < 2 ^ 59 }
-    requires within { signs.arrow ≤ length (texts tokens) }
-    ensures { Reads (rule_key group last signs.arrow signs.plus (texts tokens.entry)) result }
+    requires few { length (texts line.tokens) < 2 ^ 59 }
+    requires within { signs.arrow ≤ length (texts line.tokens) }
+    ensures { Reads (rule_key line.entry.group line.entry.last signs.arrow signs.plus (texts line.entry.tokens)) result }
 {
     if signs.arrow <= signs.plus {
         return Ok(None);
     }
-    if !uses_keys(group) {
+    if !uses_keys(line.group) {
         return Err(Trouble::Broken(Fault {
             at: signs.plus,
             code: Code::S07,
         }));
     }
-    let key = tokens.before(signs.arrow).behind(signs.plus + 1);
-    match read_key(alloc, last, signs.plus + 1, key) {
+    let key = line.tokens.before(signs.arrow).behind(signs.plus + 1);
+    match read_key(alloc, line.last, signs.plus + 1, key) {
         Ok(item) => Ok(Some(item)),
         Err(trouble) => Err(trouble),
     }
@@ -191,31 +187,25 @@ fn rule_key(
 
 /// Reads the items of a rule, section by section.
 #[tactic(auto, unfolding(crate::specs::Line::rule_body))]
-fn rule_body(
-    alloc: Global,
-    group: LastGroup,
-    line: u32,
-    last: usize,
-    signs: Signs,
-    tokens: LineTokens<'_>,
-) -> Result<RuleDef, Trouble>
-    requires few { length (texts tokens) < 2 ^ 59 }
-    requires within { signs.arrow ≤ length (texts tokens) }
-    ensures { Reads (rule_body group line last signs.arrow signs.plus (texts tokens.entry)) result }
+fn rule_body(alloc: Global, line: Line<'_>, signs: Signs) -> Result<RuleDef, Trouble>
+    requires few { length (texts line.tokens) < 2 ^ 59 }
+    requires within { signs.arrow ≤ length (texts line.tokens) }
+    ensures { Reads (rule_body line.entry.group line.entry.number line.entry.last signs.arrow signs.plus (texts line.entry.tokens)) result }
 {
+    let Line { number, last, tokens, .. } = line;
     let before = tokens.before(signs.plus);
     let context = match read_items(alloc, Where::Context, last, 0, before) {
         Ok(context) => context,
         Err(trouble) => return Err(trouble),
     };
-    let key = match rule_key(alloc, group, last, signs, tokens) {
+    let key = match rule_key(alloc, line, signs) {
         Ok(key) => key,
         Err(trouble) => return Err(trouble),
     };
     let place = signs.arrow + 1;
     match read_items(alloc, Where::Output, last, place, tokens.behind(place)) {
         Ok(output) => Ok(RuleDef {
-            line,
+            line: number,
             kind: RuleKind::Plain,
             context,
             key,
@@ -261,20 +251,13 @@ fn earlier(head: Code, found: Fault) -> Fault
 }
 
 /// Reads a rule whose signs stand at their places.
-fn rule_at(
-    alloc: Global,
-    group: LastGroup,
-    line: u32,
-    last: usize,
-    signs: Signs,
-    tokens: LineTokens<'_>,
-) -> Result<Statement, Trouble>
-    requires few { length (texts tokens) < 2 ^ 59 }
-    requires within { signs.arrow ≤ length (texts tokens) }
-    ensures { Reads (rule_at group line last signs.arrow signs.plus (texts tokens.entry)) result }
+fn rule_at(alloc: Global, line: Line<'_>, signs: Signs) -> Result<Statement, Trouble>
+    requires few { length (texts line.tokens) < 2 ^ 59 }
+    requires within { signs.arrow ≤ length (texts line.tokens) }
+    ensures { Reads (rule_at line.entry.group line.entry.number line.entry.last signs.arrow signs.plus (texts line.entry.tokens)) result }
 {
-    let head = rule_head(group, signs, tokens);
-    match rule_body(alloc, group, line, last, signs, tokens) {
+    let head = rule_head(line.group, signs, line.tokens);
+    match rule_body(alloc, line, signs) {
         Ok(rule) => match head {
             None => Ok(Statement::Rule(rule)),
             Some(code) => Err(Trouble::Broken(Fault { at: 0, code })),
@@ -289,17 +272,11 @@ fn rule_at(
 
 /// Reads a rule.
 #[tactic(auto, unfolding(crate::specs::Line::read_rule))]
-pub(crate) fn read_rule(
-    alloc: Global,
-    group: LastGroup,
-    line: u32,
-    last: usize,
-    tokens: LineTokens<'_>,
-) -> Result<Statement, Trouble>
-    requires { length (texts tokens) < 2 ^ 59 }
-    ensures { Reads (read_rule group line last (texts tokens.entry)) result }
+pub(crate) fn read_rule(alloc: Global, line: Line<'_>) -> Result<Statement, Trouble>
+    requires { length (texts line.tokens) < 2 ^ 59 }
+    ensures { Reads (read_rule line.entry.group line.entry.number line.entry.last (texts line.entry.tokens)) result }
 {
-    let arrow = place_of(Sign::Arrow, tokens);
-    let plus = place_of(Sign::Plus, tokens.before(arrow));
-    rule_at(alloc, group, line, last, Signs { arrow, plus }, tokens)
+    let arrow = place_of(Sign::Arrow, line.tokens);
+    let plus = place_of(Sign::Plus, line.tokens.before(arrow));
+    rule_at(alloc, line, Signs { arrow, plus })
 }

@@ -1,3 +1,4 @@
+use kmn_items::LineTokens;
 use rule_model::{BeginDef, GroupDef, RuleDef, StoreDef};
 
 /// What a logical line states.
@@ -22,6 +23,16 @@ pub enum LastGroup {
     UsingKeys,
     /// The group uses no keys.
     WithoutKeys,
+}
+
+/// A line that has a token: the number of its first physical line, from 1, the last group before it, its tokens, and the
+/// place of the last of them, where a statement breaks off at the latest.
+#[derive(Clone, Copy)]
+pub(crate) struct Line<'a> {
+    pub(crate) number: u32,
+    pub(crate) group: LastGroup,
+    pub(crate) last: usize,
+    pub(crate) tokens: LineTokens<'a>,
 }
 
 /// A sign that parts a statement.

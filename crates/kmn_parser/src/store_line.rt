@@ -5,7 +5,7 @@ ghost use Rattle.kmn_base.specs.Names.{named_in};
 ghost use Rattle.kmn_items.specs.TokenTexts.{texts, Reads};
 ghost use Rattle.kmn_parser.specs.Line.{system_stores, store_system, store_form, store_fault, store_def, read_store};
 
-use crate::statement::Statement;
+use crate::statement::{Line, Statement};
 use kmn_base::names::named_in;
 use kmn_base::{Code, Memory, Seq};
 use kmn_items::{
@@ -118,20 +118,16 @@ fn store_def(alloc: Global, line: u32, name: &[u8], items: Seq<SrcItem>) -> Resu
 
 /// Reads a store statement.
 #[tactic(auto, unfolding(crate::specs::Line::read_store))]
-pub(crate) fn read_store(
-    alloc: Global,
-    line: u32,
-    last: usize,
-    tokens: LineTokens<'_>,
-) -> Result<Statement, Trouble>
-    requires { length (texts tokens) < 2 ^ 59 }
-    ensures { Reads (read_store line last (texts tokens.entry)) result }
+pub(crate) fn read_store(alloc: Global, line: Line<'_>) -> Result<Statement, Trouble>
+    requires { length (texts line.tokens) < 2 ^ 59 }
+    ensures { Reads (read_store line.entry.number line.entry.last (texts line.entry.tokens)) result }
 {
+    let Line { number, last, tokens, .. } = line;
     if let Some(fault) = store_fault(last, tokens) {
         return Err(Trouble::Broken(fault));
     }
     match read_items(alloc, Where::Store, last, 4, tokens.behind(4)) {
-        Ok(items) => Ok(Statement::Store(store_def(alloc, line, tokens.text(2), items)?)),
+        Ok(items) => Ok(Statement::Store(store_def(alloc, number, tokens.text(2), items)?)),
         Err(trouble) => Err(trouble),
     }
 }
