@@ -1,9 +1,9 @@
 //! Presses of keys on an engine, and texts that it reads again.
 
 use crate::fixtures::{press, sign, tables};
-use kmn_base::{Item, Memory, Outcome, RuleKey, Seq};
+use kmn_base::{Element, Item, Memory, Outcome, RuleKey, Seq};
 use rule_engine::{Engine, can_run};
-use rule_model::{Group, Out, Pat, Rule, Tables};
+use rule_model::{Group, Out, Pat, Rule, Store, Tables};
 use std::alloc::Global;
 use std::fmt::Write;
 use std::test::Fail;
@@ -191,5 +191,31 @@ fn more_taken_than_the_window(rt: HostRuntime) -> Result<(), Fail> {
     assert!(rt; can_run(&tables));
     let mut engine = Engine::of_tables(rt.alloc(), &tables)?;
     assert!(rt; takes_all(&mut engine));
+    Ok(())
+}
+
+/// Tables without records whose own keys have these names, with a space between each two.
+fn with_own_keys(alloc: Global, names: &str) -> Result<Tables, Memory> {
+    let store = Store {
+        system: 34,
+        name: Seq::new(alloc),
+        elements: Seq::from_vec(names.chars().map(|c| Element::Char(c)).collect(alloc)?),
+    };
+    tables(
+        alloc,
+        Seq::from_vec(vec![in alloc; store]?),
+        Seq::new(alloc),
+    )
+}
+
+#[test]
+fn names_of_own_keys(rt: HostRuntime) -> Result<(), Fail> {
+    let tables = with_own_keys(rt.alloc(), "T_ONE U_00E9 t_one T_TWO")?;
+    assert!(rt; can_run(&tables));
+    let engine = Engine::of_tables(rt.alloc(), &tables)?;
+    let names = engine.names();
+    assert!(rt; names.code_of(b"U_00e9") == Some(257));
+    assert!(rt; names.name_at(258) == Some(b"T_TWO".as_slice()));
+    assert!(rt; names.name_at(259).is_none());
     Ok(())
 }

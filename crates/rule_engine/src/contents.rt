@@ -9,12 +9,12 @@ ghost use Rattle.rule_engine.specs.StoreValues.{elements_in};
 
 use crate::store_value::StoreValue;
 use option_store::{Held, Options};
-use rule_model::IndexedTables;
+use rule_index::IndexedKeyboard;
 
 /// What is held for a store: the elements of a store of the tables, or the host's text.
 #[tactic(auto, using(crate::proofs::StoreContents::elements_held))]
 fn held<'c>(
-    indexed: &'c IndexedTables,
+    indexed: &'c IndexedKeyboard,
     options: &'c Options,
     store: u32,
     held: Held,
@@ -30,7 +30,7 @@ fn held<'c>(
 
 /// What a store has at a moment: the current value of an option, else its elements; nothing where there is no such store.
 #[tactic(auto, using(crate::proofs::StoreContents::option_within, crate::proofs::StoreContents::current_is_content, crate::proofs::StoreContents::elements_are_content))]
-pub fn content<'c>(indexed: &'c IndexedTables, options: &'c Options, store: u32) -> StoreValue<'c>
+pub fn content<'c>(indexed: &'c IndexedKeyboard, options: &'c Options, store: u32) -> StoreValue<'c>
     requires { length options.now ≡ length indexed.now.stores }
     ensures { elements_in result ≡ content (tab indexed.now).stores (option_values (tab indexed.now).stores options.now) (Numbered store) }
 {
@@ -43,7 +43,7 @@ pub fn content<'c>(indexed: &'c IndexedTables, options: &'c Options, store: u32)
 /// The saved value of a store, None where nothing is saved or the store is no option.
 #[tactic(auto, using(crate::proofs::StoreContents::option_within, crate::proofs::StoreContents::saved_is_of, crate::proofs::StoreContents::unsaved_is_of))]
 pub fn saved_of<'c>(
-    indexed: &'c IndexedTables,
+    indexed: &'c IndexedKeyboard,
     options: &'c Options,
     store: u32,
 ) -> Option<StoreValue<'c>>

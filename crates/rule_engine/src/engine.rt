@@ -23,15 +23,17 @@ use kmn_base::names::same_name;
 use kmn_base::{Item, KeyPress, Memory, Outcome};
 use kmx_verifier::Verified;
 use option_store::Options;
-use rule_model::{IndexedTables, Rule, Store, Tables};
+use rule_index::IndexedKeyboard;
+use rule_model::{Rule, Store, Tables};
 use std::alloc::Global;
 use std::marker::Model;
 use std::mem;
+use virtual_keys::KeyDictionary;
 
 /// A keyboard at work: the last items before the caret, what the stores hold, and what the last press inserted.
 #[derive(Drop)]
 pub struct Engine<'a> {
-    indexed: IndexedTables<'a>,
+    indexed: IndexedKeyboard<'a>,
     stated: &'a Tables,
     cache: Cache,
     options: Options,
@@ -67,7 +69,7 @@ impl<'a> Engine<'a> {
         requires { IsRunnable tables.now }
         ensures { IfOk result (λ engine. engine ≡ first_engine tables.now) }
     {
-        let indexed = IndexedTables::new(alloc, tables)?;
+        let indexed = IndexedKeyboard::new(alloc, tables)?;
         let options = Options::new(alloc, tables.stores.len() as u32)?;
         let inserted = Inserted::with_room(alloc)?;
         Ok(Engine {
@@ -83,7 +85,7 @@ impl<'a> Engine<'a> {
     pub fn copy(&self, alloc: Global) -> Result<Engine<'a>, Memory>
         ensures { IfOk result (λ engine. engine ≡ self.now) }
     {
-        let indexed = IndexedTables::new(alloc, self.stated)?;
+        let indexed = IndexedKeyboard::new(alloc, self.stated)?;
         let options = self.options.copy(alloc)?;
         let inserted = self.inserted.copy(alloc)?;
         Ok(Engine {
@@ -180,6 +182,13 @@ impl<'a> Engine<'a> {
         self.stated
     }
 
+    /// The names of the file's own keys.
+    pub fn names(&self) -> &KeyDictionary
+        ensures { result.now ≡ (tab self.now.tables).dictionary }
+    {
+        self.indexed.names()
+    }
+
     /// The option number of each store; None for a store that is no option.
     pub fn option_numbers(&self) -> &[Option<usize>]
         ensures { result.now ≡ option_numbers 0 (tab self.now.tables).stores }
@@ -220,7 +229,7 @@ impl<'a> Engine<'a> {
 
 /// What a press leaves of the text before the caret and of the options.
 fn pressed(
-    indexed: &IndexedTables,
+    indexed: &IndexedKeyboard,
     left: &[char],
     key: KeyPress,
     cache: Cache,

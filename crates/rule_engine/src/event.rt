@@ -18,7 +18,7 @@ use event_text::{Inserted, Left};
 use kmn_base::limits::EVENT_PUTS;
 use kmn_base::{Item, KeyPress, Outcome};
 use option_store::Options;
-use rule_model::IndexedTables;
+use rule_index::IndexedKeyboard;
 use std::marker::Model;
 use virtual_keys::codes::K_BKSP;
 use virtual_keys::is_plain;
@@ -26,7 +26,7 @@ use virtual_keys::is_plain;
 /// What one key press acts on. Nothing of it takes memory.
 #[derive(Drop)]
 pub struct Event<'a> {
-    indexed: &'a IndexedTables<'a>,
+    indexed: &'a IndexedKeyboard<'a>,
     left: Left<'a>,
     options: Options,
     pass: bool,
@@ -77,7 +77,7 @@ impl<'a> Event<'a> {
 
     /// Begins on a text that is read again, with the last items and the options as they were before.
     pub fn begin(
-        indexed: &'a IndexedTables<'a>,
+        indexed: &'a IndexedKeyboard<'a>,
         lent: &'a [char],
         inserted: Inserted,
         cache: Cache,
@@ -135,7 +135,7 @@ impl<'a> Event<'a> {
     }
 
     /// The tables.
-    pub fn indexed(&self) -> &'a IndexedTables<'a>
+    pub fn indexed(&self) -> &'a IndexedKeyboard<'a>
         ensures value { result.now ≡ self.now.tables }
         ensures short { HasShortContexts result.now }
     {

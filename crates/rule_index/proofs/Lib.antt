@@ -2,5 +2,6 @@ pub mod Finding
 pub mod Meeting
 pub mod Next
 pub mod Numbering
+pub mod OwnNames
 pub mod Places
 pub mod Skipping

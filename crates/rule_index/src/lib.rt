@@ -4,15 +4,18 @@
 //! It stands on `kmn_base`, `rule_model` and `virtual_keys`. The layer above makes a `RuleIndex` of each group's records,
 //! asks `wanted_classes` of a press and the list before the caret, and tries the records that `next_candidate` answers, in
 //! the file's order. A `PlaceIndex` of a store answers the place that `any` catches, and `value_numbers` numbers values so
-//! that conditions compare numbers. `specs/Classes` says by what a record can be met, `specs/Next` which record is the next
-//! candidate. The laws stand in `laws`: a record that holds is among the wanted ones, so the first record that holds is the
-//! first candidate that does.
+//! that conditions compare numbers. An `IndexedKeyboard` is tables with what an engine looks up in them, made once; among it
+//! is the dictionary of their own keys, by which a script is read (`own_keys`). `specs/Classes` says by what a record can be
+//! met, `specs/Next` which record is the next candidate. The laws stand in `laws`: a record that holds is among the wanted
+//! ones, so the first record that holds is the first candidate that does.
 #![tactic(auto)]
 
 mod class;
 mod classes;
 mod elements;
+mod indexed_keyboard;
 pub mod laws;
+mod own_names;
 mod place_index;
 mod row;
 mod rows;
@@ -23,6 +26,8 @@ mod values;
 
 pub use class::Class;
 pub use classes::wanted_classes;
+pub use indexed_keyboard::IndexedKeyboard;
+pub use own_names::own_keys;
 pub use place_index::PlaceIndex;
 pub use rule_index::RuleIndex;
 pub use values::value_numbers;
