@@ -1,4 +1,4 @@
-ghost use Rattle.std.specs.Prelude.{◌≡◌, ◌<◌, ◌≤◌, ◌^◌, IsTrue, length, option_map, option_and_then, slice_get, IfOk, MatchOption, MatchResult, is_some};
+ghost use Rattle.std.specs.Prelude.{◌≡◌, ◌<◌, ◌≤◌, ◌^◌, ◌↔◌, IsTrue, All, length, option_map, option_and_then, slice_get, IfOk, MatchOption, MatchResult, is_some};
 ghost use Rattle.std.specs.Option.{option_flatten};
 ghost use Rattle.kmn_base.specs.declared.limits.TheConstants.{EVENT_PUTS};
 ghost use Rattle.kmx_format.specs.TablesOf.{tables_of};
@@ -24,7 +24,7 @@ use kmn_base::{Item, KeyPress, Memory, Outcome};
 use kmx_verifier::Verified;
 use option_store::Options;
 use rule_index::IndexedKeyboard;
-use rule_model::{Rule, Store, Tables};
+use rule_model::{Group, Rule, Store, Tables};
 use std::alloc::Global;
 use std::marker::Model;
 use std::mem;
@@ -63,7 +63,7 @@ impl<'a> Engine<'a> {
         Engine::of_tables(alloc, file.tables())
     }
 
-    /// The engine of tables that a file could have.
+    /// The engine of tables that a file could have. `can_run` tells whether tables are such.
     #[tactic(auto, using(crate::proofs::Engines::first_is_at_work, crate::proofs::Engines::first_values))]
     pub fn of_tables(alloc: Global, tables: &'a Tables) -> Result<Engine<'a>, Memory>
         requires { IsRunnable tables.now }
@@ -249,18 +249,23 @@ fn pressed(
 
 /// Whether no context of records has more items than are caught.
 fn are_short(rules: &[Rule]) -> bool
-    ensures { IsTrue result → AreShort rules.now }
+    ensures { IsTrue result ↔ AreShort rules.now }
 {
     rules.iter().all(|rule| rule.context.len() <= CONTEXT_ITEMS)
 }
 
-/// Whether tables can be run, as those of every valid file can.
-pub fn can_run(tables: &Tables) -> bool
-    ensures { IsTrue result → IsRunnable tables.now }
+/// Whether no group has a record with a longer context.
+fn have_short_contexts(groups: &[Group]) -> bool
+    ensures { IsTrue result ↔ All (λ group. AreShort group.rules) groups.now }
 {
-    let groups = tables.groups.as_slice();
-    tables.stores.len() < 0x1_0000_0000
-        && groups.iter().all(|group| are_short(group.rules.as_slice()))
+    groups.iter().all(|group| are_short(group.rules.as_slice()))
+}
+
+/// Whether tables can be run, as those of every valid file can. It is for tables that are made otherwise, as tests make them.
+pub fn can_run(tables: &Tables) -> bool
+    ensures { IsTrue result ↔ IsRunnable tables.now }
+{
+    tables.stores.len() < 0x1_0000_0000 && have_short_contexts(tables.groups.as_slice())
 }
 
 /// Whether an option has a name.
