@@ -1,5 +1,5 @@
 -- How many items were caught.
-use Rattle.std.proofs.Common.{◌≡◌, ◌≤◌, List, length, arith}
+use Rattle.std.proofs.Common.{◌≤◌, List, length, arith}
 use Rattle.std.specs.Prelude.{is_some, filter_map}
 use Rattle.std.proofs.lemmas.List.Sums.{count_by-le-length}
 use Rattle.rule_model.specs.declared.event_state.Catch.{Catch}

@@ -16,7 +16,7 @@ use Rattle.rule_model.specs.declared.tables.Rule.{Rule}
 use Rattle.rule_model.specs.declared.tables.Store.{Store}
 use Rattle.rule_model.specs.declared.tables.Tables.{Tables}
 use Rattle.rule_model.specs.Keyboard.{Pattern, RuleMeaning}
-use Rattle.rule_model.specs.Choose.{first, first_with, Chosen}
+use Rattle.rule_model.specs.Choose.{first, first_with}
 use Rattle.rule_model.specs.Match.{Content, takes_item, catches_from}
 use Rattle.rule_model.specs.Hold.{is_true, is_at_start, pattern_count, has_room, caught_by, fitting_place, holds}
 use Rattle.rule_model.specs.Tab.{tab_pattern, tab_rule}

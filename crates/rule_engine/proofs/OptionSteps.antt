@@ -9,7 +9,7 @@ use Rattle.rule_model.specs.Keyboard.{Numbered, StoreMeaning}
 use Rattle.rule_model.specs.Tab.{tab, elements_of}
 use Rattle.option_store.specs.declared.options.Cell.{Cell}
 use Rattle.option_store.specs.Cells.{changed, set_cell, save_cell, reset_cell}
-use Rattle.option_store.specs.Meaning.{option_values, option_saves, with_values}
+use Rattle.option_store.specs.Meaning.{with_values}
 use Rattle.option_store.proofs.Meaning.{calls_follow}
 use Rattle.rule_engine.specs.Event.{EventValue, keyboard_of}
 use Rattle.rule_engine.proofs.StoreContents.{elements_meant}

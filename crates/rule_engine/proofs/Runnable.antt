@@ -1,10 +1,12 @@
 -- The tables of a valid file can be run.
-use Rattle.std.proofs.Common.{◌≤◌, List, [], ◌∷◌, length, arith}
+use Rattle.std.proofs.Common.{◌<◌, ◌≤◌, ℕ, List, [], ◌∷◌, length, arith}
 use Rattle.std.specs.List.{All, AllByRecursion}
 use Rattle.std.proofs.lemmas.List.Elements.{All-from_recursion, recursion_from_All}
+use Rattle.std.proofs.lemmas.List.Folds.{length-flat_map-take}
 use Rattle.rule_model.specs.declared.tables.Group.{Group}
 use Rattle.rule_model.specs.declared.tables.Rule.{Rule}
 use Rattle.rule_model.specs.declared.tables.Tables.{Tables}
+use Rattle.kmx_format.specs.File.{rules_of}
 use Rattle.kmx_format.specs.Playable.{IsPlayable, IsPlayableGroup}
 use Rattle.kmx_format.specs.Writable.{IsWritableRule}
 use Rattle.rule_engine.specs.Event.{AreShort}
@@ -25,5 +27,6 @@ playable_is_runnable tables can = record {
       each (IsWritableRule (length tables.stores) (length tables.groups) group.using_keys) (λ (rule : Rule). length rule.context ≤ 60) group.rules
       (λ (rule : Rule) (r : IsWritableRule (length tables.stores) (length tables.groups) group.using_keys rule). r.context.item_count) g.rules)
       can.groups;
+  few = λ (i : ℕ) (d : Group) (within : i < length tables.groups). omega (arith, length-flat_map-take rules_of tables.groups i d within, can.rule_count);
   stores = omega (arith, can.store_count);
 }

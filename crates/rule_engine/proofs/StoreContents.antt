@@ -6,12 +6,11 @@ use Rattle.kmn_base.specs.declared.items.Element.{Element}
 use Rattle.rule_model.specs.declared.tables.Tables.{Tables}
 use Rattle.rule_model.specs.Content.{content, option_number, option_of, options_before, elements_at}
 use Rattle.rule_model.specs.Keyboard.{Numbered, StoreMeaning}
-use Rattle.rule_model.specs.Tab.{tab, tab_options, with_options, elements_of}
+use Rattle.rule_model.specs.Tab.{tab, tab_options, elements_of}
 use Rattle.rule_model.proofs.PlainOptions.{content_of_option, content_of_other, elements_with_options, length-with_options}
 use Rattle.option_store.specs.declared.options.Cell.{Cell}
-use Rattle.option_store.specs.declared.options.Held.{Held}
 use Rattle.option_store.specs.declared.options.Held.TheVariants.{Store}
-use Rattle.option_store.specs.Cells.{cell_at, held_value, current_value, saved_value}
+use Rattle.option_store.specs.Cells.{cell_at, held_value}
 use Rattle.option_store.specs.Meaning.{stated, option_values, option_saves}
 use Rattle.option_store.proofs.Meaning.{stated_at, option_value_found, option_save_found}
 use Rattle.rule_engine.specs.Engine.{saved_of}

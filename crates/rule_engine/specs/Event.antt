@@ -1,7 +1,6 @@
 -- The state inside an event as the engine has it: the tables, the lent text, and the state of the event that they stand for.
 use Rattle.std.specs.Prelude.{◌≤◌, ℕ, List, length, All}
-use Rattle.kmn_base.specs.declared.keys.KeyPress.{KeyPress}
-use Rattle.kmn_base.specs.declared.limits.TheConstants.{CONTEXT_ITEMS}
+use Rattle.kmn_base.specs.declared.limits.TheConstants.{CONTEXT_ITEMS, RECORDS}
 use Rattle.rule_model.specs.declared.event_state.EventState.{EventState}
 use Rattle.rule_model.specs.declared.tables.Rule.{Rule}
 use Rattle.rule_model.specs.declared.tables.Group.{Group}
@@ -36,3 +35,7 @@ AreShort rules = All (λ rule. length rule.context ≤ CONTEXT_ITEMS) rules
 
 abbrev pub HasShortContexts : Tables → Type 0
 HasShortContexts tables = All (λ (group : Group). AreShort group.rules) tables.groups
+
+-- no group has more records than a file may have
+abbrev pub HaveFewRecords : List Group → Type 0
+HaveFewRecords groups = All (λ (group : Group). length group.rules ≤ RECORDS) groups

@@ -9,7 +9,7 @@ ghost use Rattle.rule_model.specs.Keyboard.{Numbered};
 ghost use Rattle.rule_model.specs.Plain.{option_numbers, option_named as named_option};
 ghost use Rattle.rule_model.specs.Tab.{tab};
 ghost use Rattle.rule_engine.specs.Engine.{IsAtWork, IsRunnable, engine_with, press_outcome, press_leaves};
-ghost use Rattle.rule_engine.specs.Event.{AreShort};
+ghost use Rattle.rule_engine.specs.Event.{AreShort, HaveFewRecords};
 ghost use Rattle.rule_engine.specs.StoreValues.{elements_in};
 
 use crate::contents;
@@ -18,7 +18,7 @@ use crate::event::{Event, Pressed};
 use crate::store_value::StoreValue;
 use context_cache::Cache;
 use event_text::Inserted;
-use kmn_base::limits::CONTEXT_ITEMS;
+use kmn_base::limits::{CONTEXT_ITEMS, RECORDS};
 use kmn_base::names::same_name;
 use kmn_base::{Item, KeyPress, Memory, Outcome};
 use kmx_verifier::Verified;
@@ -261,11 +261,19 @@ fn have_short_contexts(groups: &[Group]) -> bool
     groups.iter().all(|group| are_short(group.rules.as_slice()))
 }
 
+/// Whether no group has more records than a file may have.
+fn have_few_records(groups: &[Group]) -> bool
+    ensures { IsTrue result ↔ HaveFewRecords groups.now }
+{
+    groups.iter().all(|group| group.rules.len() <= RECORDS)
+}
+
 /// Whether tables can be run, as those of every valid file can. It is for tables that are made otherwise, as tests make them.
 pub fn can_run(tables: &Tables) -> bool
     ensures { IsTrue result ↔ IsRunnable tables.now }
 {
-    tables.stores.len() < 0x1_0000_0000 && have_short_contexts(tables.groups.as_slice())
+    let groups = tables.groups.as_slice();
+    tables.stores.len() < 0x1_0000_0000 && have_short_contexts(groups) && have_few_records(groups)
 }
 
 /// Whether an option has a name.

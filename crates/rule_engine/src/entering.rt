@@ -5,6 +5,8 @@ ghost use Rattle.rule_model.specs.Act.{act_one, act, enter_if_allowed, items_cau
 ghost use Rattle.rule_model.specs.Enter.{do_chosen, do_unmatched, do_group, chosen_in, in_group};
 ghost use Rattle.rule_model.specs.KeyEvent.{after_key};
 ghost use Rattle.rule_model.specs.Tab.{tab_output, tab_rule, tab_group};
+ghost use Rattle.rule_index.specs.Groups.{record_classes};
+ghost use Rattle.rule_index.specs.Rows.{IsIndexOf};
 ghost use Rattle.rule_engine.specs.Event.{keyboard_of, enters, AreShort};
 
 use crate::caught::Caught;
@@ -15,6 +17,7 @@ use crate::matching::chosen_in;
 use crate::outputs::{put_any, put_context, put_index};
 use kmn_base::limits::EVENT_ENTRIES;
 use kmn_base::{Item, KeyPress};
+use rule_index::RuleIndex;
 use rule_model::{Group, Out, Rule};
 
 /// A press that enters groups, with so many entries inside one another that may still come.
@@ -137,14 +140,15 @@ fn do_unmatched(entering: Entering, group: &Group, event: &mut Event)
 
 /// What a group does.
 #[cycle(acts)]
-fn do_group(entering: Entering, group: &Group, event: &mut Event)
-    requires { AreShort group.now.rules }
+fn do_group(entering: Entering, group: &Group, records: &RuleIndex, event: &mut Event)
+    requires short { AreShort group.now.rules }
+    requires index { IsIndexOf (record_classes group.now) records.now }
     ensures { event.new ≡ record event.old {
       state = do_group (keyboard_of event.old) (enters event.old entering) entering.press (tab_group event.old.tables.stores group.now)
           (chosen_in (keyboard_of event.old) entering.press (tab_group event.old.tables.stores group.now) event.old.state) event.old.state;
     } }
 {
-    match chosen_in(entering.press, event, group) {
+    match chosen_in(entering.press, event, group, records) {
         Some((rule, caught)) => do_chosen(entering, group, rule, &caught, event),
         None => do_unmatched(entering, group, event),
     }
@@ -159,8 +163,8 @@ fn in_group(entering: Entering, group: u32, event: &mut Event)
           (option_map (tab_group event.old.tables.stores) (slice_get event.old.tables.groups group)) event.old.state;
     } }
 {
-    if let Some(group) = event.indexed().group(group) {
-        do_group(entering, group, event);
+    if let Some((group, records)) = event.indexed().group(group) {
+        do_group(entering, group, records, event);
     }
 }
 

@@ -9,6 +9,9 @@ ghost use Rattle.rule_model.specs.Choose.{first};
 ghost use Rattle.rule_model.specs.Enter.{chosen_in};
 ghost use Rattle.rule_model.specs.Tab.{elements_of, tab_pattern, tab_rule, tab_group};
 ghost use Rattle.rule_model.specs.Plain.{caught_last};
+ghost use Rattle.rule_index.specs.Classes.{rule_class};
+ghost use Rattle.rule_index.specs.Groups.{record_classes};
+ghost use Rattle.rule_index.specs.Rows.{IsIndexOf};
 ghost use Rattle.rule_engine.specs.Event.{content_in, keyboard_of, AreShort};
 
 use crate::caught::{Caught, Found};
@@ -17,6 +20,7 @@ use crate::event::Event;
 use crate::store_value::StoreValue;
 use arrayvec::ArrayVec;
 use kmn_base::{Element, Item, KeyPress, RuleKey};
+use rule_index::{RuleIndex, wanted_classes};
 use rule_model::{Group, Pat, Rule};
 use virtual_keys::fits;
 
@@ -196,22 +200,29 @@ fn holds(
     with_key(caught_last(event, context, left))
 }
 
-/// The first of some records that holds on a list at a moment, and what it has caught.
+/// The first of some records that holds on a list at a moment, and what it has caught. Only those are tried that their index
+/// names for the press and the last item: no other can hold.
 fn first_of<'g>(
     event: &Event,
     press: KeyPress,
     using_keys: bool,
     rules: &'g [Rule],
+    records: &RuleIndex,
     left: &[Item],
 ) -> Option<(&'g Rule, Caught)>
-    requires { AreShort rules.now }
+    requires short { AreShort rules.now }
+    requires index { IsIndexOf (map (λ rule. rule_class (tab_rule [] using_keys rule)) rules.now) records.now }
     ensures { option_map (λ c. (tab_rule event.now.tables.stores using_keys c.0.now, c.1)) result ≡ first
         (holds (content_in event.now) left.now press) (map (tab_rule event.now.tables.stores using_keys) rules.now) }
 {
-    for rule in rules {
+    let wanted = wanted_classes(press, left);
+    let mut from = 0;
+    while let Some(number) = records.next_candidate(&wanted, from) {
+        let rule = &rules[number as usize];
         if let Some(caught) = holds(event, press, using_keys, rule, left) {
             return Some((rule, caught));
         }
+        from = number + 1;
     }
     None
 }
@@ -223,8 +234,10 @@ pub fn chosen_in<'g>(
     press: KeyPress,
     event: &mut Event,
     group: &'g Group,
+    records: &RuleIndex,
 ) -> Option<(&'g Rule, Caught)>
-    requires { AreShort group.now.rules }
+    requires short { AreShort group.now.rules }
+    requires index { IsIndexOf (record_classes group.now) records.now }
     ensures chosen { option_map (λ c. (tab_rule event.old.tables.stores group.now.using_keys c.0.now, c.1)) result ≡ chosen_in
         (keyboard_of event.old) press (tab_group event.old.tables.stores group.now) event.old.state }
     ensures same { event.new ≡ event.old }
@@ -235,6 +248,7 @@ pub fn chosen_in<'g>(
         press,
         group.using_keys,
         group.rules.as_slice(),
+        records,
         window.items(),
     )
 }

@@ -1,4 +1,5 @@
 pub mod Finding
+pub mod GroupIndexes
 pub mod Meeting
 pub mod Next
 pub mod Numbering

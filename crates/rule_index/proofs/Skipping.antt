@@ -9,7 +9,7 @@ use Rattle.rule_model.specs.declared.tables.Rule.{Rule}
 use Rattle.rule_model.specs.declared.tables.Store.{Store}
 use Rattle.rule_model.specs.Match.{Content, takes_item}
 use Rattle.rule_model.specs.Hold.{holds}
-use Rattle.rule_model.specs.Choose.{Chosen, first, first_with}
+use Rattle.rule_model.specs.Choose.{Chosen, first_with}
 use Rattle.rule_model.specs.Tab.{tab_pattern, tab_rule}
 use Rattle.rule_index.specs.Classes.{key_part, pattern_class, last_class, class_of, rule_class, wanted_classes}
 use Rattle.rule_index.specs.Laws.{ClassIsOfTheRecord, FirstIsCandidate}

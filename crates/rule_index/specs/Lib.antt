@@ -1,5 +1,6 @@
 pub mod Classes
 pub mod Elements
+pub mod Groups
 pub mod Laws
 pub mod Next
 pub mod Rows

@@ -1,13 +1,13 @@
 //! Finds, of a group's records, those that can hold for a press and the last item before the caret, and the first place of
 //! an item in a store, both by search.
 //!
-//! It stands on `kmn_base`, `rule_model` and `virtual_keys`. The layer above makes a `RuleIndex` of each group's records,
-//! asks `wanted_classes` of a press and the list before the caret, and tries the records that `next_candidate` answers, in
-//! the file's order. A `PlaceIndex` of a store answers the place that `any` catches, and `value_numbers` numbers values so
-//! that conditions compare numbers. An `IndexedKeyboard` is tables with what an engine looks up in them, made once; among it
-//! is the dictionary of their own keys, by which a script is read (`own_keys`). `specs/Classes` says by what a record can be
-//! met, `specs/Next` which record is the next candidate. The laws stand in `laws`: a record that holds is among the wanted
-//! ones, so the first record that holds is the first candidate that does.
+//! It stands on `kmn_base`, `rule_model` and `virtual_keys`. The layer above makes an `IndexedKeyboard` of tables, which has
+//! once and for all what is looked up in them: an index of each group's records (`specs/Groups`), and the dictionary of their
+//! own keys, by which a script is read (`own_keys`). It asks `wanted_classes` of a press and the list before the caret, and
+//! tries the records that `next_candidate` of a group's `RuleIndex` answers, in the file's order. A `PlaceIndex` of a store
+//! answers the place that `any` catches, and `value_numbers` numbers values so that conditions compare numbers. `specs/Classes`
+//! says by what a record can be met, `specs/Next` which record is the next candidate. The laws stand in `laws`: a record that
+//! holds is among the wanted ones, so the first record that holds is the first candidate that does.
 #![tactic(auto)]
 
 mod class;

@@ -6,7 +6,6 @@ use Rattle.option_store.specs.Meaning.{option_values, option_saves}
 use Rattle.rule_model.specs.declared.tables.Tables.{Tables}
 use Rattle.rule_model.specs.KeyEvent.{after_key, outcome_of, inserted}
 use Rattle.rule_model.specs.Tab.{tab}
-use Rattle.rule_engine.specs.Engine.{engine_with, pressed}
 use Rattle.rule_engine.specs.Event.{EventValue, keyboard_of}
 use Rattle.rule_engine.proofs.engine.pressed.Goals as goal
 

@@ -25,5 +25,5 @@ returns-clause-chosen c =
     c.window-window.ensures.same (c.first_of.ensures ∙ ap (λ (xs : List Rule). first (holds (content_in c.window-window.new.self) c.items.result.now c.args.press)
     (map (tab_rule c.window-window.new.self.tables.stores using_keys) xs)) c.as_slice.ensures)
     ∙ (ap (here event) last
-    ∙ (first_in_window (content_in event) event.state.left c.args.press event.tables.stores using_keys rules c.requires
+    ∙ (first_in_window (content_in event) event.state.left c.args.press event.tables.stores using_keys rules c.requires.short
     ∙ sym (chosen_first event.tables c.args.press (tab_group event.tables.stores c.args.group.now) event.state)))

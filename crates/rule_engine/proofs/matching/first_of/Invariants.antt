@@ -1,10 +1,14 @@
-use Rattle.std.proofs.Common.{◌≡◌, drop, map}
-use Rattle.rule_model.specs.Choose.{first}
-use Rattle.rule_model.specs.Hold.{holds}
-use Rattle.rule_model.specs.Tab.{tab_rule}
+use Rattle.std.proofs.Common.{◌≡◌, ◌≤◌, ◌-◌, length}
 use Rattle.rule_engine.specs.Event.{content_in}
+use Rattle.rule_engine.proofs.Candidates.{first_from}
 use Rattle.rule_engine.proofs.matching.first_of.Given as goal
 
-abbrev pub invariant-loop-rule : goal.invariant-loop-rule
-invariant-loop-rule l = first (holds (content_in l.event) l.left l.press) (map (tab_rule l.event.tables.stores l.using_keys) (drop l.rule-index l.rules))
-    ≡ first (holds (content_in l.event) l.left l.press) (map (tab_rule l.event.tables.stores l.using_keys) l.rules)
+abbrev pub invariant-loop-number : goal.invariant-loop-number
+invariant-loop-number l = record {
+  within : l.from ≤ length l.rules;
+  same : first_from (content_in l.event) l.left l.press l.event.tables.stores l.using_keys l.rules l.from
+      ≡ first_from (content_in l.event) l.left l.press l.event.tables.stores l.using_keys l.rules 0;
+}
+
+abbrev pub decreases-loop-number : goal.decreases-loop-number
+decreases-loop-number l = length l.rules - l.from
