@@ -1,46 +1,41 @@
 //! The program: it compiles keyboard sources, verifies compiled files, decompiles them and plays key presses on them.
 //!
-//! It stands on every other crate. `run` does one command over a folder and a sink. `specs/Orders` has the order of work of
-//! each command as a value: which file is read first, how it goes on by what came, and how it ends. `specs/Run` says once
-//! what a run of such work asks for, leaves and answers (`Does`); each command's contract is its row, and `run` says the
-//! whole by name. `main` calls it over the real files and standard output. Seven commands are built: `compile`, `decompile`,
-//! `verify`, `play`, `test`, `layout` and `load`.
+//! It stands on `keyman_run`, whose `run` does one command over a folder and a sink. `main` calls it over the real files and
+//! standard output with the words of the call.
 #![tactic(auto)]
 
-mod command;
-mod file_keys;
-mod file_lines;
-mod layouts;
-mod lines;
-mod loading;
-mod neighbours;
-mod playing;
-mod preparing;
-mod printing;
-mod reason;
-mod run;
-mod status;
-#[cfg(test)]
-mod tests;
-mod texts;
+ghost use Rattle.std.specs.Prelude.{◌≡◌, IfErr};
+
 mod words;
 
-use kmn_base::Memory;
-use kmn_outside::{DiskFolder, StreamSink};
-use run::run;
-use status::Status;
+use keyman_run::{Status, run};
+use kmn_base::{Memory, Seq, Text};
+use kmn_outside::{DiskFolder, Folder, Sink, StreamSink};
+use std::alloc::Global;
 use std::process::ExitCode;
 use words::words;
 
-fn main(rt: HostRuntime) -> ExitCode {
-    let status = match words(&rt) {
-        Ok(words) => run(
-            rt.alloc(),
-            words.as_slice(),
-            &mut DiskFolder::new(&rt),
-            &mut StreamSink::new(rt.stdout()),
-        ),
+/// Does what the words ask for. Without memory for the words nothing is asked for and nothing printed.
+fn run_words<F: Folder, S: Sink>(
+    alloc: Global,
+    words: Result<Seq<Text>, Memory>,
+    folder: &mut F,
+    out: &mut S,
+) -> Status
+    ensures { IfErr words (λ _. (result ≡ Status.Memory) × (folder.new ≡ folder.old) × (out.new ≡ out.old)) }
+{
+    match words {
+        Ok(words) => run(alloc, words.as_slice(), folder, out),
         Err(Memory) => Status::Memory,
-    };
+    }
+}
+
+fn main(rt: HostRuntime) -> ExitCode {
+    let status = run_words(
+        rt.alloc(),
+        words(&rt),
+        &mut DiskFolder::new(&rt),
+        &mut StreamSink::new(rt.stdout()),
+    );
     ExitCode::from(status.number())
 }

@@ -1,0 +1,99 @@
+-- Runs on a compiled file that anyone made.
+use Rattle.std.proofs.Common.{◌≡◌, inl, List, ℕ, Option, Some, None, Result, Ok, Err, refl, sym, subst, ◌∙◌, append-nil}
+use Rattle.rule_model.specs.Keyboard.{Keyboard}
+use Rattle.rule_model.specs.Trace.{trace}
+use Rattle.rule_model.specs.Transcript.{events_of, transcript}
+use Rattle.rule_model.specs.declared.script.Entry.{Entry}
+use Rattle.rule_model.specs.declared.tables.Tables.{Tables}
+use Rattle.kmx_format.specs.TablesOf.{tables_of}
+use Rattle.kmx_format.specs.Writable.{IsFile}
+use Rattle.kmx_verifier.specs.declared.faults.Fault.{Fault}
+use Rattle.kmx_verifier.specs.FaultOf.{fault_of}
+use Rattle.kmx_verifier.proofs.FileValid.{file_valid}
+use Rattle.keyman_run.specs.declared.reason.Reason.{Reason}
+use Rattle.keyman_run.specs.declared.reason.Reason.TheVariants as reason
+use Rattle.keyman_run.specs.declared.status.Status.{Status}
+use Rattle.keyman_run.specs.declared.status.Status.TheVariants as status
+use Rattle.keyman_run.specs.Endings.{Ending, play_ending, play_status, refused_ending, valid_line, verify_ending}
+use Rattle.keyman_run.specs.Inputs.{tables_of_file, unless_faulty}
+use Rattle.keyman_run.specs.Orders.{bytes_play_work, tables_play_work}
+use Rattle.keyman_run.specs.Reasons.{fault_line}
+use Rattle.keyman_run.specs.Run.{Does}
+use Rattle.keyman_run.specs.Seen.{FolderView, SinkView}
+use Rattle.keyman_run.specs.Steps.{Tells, TellsFile}
+use Rattle.keyman_run.specs.Work.{Work, given, and_then, reads}
+use Rattle.keyman_run.specs.Work.Work.{Give, Refuse}
+use Rattle.keyman_run.proofs.AskedLaws.{first_none}
+use Rattle.play_transcript.proofs.PrintingLaws.{none_begun}
+use Rattle.keyman_run.proofs.RunLaws.{does_told}
+
+-- what is told of the tables of a file, or of its fault, is what their work comes to
+does_tables : {F S : Type 0} (read : Result Tables Reason) (folders : FolderView F) (folder : F) (sinks : SinkView S) (out out_after : S) (how : Status)
+    → TellsFile read sinks out out_after how → Does (and_then (given read) (λ tables. Give (verify_ending tables))) folders folder folder sinks out out_after how
+does_tables (Ok tables) folders folder sinks out out_after how tells =
+    does_told (Give (verify_ending tables)) (verify_ending tables) folders folder folder sinks out out_after how refl refl
+    (λ told. (refl, record { asked = sym (append-nil (folders.calls folder)); files = λ name. refl })) tells
+does_tables (Err why) folders folder sinks out out_after how tells =
+    does_told (Refuse why) (refused_ending why) folders folder folder sinks out out_after how refl refl
+    (λ told. (refl, record { asked = sym (append-nil (folders.calls folder)); files = λ name. refl })) tells
+
+pub does_file : {F S : Type 0} (slice bytes : List ℕ) (folders : FolderView F) (folder : F) (sinks : SinkView S) (out out_after : S) (how : Status) → slice ≡ bytes
+    → TellsFile (tables_of_file slice) sinks out out_after how → Does (and_then (given (tables_of_file bytes)) (λ tables. Give (verify_ending tables))) folders folder folder sinks out out_after how
+does_file slice bytes folders folder sinks out out_after how same tells =
+    subst (λ (b : List ℕ). Does (and_then (given (tables_of_file b)) (λ tables. Give (verify_ending tables))) folders folder folder sinks out out_after how) same
+    (does_tables (tables_of_file slice) folders folder sinks out out_after how tells)
+
+-- for want of memory nothing is printed
+pub tells_nothing : {S : Type 0} (read : Result Tables Reason) (sinks : SinkView S) (out : S) → TellsFile read sinks out out status.Memory
+tells_nothing (Ok tables) sinks out = record { counts = refl; told = refl; prints = λ told. none_begun (sinks.written out) _ }
+tells_nothing (Err why) sinks out = record { counts = refl; told = refl; prints = λ told. none_begun (sinks.written out) _ }
+
+-- what is printed of a valid file, and of one with a fault
+pub tells_valid : {S : Type 0} (bytes file : List ℕ) (sinks : SinkView S) (out out_after : S) (how : Status) → fault_of bytes ≡ None → file ≡ bytes
+    → Tells status.Done (valid_line (tables_of file)) sinks out out_after how → TellsFile (tables_of_file bytes) sinks out out_after how
+tells_valid bytes file sinks out out_after how none same tells =
+    subst (λ (found : Option Fault). TellsFile (unless_faulty (tables_of bytes) found) sinks out out_after how) (sym none)
+    (subst (λ (b : List ℕ). Tells status.Done (valid_line (tables_of b)) sinks out out_after how) same tells)
+
+pub tells_faulty : {S : Type 0} (bytes : List ℕ) (fault : Fault) (sinks : SinkView S) (out out_after : S) (how : Status) → fault_of bytes ≡ Some fault
+    → Tells status.Refused (fault_line fault) sinks out out_after how → TellsFile (tables_of_file bytes) sinks out out_after how
+tells_faulty bytes fault sinks out out_after how is tells =
+    subst (λ (found : Option Fault). TellsFile (unless_faulty (tables_of bytes) found) sinks out out_after how) (sym is) tells
+
+-- the file of tables that a file can have is not refused
+pub never_refused : (bytes : List ℕ) (fault : Fault) → IsFile bytes → fault_of bytes ≡ Some fault → ⊥
+never_refused bytes fault file is =
+    let valid : fault_of bytes ≡ None = file_valid bytes file in
+    let both : None ≡ Some fault = sym valid ∙ is in
+    absurd (cc)
+
+-- work that wants memory before it reads or prints anything
+pub does_no_memory : {F S : Type 0} (work : Work Ending) (folders : FolderView F) (folder : F) (sinks : SinkView S) (out : S) → Does work folders folder folder sinks out out status.Memory
+does_no_memory work folders folder sinks out = record {
+  form = λ is. cc;
+  counts = (refl, refl);
+  told = (refl, refl);
+  leaves = λ told. inl (record { asked = first_none (reads (folders.files folder) work) (folders.calls folder) (folders.calls folder) refl; files = λ name. refl }, λ told_sink. refl);
+}
+
+-- playing on the bytes of a valid file, and of one with a fault
+pub plays_valid : {F S : Type 0} (bytes file keys : List ℕ) (folders : FolderView F) (folder after : F) (sinks : SinkView S) (out out_after : S) (how : Status) → fault_of bytes ≡ None → file ≡ bytes
+    → Does (tables_play_work (tables_of file) keys) folders folder after sinks out out_after how → Does (bytes_play_work bytes keys) folders folder after sinks out out_after how
+plays_valid bytes file keys folders folder after sinks out out_after how none same does =
+    subst (λ (found : Option Fault). Does (and_then (given (unless_faulty (tables_of bytes) found)) (λ tables. tables_play_work tables keys)) folders folder after sinks out out_after how) (sym none)
+    (subst (λ (b : List ℕ). Does (tables_play_work (tables_of b) keys) folders folder after sinks out out_after how) same does)
+
+pub plays_faulty : {F S : Type 0} (bytes keys : List ℕ) (fault : Fault) (folders : FolderView F) (folder : F) (sinks : SinkView S) (out out_after : S) (how : Status) → fault_of bytes ≡ Some fault
+    → Tells status.Refused (fault_line fault) sinks out out_after how → Does (bytes_play_work bytes keys) folders folder folder sinks out out_after how
+plays_faulty bytes keys fault folders folder sinks out out_after how is tells =
+    subst (λ (found : Option Fault). Does (and_then (given (unless_faulty (tables_of bytes) found)) (λ tables. tables_play_work tables keys)) folders folder folder sinks out out_after how) (sym is)
+    (does_told (Refuse (reason.File fault)) (refused_ending (reason.File fault)) folders folder folder sinks out out_after how refl refl
+    (λ told. (refl, record { asked = sym (append-nil (folders.calls folder)); files = λ name. refl })) tells)
+
+-- playing the entries of a script
+pub plays_entries : {F S : Type 0} (kb : Keyboard) (slice entries : List Entry) (folders : FolderView F) (folder : F) (sinks : SinkView S) (out out_after : S) (how : Status) → slice ≡ entries
+    → Tells (play_status (trace kb (events_of slice)) slice) (transcript kb slice) sinks out out_after how → Does (Give (play_ending kb entries)) folders folder folder sinks out out_after how
+plays_entries kb slice entries folders folder sinks out out_after how same tells =
+    subst (λ (es : List Entry). Does (Give (play_ending kb es)) folders folder folder sinks out out_after how) same
+    (does_told (Give (play_ending kb slice)) (play_ending kb slice) folders folder folder sinks out out_after how refl refl
+    (λ told. (refl, record { asked = sym (append-nil (folders.calls folder)); files = λ name. refl })) tells)

@@ -1,0 +1,13 @@
+pub mod AskedLaws
+pub mod BesideLaws
+pub mod FileRuns
+pub mod Hexadecimal
+pub mod InputLaws
+mod LayoutLaws
+mod LoadLaws
+pub mod MeaningLaws
+pub mod OwnNames
+pub mod RunLaws
+mod StatedLoads
+mod TextLaws
+pub mod WorkLaws

@@ -1,0 +1,131 @@
+-- How work on files ends: with which status, which file it writes, and what it prints.
+use Rattle.std.specs.Prelude.{ℕ, List, [], ◌∷◌, ◌++◌, length, codes, Option, Some, None, option_map, Result, Ok, Err}
+use Rattle.std.specs.List.{concat}
+use Rattle.std.specs.Fmt.{decimal}
+use Rattle.kmn_outside.specs.Outside.{Files}
+use Rattle.kmx_format.specs.File.{all_rules}
+use Rattle.rule_model.specs.Keyboard.{Keyboard}
+use Rattle.rule_model.specs.Lines.{hexadecimal}
+use Rattle.rule_model.specs.declared.tables.Tables.{Tables}
+use Rattle.rule_model.specs.Trace.{Trace, trace}
+use Rattle.rule_model.specs.Transcript.{events_of, transcript}
+use Rattle.rule_model.specs.declared.script.Entry.{Entry}
+use Rattle.kmn_compiler.specs.declared.compiling.Compiled.{Compiled}
+use Rattle.keyman_run.specs.declared.reason.Reason.{Reason}
+use Rattle.keyman_run.specs.declared.status.Status.{Status}
+use Rattle.keyman_run.specs.declared.status.Status.TheVariants as status
+use Rattle.keyman_run.specs.Asked.{Ask, write_of}
+use Rattle.play_transcript.specs.Ends.{play_end}
+use Rattle.play_transcript.specs.declared.playing.PlayEnd.{PlayEnd}
+use Rattle.play_transcript.specs.declared.playing.PlayEnd.TheVariants as ended
+use Rattle.keyman_run.specs.Reasons.{reason_line}
+use Rattle.keyman_run.specs.Work.{Work, reads, comes_to}
+
+-- how work ends where nothing fails: its status, the file that it writes by name and bytes, and all that it prints
+pub record Ending : Type 0 where
+  pub status : Status
+  pub file : Option (List ℕ × List ℕ)
+  pub printed : List ℕ
+
+-- an end with the line of a reason: nothing is written
+abbrev pub refused_ending : Reason → Ending
+refused_ending why = record { status = status.Refused; file = None; printed = reason_line why }
+
+-- words that are no command end so at once
+abbrev pub words_ending : Ending
+words_ending = record { status = status.Words; file = None; printed = [] }
+
+-- what is printed of a compiled file: its counts and its size
+unfoldable pub compiled_line : Compiled → List ℕ
+compiled_line compiled = concat (
+    codes "compiled stores=" ∷ decimal (length compiled.tables.stores)
+    ∷ codes " groups=" ∷ decimal (length compiled.tables.groups)
+    ∷ codes " rules=" ∷ decimal (length (all_rules compiled.tables))
+    ∷ codes " bytes=" ∷ decimal (length compiled.bytes)
+    ∷ codes "\n" ∷ [])
+
+-- a compilation writes the file and prints its line
+abbrev pub compile_ending : List ℕ → Compiled → Ending
+compile_ending name compiled = record { status = status.Done; file = Some (name, compiled.bytes); printed = compiled_line compiled }
+
+-- what is printed of a valid file: its version and its counts
+unfoldable pub valid_line : Tables → List ℕ
+valid_line tables = concat (
+    codes "valid version=" ∷ hexadecimal tables.version
+    ∷ codes " stores=" ∷ decimal (length tables.stores)
+    ∷ codes " groups=" ∷ decimal (length tables.groups)
+    ∷ codes " rules=" ∷ decimal (length (all_rules tables))
+    ∷ codes "\n" ∷ [])
+
+-- a verification prints the line of the file
+abbrev pub verify_ending : Tables → Ending
+verify_ending tables = record { status = status.Done; file = None; printed = valid_line tables }
+
+-- what is printed of a text that a file was decompiled to: its size
+unfoldable pub decompiled_line : List ℕ → List ℕ
+decompiled_line source = concat (codes "decompiled bytes=" ∷ decimal (length source) ∷ codes "\n" ∷ [])
+
+-- a decompilation writes the text and prints its line
+abbrev pub decompile_ending : List ℕ → List ℕ → Ending
+decompile_ending name source = record { status = status.Done; file = Some (name, source); printed = decompiled_line source }
+
+-- what is printed of a layout that keeps all rules: the count of its keys
+unfoldable pub sound_line : ℕ → List ℕ
+sound_line count = concat (codes "layout sound keys=" ∷ decimal count ∷ codes "\n" ∷ [])
+
+-- the check of a layout prints its line
+abbrev pub layout_ending : ℕ → Ending
+layout_ending count = record { status = status.Done; file = None; printed = sound_line count }
+
+-- a load prints its line
+abbrev pub load_ending : List ℕ → Ending
+load_ending line = record { status = status.Done; file = None; printed = line }
+
+-- the status of a run that ends with a play
+abbrev pub end_status : PlayEnd → Status
+end_status ended.Done = status.Done
+end_status ended.Refused = status.Refused
+end_status ended.ExpectFailed = status.ExpectFailed
+
+abbrev pub play_status : Trace → List Entry → Status
+play_status traced entries = end_status (play_end traced entries)
+
+-- a play prints what a keyboard does with the script, and writes no file
+abbrev pub play_ending : Keyboard → List Entry → Ending
+play_ending kb entries = record { status = play_status (trace kb (events_of entries)) entries; file = None; printed = transcript kb entries }
+
+-- a compiled file and the script to play on it
+pub record Job : Type 0 where
+  pub compiled : Compiled
+  pub entries : List Entry
+
+-- a test writes a file, and prints what a keyboard does with the script
+abbrev pub test_ending : List ℕ → List ℕ → Keyboard → List Entry → Ending
+test_ending name bytes kb entries =
+    record {
+      status = play_status (trace kb (events_of entries)) entries;
+      file = Some (name, bytes);
+      printed = transcript kb entries;
+    }
+
+-- work that is refused ends with the reason's line
+abbrev pub conclusion : Result Ending Reason → Ending
+conclusion (Ok ending) = ending
+conclusion (Err why) = refused_ending why
+
+-- how work ends; None where a file is missing
+abbrev pub ends : Files → Work Ending → Option Ending
+ends files work = option_map conclusion (comes_to files work)
+
+-- the name that is written
+abbrev pub file_asks : Option (List ℕ × List ℕ) → List Ask
+file_asks None = []
+file_asks (Some file) = write_of file.0 ∷ []
+
+abbrev pub writes : Option Ending → List Ask
+writes None = []
+writes (Some ending) = file_asks ending.file
+
+-- all names that are asked for, in order: those that are read, and where the work comes to its end the one that is written
+abbrev pub asked : Files → Work Ending → List Ask
+asked files work = reads files work ++ writes (ends files work)

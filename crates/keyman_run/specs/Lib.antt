@@ -1,0 +1,13 @@
+pub mod Asked
+pub mod Beside
+pub mod Command
+pub mod Endings
+pub mod Inputs
+pub mod Loads
+pub mod Orders
+pub mod Reasons
+pub mod Run
+pub mod Seen
+pub mod Status
+pub mod Steps
+pub mod Work

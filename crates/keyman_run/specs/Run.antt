@@ -1,0 +1,120 @@
+-- What a run of work does to a folder and a sink.
+use Rattle.std.specs.Prelude.{◌≡◌, ◌≢◌, ◌⊎◌, ℕ, false, IsTrue, List, [], ◌∷◌, ◌++◌, map, Option, Some, None, IsSomeAnd, Ok}
+use Rattle.kmn_outside.specs.Outside.{Files, Rose, SameFiles, SameOthers}
+use Rattle.compile_laws.specs.Means.{Means}
+use Rattle.keyman_run.specs.declared.status.Status.{Status}
+use Rattle.keyman_run.specs.declared.status.Status.TheVariants as status
+use Rattle.keyman_run.specs.Asked.{Ask, write_of, answered, failed, AsksAll, AsksFirst, AsksUntil, HasWritten}
+use Rattle.keyman_run.specs.Command.{Request}
+use Rattle.keyman_run.specs.Command.Request.{Compile, Decompile, Layout, Load, Play, Test, Verify}
+use Rattle.keyman_run.specs.Endings.{Ending, ends, file_asks}
+use Rattle.keyman_run.specs.Inputs.{Pictured}
+use Rattle.keyman_run.specs.Orders.{program_work}
+use Rattle.play_transcript.specs.Printing.{IsBegun}
+use Rattle.keyman_run.specs.Seen.{FolderView, SinkView, FolderState, SinkState, seen_folder, seen_sink}
+use Rattle.keyman_run.specs.Work.{Work, reads, comes_to}
+
+-- the file of an ending is written, and no other name differs
+abbrev pub Written : Option (List ℕ × List ℕ) → Files → Files → Type 0
+Written None before after = SameFiles before after
+Written (Some file) before after = SameOthers file.0 before after × (after file.0 ≡ Some file.1)
+
+-- all that is to be read was read, and no file differs
+pub record HasRead (wanted : List Ask) (before after : FolderState) : Type 0 where
+  pub asked : AsksAll wanted before.calls after.calls
+  pub files : SameFiles before.files after.files
+
+-- a first part of it was read, and no file differs
+pub record HasBegunToRead (wanted : List Ask) (before after : FolderState) : Type 0 where
+  pub asked : AsksFirst wanted before.calls after.calls
+  pub files : SameFiles before.files after.files
+
+-- the last read failed, and no file differs
+pub record HasFailedToRead (wanted : List Ask) (before after : FolderState) : Type 0 where
+  pub asked : AsksUntil false wanted before.calls after.calls
+  pub files : SameFiles before.files after.files
+
+-- all that is to be read was read, and the file was written
+pub record HasWorked (wanted : List Ask) (ending : Ending) (before after : FolderState) : Type 0 where
+  pub asked : AsksAll (wanted ++ file_asks ending.file) before.calls after.calls
+  pub files : Written ending.file before.files after.files
+
+-- all that is to be read was read, and the write failed: at most its name differs
+pub record HasFailedToWrite (wanted : List Ask) (ending : Ending) (before after : FolderState) : Type 0 where
+  pub name : List ℕ
+  pub bytes : List ℕ
+  pub file : ending.file ≡ Some (name, bytes)
+  pub asked : after.calls ≡ before.calls ++ (map answered wanted ++ failed (write_of name) ∷ [])
+  pub files : SameOthers name before.files after.files
+
+-- nothing was printed, where a sink tells it
+abbrev pub IsSilent : SinkState → SinkState → Type 0
+IsSilent before after = IsTrue before.told → after.written ≡ before.written
+
+-- the run came to its end with this status: all of its output was printed
+pub record IsEnded (wanted : List Ask) (end : Option Ending) (before after : FolderState) (sink sink_after : SinkState) (how : Status) : Type 0 where
+  pub ending : Ending
+  pub is : end ≡ Some ending
+  pub how_is : how ≡ ending.status
+  pub worked : HasWorked wanted ending before after
+  pub printed : IsTrue sink.told → sink_after.written ≡ sink.written ++ ending.printed
+
+-- the write failed
+pub record IsSpoilt (wanted : List Ask) (end : Option Ending) (before after : FolderState) (sink sink_after : SinkState) : Type 0 where
+  pub ending : Ending
+  pub is : end ≡ Some ending
+  pub spoilt : HasFailedToWrite wanted ending before after
+  pub silent : IsSilent sink sink_after
+
+-- the printing broke off: a first part of the output was printed
+pub record IsCutOff (wanted : List Ask) (end : Option Ending) (before after : FolderState) (sink sink_after : SinkState) : Type 0 where
+  pub ending : Ending
+  pub is : end ≡ Some ending
+  pub worked : HasWorked wanted ending before after
+  pub begun : IsTrue sink.told → IsBegun sink.written sink_after.written ending.printed
+
+-- what a run leaves, by its status, of work that reads these names and ends so
+abbrev pub LeavesBy : List Ask → Option Ending → FolderState → FolderState → SinkState → SinkState → Status → Type 0
+LeavesBy wanted end before after sink sink_after status.ReadFault =
+    Rose before.faults after.faults × HasFailedToRead wanted before after × IsSilent sink sink_after
+LeavesBy wanted end before after sink sink_after status.WriteFault =
+    (Rose before.faults after.faults × IsSpoilt wanted end before after sink sink_after)
+    ⊎ (Rose sink.faults sink_after.faults × IsCutOff wanted end before after sink sink_after)
+LeavesBy wanted end before after sink sink_after status.Memory =
+    (HasBegunToRead wanted before after × IsSilent sink sink_after) ⊎ IsCutOff wanted end before after sink sink_after
+LeavesBy wanted end before after sink sink_after other = IsEnded wanted end before after sink sink_after other
+
+-- what a run of work leaves, by its status
+abbrev pub Leaves : Work Ending → FolderState → FolderState → SinkState → SinkState → Status → Type 0
+Leaves work before after sink sink_after how = LeavesBy (reads before.files work) (ends before.files work) before after sink sink_after how
+
+-- which counts of faults a run raises, by its status: none but with the two statuses of faults
+abbrev pub FaultCounts : ℕ → ℕ → ℕ → ℕ → Status → Type 0
+FaultCounts folder folder_after sink sink_after status.ReadFault = Rose folder folder_after × (sink_after ≡ sink)
+FaultCounts folder folder_after sink sink_after status.WriteFault =
+    (Rose folder folder_after × (sink_after ≡ sink)) ⊎ ((folder_after ≡ folder) × Rose sink sink_after)
+FaultCounts folder folder_after sink sink_after _ = (folder_after ≡ folder) × (sink_after ≡ sink)
+
+-- a run of work from one state of a folder and a sink to another, with this status: the contract of every command
+pub record Does {F S : Type 0} (work : Work Ending) (folders : FolderView F) (folder folder_after : F) (sinks : SinkView S) (out out_after : S) (how : Status) : Type 0 where
+  pub form : how ≢ status.Words
+  pub counts : FaultCounts (folders.faults folder) (folders.faults folder_after) (sinks.faults out) (sinks.faults out_after) how
+  pub told : (folders.told folder_after ≡ folders.told folder) × (sinks.told out_after ≡ sinks.told out)
+  pub leaves : IsTrue (folders.told folder) → Leaves work (seen_folder folders folder) (seen_folder folders folder_after) (seen_sink sinks out) (seen_sink sinks out_after) how
+
+-- the source has a program, and the file means it
+pub record SourceMeans (before after : Files) (source file : List ℕ) : Type 0 where
+  pub pictured : Pictured
+  pub is : comes_to before (program_work source) ≡ Some (Ok pictured)
+  pub means : IsSomeAnd (after file) (λ bytes. Means bytes pictured.program)
+
+-- where a request's compiled file was written, it means the source; the other requests write none
+abbrev pub FileMeans : FolderState → FolderState → Option Request → Type 0
+FileMeans before after None = Unit {0}
+FileMeans before after (Some (Compile source file)) = HasWritten before.calls after.calls → SourceMeans before.files after.files source file
+FileMeans before after (Some (Test source file keys)) = HasWritten before.calls after.calls → SourceMeans before.files after.files source file
+FileMeans before after (Some (Verify file)) = Unit {0}
+FileMeans before after (Some (Decompile file source)) = Unit {0}
+FileMeans before after (Some (Play file keys)) = Unit {0}
+FileMeans before after (Some (Layout source layout)) = Unit {0}
+FileMeans before after (Some (Load number)) = Unit {0}

@@ -1,0 +1,150 @@
+-- What the steps of a run answer.
+use Rattle.std.specs.Prelude.{◌≡◌, IsTrue, ℕ, List, ◌++◌, Option, Some, None, Result, Ok, Err}
+use Rattle.kmn_base.specs.declared.refusals.CompileError.{CompileError}
+use Rattle.kmn_base.specs.declared.refusals.CompileError.TheVariants as compile
+use Rattle.kmn_base.specs.declared.codes.Code.{Code}
+use Rattle.kmn_outside.specs.Outside.{Rose}
+use Rattle.kmn_outside.specs.declared.traits.WriteError.{WriteError}
+use Rattle.kmn_outside.specs.declared.traits.WriteError.TheVariants as write
+use Rattle.kmn_outside.specs.declared.traits.ReadError.{ReadError}
+use Rattle.kmn_outside.specs.declared.traits.ReadError.TheVariants as read
+use Rattle.rule_model.specs.Tab.{tab}
+use Rattle.rule_model.specs.declared.tables.Tables.{Tables}
+use Rattle.kmx_format.specs.TablesOf.{tables_of}
+use Rattle.kmx_format.specs.Writable.{IsFile, IsWritable}
+use Rattle.play_script.specs.declared.errors.ScriptError.{ScriptError}
+use Rattle.play_script.specs.declared.errors.ScriptError.TheVariants as script
+use Rattle.spelled_files.specs.declared.no_spelling.NoSpelling.{NoSpelling}
+use Rattle.kmx_decompiler.specs.Refusals.{told}
+use Rattle.kmx_decompiler.specs.declared.refusals.DecompileError.{DecompileError}
+use Rattle.touch_layout.specs.declared.faults.LayoutError.{LayoutError}
+use Rattle.touch_layout.specs.declared.faults.LayoutError.TheVariants as layout
+use Rattle.kmn_compiler.specs.declared.compiling.Compiled.{Compiled}
+use Rattle.keyman_run.specs.declared.preparing.Prepared.{Prepared}
+use Rattle.keyman_run.specs.declared.preparing.Stop.{Stop}
+use Rattle.keyman_run.specs.declared.preparing.Stop.TheVariants as stop
+use Rattle.keyman_run.specs.declared.reason.Reason.{Reason}
+use Rattle.keyman_run.specs.declared.reason.Reason.TheVariants as reason
+use Rattle.keyman_run.specs.declared.status.Status.{Status}
+use Rattle.keyman_run.specs.declared.status.Status.TheVariants as status
+use Rattle.keyman_run.specs.Asked.{Ask}
+use Rattle.keyman_run.specs.Endings.{Job, valid_line}
+use Rattle.play_transcript.specs.Printing.{IsBegun}
+use Rattle.keyman_run.specs.Reasons.{reason_line}
+use Rattle.keyman_run.specs.Run.{HasRead, HasBegunToRead, HasFailedToRead}
+use Rattle.keyman_run.specs.Seen.{FolderView, SinkView, FolderState, seen_folder}
+use Rattle.keyman_run.specs.Work.{Work, reads, comes_to}
+
+-- why a run stops where a source was not compiled
+abbrev pub compile_stop : CompileError → Stop
+compile_stop (compile.Refused refusal) = stop.Refused (reason.Line refusal)
+compile_stop (compile.TooLarge code size) = stop.Refused (reason.Size code size)
+compile_stop compile.Memory = stop.Memory
+
+-- why a run stops where a script breaks a rule
+abbrev pub script_stop : ScriptError → Stop
+script_stop (script.Refused refusal) = stop.Refused (reason.Line refusal)
+script_stop script.Memory = stop.Memory
+
+-- why a run stops where a layout breaks a rule
+abbrev pub layout_stop : LayoutError → Stop
+layout_stop (layout.Refused fault) = stop.Refused (reason.Layout fault)
+layout_stop layout.Memory = stop.Memory
+
+-- why a run stops where a file has no text, and where nothing is told of it
+abbrev pub told_stop : Option NoSpelling → Stop
+told_stop (Some why) = stop.Refused (reason.Text why)
+told_stop None = stop.Memory
+
+abbrev pub text_stop : DecompileError → Stop
+text_stop error = told_stop (told error)
+
+-- a refusal at line 1
+abbrev pub first_line : Code → Reason
+first_line code = reason.Line (record { line = 1; code = code })
+
+-- why a run stops where an input wasn't read: a longer one than its limit is refused for this reason
+abbrev pub read_stop : Reason → ReadError → Stop
+read_stop long read.Failed = stop.ReadFault
+read_stop long (read.Over size) = stop.Refused long
+read_stop long read.Memory = stop.Memory
+
+-- the folder's count of faults rises where a read failed, and stays where not
+abbrev pub StopCounts : {A : Type 0} → ℕ → ℕ → Result A Stop → Type 0
+StopCounts before after (Err stop.ReadFault) = Rose before after
+StopCounts before after _ = after ≡ before
+
+-- what work that only reads leaves, by its answer, which is seen as a value
+abbrev pub GivesBy : {A B : Type 0} → (A → B) → List Ask → Option (Result B Reason) → FolderState → FolderState → Result A Stop → Type 0
+GivesBy seen wanted end before after (Ok value) = (end ≡ Some (Ok (seen value))) × HasRead wanted before after
+GivesBy seen wanted end before after (Err (stop.Refused why)) = (end ≡ Some (Err why)) × HasRead wanted before after
+GivesBy seen wanted end before after (Err stop.ReadFault) = HasFailedToRead wanted before after
+GivesBy seen wanted end before after (Err stop.Memory) = HasBegunToRead wanted before after
+
+-- what a step answers that reads nothing: the stated value, which is seen as a value, or the stated reason
+abbrev pub States : {A B : Type 0} → (A → B) → Result B Reason → Result A Stop → Type 0
+States seen stated (Ok value) = stated ≡ Ok (seen value)
+States seen stated (Err (stop.Refused why)) = stated ≡ Err why
+States seen stated (Err stop.ReadFault) = ⊥
+States seen stated (Err stop.Memory) = Unit {0}
+
+-- work that only reads, from one state of a folder to another, with this answer
+pub record Gives {F A B : Type 0} (seen : A → B) (work : Work B) (folders : FolderView F) (folder folder_after : F) (result : Result A Stop) : Type 0 where
+  pub counts : StopCounts (folders.faults folder) (folders.faults folder_after) result
+  pub told : folders.told folder_after ≡ folders.told folder
+  pub gives : IsTrue (folders.told folder) → GivesBy seen (reads (folders.files folder) work) (comes_to (folders.files folder) work) (seen_folder folders folder) (seen_folder folders folder_after) result
+
+-- the bytes of a file whose keyboard is that of the tables
+pub record IsCompiled (compiled : Compiled) : Type 0 where
+  pub writable : IsWritable compiled.tables
+  pub file : IsFile compiled.bytes
+  pub keyboard : tab (tables_of compiled.bytes) ≡ tab compiled.tables
+
+-- what a step answers is the value that its work gives
+abbrev pub itself : {A : Type 0} → A → A
+itself value = value
+
+-- what is prepared, as a job
+abbrev pub prepared_job : Prepared → Job
+prepared_job prepared = record { compiled = prepared.compiled; entries = prepared.entries }
+
+-- the count of faults of a sink that something is printed to before a run ends well with a status
+abbrev pub SinkCounts : Status → ℕ → ℕ → Status → Type 0
+SinkCounts good before after status.WriteFault = Rose before after
+SinkCounts good before after status.Memory = after ≡ before
+SinkCounts good before after status.Words = ⊥
+SinkCounts good before after status.ReadFault = ⊥
+SinkCounts good before after other = (other ≡ good) × (after ≡ before)
+
+-- what was printed before a run ends well with a status: all bytes, or where printing broke off a first part
+abbrev pub PrintsBy : List ℕ → List ℕ → List ℕ → Status → Type 0
+PrintsBy bytes before after status.WriteFault = IsBegun before after bytes
+PrintsBy bytes before after status.Memory = IsBegun before after bytes
+PrintsBy bytes before after other = after ≡ before ++ bytes
+
+-- bytes are printed, and then the run ends with a good status, unless the printing breaks off
+pub record Tells {S : Type 0} (good : Status) (bytes : List ℕ) (sinks : SinkView S) (out out_after : S) (how : Status) : Type 0 where
+  pub counts : SinkCounts good (sinks.faults out) (sinks.faults out_after) how
+  pub told : sinks.told out_after ≡ sinks.told out
+  pub prints : IsTrue (sinks.told out) → PrintsBy bytes (sinks.written out) (sinks.written out_after) how
+
+-- a run that stops before it writes prints the line of a reason, or nothing
+abbrev pub TellsStop : {S : Type 0} → Stop → SinkView S → S → S → Status → Type 0
+TellsStop (stop.Refused why) sinks out out_after s = Tells status.Refused (reason_line why) sinks out out_after s
+TellsStop stop.ReadFault sinks out out_after s = (s ≡ status.ReadFault) × (out_after ≡ out)
+TellsStop stop.Memory sinks out out_after s = (s ≡ status.Memory) × (out_after ≡ out)
+
+-- what is printed of a file: the line of its tables, or of its fault
+abbrev pub TellsFile : {S : Type 0} → Result Tables Reason → SinkView S → S → S → Status → Type 0
+TellsFile (Ok tables) sinks out out_after s = Tells status.Done (valid_line tables) sinks out out_after s
+TellsFile (Err why) sinks out out_after s = Tells status.Refused (reason_line why) sinks out out_after s
+
+-- what is printed of a load: its line, or that of a reason
+abbrev pub TellsLoad : {S : Type 0} → Result (List ℕ) Reason → SinkView S → S → S → Status → Type 0
+TellsLoad (Ok line) sinks out out_after s = Tells status.Done line sinks out out_after s
+TellsLoad (Err why) sinks out out_after s = Tells status.Refused (reason_line why) sinks out out_after s
+
+-- the status of a run that ends with a write or a put that didn't succeed
+abbrev pub write_status : WriteError → Status
+write_status write.Failed = status.WriteFault
+write_status write.Memory = status.Memory

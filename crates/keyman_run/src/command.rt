@@ -1,0 +1,130 @@
+ghost use Rattle.std.specs.Prelude.{◌≡◌, [], ◌∷◌, option_map};
+ghost use Rattle.keyman_run.specs.Command.{load_number, request_of, requested};
+ghost use Rattle.keyman_run.specs.Command.Request.{Load};
+
+use kmn_base::Text;
+use kmn_base::digits::{are_digits, bounded_value};
+
+/// A command with the names of its files, or its number.
+#[derive(Drop)]
+pub enum Command<'a> {
+    Compile {
+        source: &'a [u8],
+        file: &'a [u8],
+    },
+    Test {
+        source: &'a [u8],
+        file: &'a [u8],
+        keys: &'a [u8],
+    },
+    Verify {
+        file: &'a [u8],
+    },
+    Decompile {
+        file: &'a [u8],
+        source: &'a [u8],
+    },
+    Play {
+        file: &'a [u8],
+        keys: &'a [u8],
+    },
+    Layout {
+        source: &'a [u8],
+        layout: &'a [u8],
+    },
+    Load {
+        number: u32,
+    },
+}
+
+/// The command that the words are, None where they are none. Words compare exactly.
+pub fn command_of(words: &[Text]) -> Option<Command<'_>>
+    ensures { option_map requested result ≡ request_of words.now }
+{
+    match words {
+        [word, other] => command_of_one(word.as_slice(), other),
+        [word, first, second] => command_of_two(word.as_slice(), first, second),
+        [word, source, file, keys] => test_command(word.as_slice(), source, file, keys),
+        _ => None,
+    }
+}
+
+/// The largest number of nine digits.
+const LARGEST_NUMBER: u32 = 999_999_999;
+
+/// The command of one file or number, `verify` or `load`, None for another word.
+fn command_of_one<'a>(word: &[u8], other: &'a Text) -> Option<Command<'a>>
+    ensures { option_map requested result ≡ request_of (word.now ∷ other.now ∷ []) }
+{
+    if word == b"verify".as_slice() {
+        return Some(Command::Verify {
+            file: other.as_slice(),
+        });
+    }
+    if word == b"load".as_slice() {
+        return load_command(other.as_slice());
+    }
+    None
+}
+
+/// The command `load` with its number, None where the word is none.
+fn load_command<'a>(word: &[u8]) -> Option<Command<'a>>
+    ensures { option_map requested result ≡ option_map Load (load_number word.now) }
+{
+    if word.is_empty() || word.len() > 9 || !are_digits(10, word) {
+        return None;
+    }
+    Some(Command::Load {
+        number: bounded_value(LARGEST_NUMBER, 10, word),
+    })
+}
+
+/// The command of two files, `compile`, `decompile`, `play` or `layout`, None for another word.
+fn command_of_two<'a>(word: &[u8], first: &'a Text, second: &'a Text) -> Option<Command<'a>>
+    ensures { option_map requested result ≡ request_of (word.now ∷ first.now ∷ second.now ∷ []) }
+{
+    if word == b"compile".as_slice() {
+        return Some(Command::Compile {
+            source: first.as_slice(),
+            file: second.as_slice(),
+        });
+    }
+    if word == b"decompile".as_slice() {
+        return Some(Command::Decompile {
+            file: first.as_slice(),
+            source: second.as_slice(),
+        });
+    }
+    if word == b"play".as_slice() {
+        return Some(Command::Play {
+            file: first.as_slice(),
+            keys: second.as_slice(),
+        });
+    }
+    if word == b"layout".as_slice() {
+        return Some(Command::Layout {
+            source: first.as_slice(),
+            layout: second.as_slice(),
+        });
+    }
+    None
+}
+
+/// The command `test` with its files, None for another word.
+fn test_command<'a>(
+    word: &[u8],
+    source: &'a Text,
+    file: &'a Text,
+    keys: &'a Text,
+) -> Option<Command<'a>>
+    ensures { option_map requested result ≡ request_of (word.now ∷ source.now ∷ file.now ∷ keys.now ∷ []) }
+{
+    if word != b"test".as_slice() {
+        return None;
+    }
+    Some(Command::Test {
+        source: source.as_slice(),
+        file: file.as_slice(),
+        keys: keys.as_slice(),
+    })
+}

@@ -1,0 +1,81 @@
+//! Touch layouts: reading one, and the lines of its check.
+
+ghost use Rattle.std.specs.Prelude.{◌≡◌, IfOk};
+ghost use Rattle.keyman_run.specs.Endings.{sound_line};
+ghost use Rattle.keyman_run.specs.Orders.{keys_work};
+ghost use Rattle.keyman_run.specs.Reasons.{place_line};
+ghost use Rattle.keyman_run.specs.Steps.{Gives, itself, layout_stop};
+
+use crate::preparing::{Stop, read_stop};
+use crate::reason::Reason;
+use kmn_base::limits::TEXT_BYTES;
+use kmn_base::{Code, Memory, Seq, Text};
+use kmn_outside::Folder;
+use rule_model::Tables;
+use std::alloc::Global;
+use touch_layout::{LayoutError, LayoutFault, check_layout};
+
+/// Why a layout that passes its limit is refused: no place of it is meant.
+const LONG_LAYOUT: Reason = Reason::Layout(LayoutFault {
+    code: Code::T7,
+    platform: 0,
+    layer: 0,
+    row: 0,
+    key: 0,
+});
+
+/// Reads the touch layout of a name, checks it against the keyboard of the tables, and counts its keys.
+pub fn read_keys<F: Folder>(
+    alloc: Global,
+    name: &[u8],
+    tables: &Tables,
+    folder: &mut F,
+) -> Result<u32, Stop>
+    ensures { Gives itself (keys_work tables.now name.now) F.Folder folder.old folder.new result }
+{
+    match folder.read(alloc, name, TEXT_BYTES) {
+        Ok(layout) => match check_layout(alloc, layout.as_slice(), tables) {
+            Ok(count) => Ok(count),
+            Err(error) => Err(layout_stop(error)),
+        },
+        Err(error) => Err(read_stop(error, LONG_LAYOUT)),
+    }
+}
+
+/// Why a run stops where a layout breaks a rule.
+fn layout_stop(error: LayoutError) -> Stop
+    ensures { result ≡ layout_stop error }
+{
+    match error {
+        LayoutError::Refused(fault) => Stop::Refused(Reason::Layout(fault)),
+        LayoutError::Memory => Stop::Memory,
+    }
+}
+
+/// The line of a rule that a layout breaks, with its place.
+#[tactic(auto, unfolding(crate::specs::Reasons::place_line))]
+pub fn place_line(alloc: Global, fault: LayoutFault) -> Result<Text, Memory>
+    ensures { IfOk result (λ line. line ≡ place_line fault) }
+{
+    let mut line = Seq::from_slice(alloc, b"refused ")?;
+    line.extend_from_slice(fault.code.text())?;
+    let LayoutFault {
+        platform,
+        layer,
+        row,
+        key,
+        ..
+    } = fault;
+    let rest = format!(in alloc; " platform {platform} layer {layer} row {row} key {key}\n")?;
+    line.extend_from_slice(rest.as_bytes())?;
+    Ok(line)
+}
+
+/// The line of a layout that keeps all rules.
+#[tactic(auto, unfolding(crate::specs::Endings::sound_line))]
+pub fn sound_line(alloc: Global, count: u32) -> Result<Text, Memory>
+    ensures { IfOk result (λ line. line ≡ sound_line count) }
+{
+    let line = format!(in alloc; "layout sound keys={count}\n")?;
+    Ok(Seq::from_vec(line.into_bytes()))
+}

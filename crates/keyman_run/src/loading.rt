@@ -1,0 +1,258 @@
+//! The command `load`: a large keyboard is made, compiled, verified and played in memory.
+
+ghost use Rattle.std.specs.Prelude.{◌≡◌, ◌≤◌, ◌<◌, ◌+◌, ◌-◌, ◌^◌, ◌∷◌, ℕ, List, length, IfOk};
+ghost use Rattle.std.specs.String.{string_bytes};
+ghost use Rattle.kmx_format.specs.File.{all_rules};
+ghost use Rattle.kmx_format.specs.TablesOf.{tables_of};
+ghost use Rattle.rule_model.specs.Tab.{tab};
+ghost use Rattle.rule_model.specs.Trace.{trace};
+ghost use Rattle.rule_model.specs.Transcript.{events_of};
+ghost use Rattle.rule_model.specs.declared.script.Entry.{Entry};
+ghost use Rattle.rule_model.specs.declared.script.Entry.TheVariants.{Act};
+ghost use Rattle.rule_model.specs.Act.{one_more};
+ghost use Rattle.rule_model.specs.Event.{whole_text};
+ghost use Rattle.keyman_run.specs.Loads.{job_of, load_job, program_job, script_job, file_part, load_line, play_part, played_load, sums_of, sums_left, no_progress, LeadsTo};
+ghost use Rattle.keyman_run.specs.Steps.{IsCompiled, States, itself, prepared_job};
+
+use crate::preparing::{Prepared, Stop, compile_stop, key_names, script_stop};
+use crate::reason::Reason;
+use kmn_base::{Code, Event, Memory, Seq, Text};
+use kmn_compiler::{Compiled, back, front};
+use kmx_format::rule_count;
+use kmx_verifier::{Verified, VerifyError, verify};
+use load_maker::{LoadError, make};
+use play_script::read_script;
+use play_session::{Session, StepError};
+use rule_checker::Checked;
+use rule_model::Entry;
+use std::alloc::{AllocError, Global};
+use virtual_keys::KeyDictionary;
+
+/// What a play comes to: the events that were done, the items that they put, and the length of the text in the end.
+#[derive(Clone, Copy, Debug, PartialEq, Eq)]
+pub struct Sums {
+    pub events: usize,
+    pub put: u64,
+    /// In characters.
+    pub text: usize,
+}
+
+/// What was counted of a play so far: the number of its last step, the events that were done, and the items that they put.
+#[derive(Clone, Copy, Debug, PartialEq, Eq)]
+pub struct Progress {
+    /// Stays at the end of its type.
+    pub number: u32,
+    pub events: usize,
+    pub put: u64,
+}
+
+/// The line of the load of a number, which is made, compiled, verified and played.
+pub fn played_load(alloc: Global, number: u32) -> Result<Text, Stop>
+    ensures { States itself (played_load number) result }
+{
+    let prepared = match prepare_load(alloc, number) {
+        Ok(prepared) => prepared,
+        Err(stop) => return Err(stop),
+    };
+    let sums = match play_load(alloc, &prepared) {
+        Ok(sums) => sums,
+        Err(stop) => return Err(stop),
+    };
+    match load_line(alloc, number, &prepared.compiled, sums) {
+        Ok(line) => Ok(line),
+        Err(Memory) => Err(Stop::Memory),
+    }
+}
+
+/// Makes and compiles the load of a number, and reads its script.
+#[tactic(auto, using(crate::proofs::LoadLaws::made_states, crate::proofs::LoadLaws::unmade_states))]
+fn prepare_load(alloc: Global, number: u32) -> Result<Prepared, Stop>
+    ensures compiled { IfOk result (λ prepared. IsCompiled prepared.compiled) }
+    ensures states { States prepared_job (load_job number) result }
+{
+    match make(alloc, number) {
+        Ok(load) => prepare_texts(alloc, load.source.as_slice(), load.script.as_slice()),
+        Err(LoadError::Range) => Err(Stop::Refused(Reason::Number)),
+        Err(LoadError::Memory) => Err(Stop::Memory),
+    }
+}
+
+/// Compiles a source without a picture, and reads a script for it.
+fn prepare_texts(alloc: Global, source: &[u8], script: &[u8]) -> Result<Prepared, Stop>
+    ensures compiled { IfOk result (λ prepared. IsCompiled prepared.compiled) }
+    ensures states { States prepared_job (job_of source.now script.now) result }
+{
+    match front(alloc, source) {
+        Ok(checked) => prepare_checked(alloc, &checked, script),
+        Err(error) => Err(compile_stop(error)),
+    }
+}
+
+/// Compiles a checked program without a picture, and reads a script for it.
+fn prepare_checked(alloc: Global, checked: &Checked, script: &[u8]) -> Result<Prepared, Stop>
+    ensures compiled { IfOk result (λ prepared. IsCompiled prepared.compiled) }
+    ensures states { States prepared_job (program_job checked.now script.now) result }
+{
+    match back(alloc, checked, &[]) {
+        Ok(compiled) => with_script(alloc, compiled, script, key_names(checked)),
+        Err(error) => Err(compile_stop(error)),
+    }
+}
+
+/// Reads a script for a compiled keyboard with these names of keys.
+fn with_script(
+    alloc: Global,
+    compiled: Compiled,
+    script: &[u8],
+    names: &KeyDictionary,
+) -> Result<Prepared, Stop>
+    requires { IsCompiled compiled }
+    ensures compiled { IfOk result (λ prepared. IsCompiled prepared.compiled) }
+    ensures states { States prepared_job (script_job compiled names.now script.now) result }
+{
+    match read_script(alloc, script, names) {
+        Ok(entries) => Ok(Prepared { compiled, entries }),
+        Err(error) => Err(script_stop(error)),
+    }
+}
+
+/// Verifies a compiled keyboard, plays the script on it, and counts.
+fn play_load(alloc: Global, prepared: &Prepared) -> Result<Sums, Stop>
+    requires { IsCompiled prepared.now.compiled }
+    ensures { States itself (sums_of (trace (tab prepared.now.compiled.tables) (events_of prepared.now.entries))) result }
+{
+    let file = match verify(alloc, prepared.compiled.bytes.as_slice()) {
+        Ok(file) => file,
+        Err(VerifyError::Refused(_)) => unreachable!(),
+        Err(VerifyError::Memory) => return Err(Stop::Memory),
+    };
+    count_play(alloc, &file, prepared.entries.as_slice())
+}
+
+/// Plays a script on a file, and counts. Its expected texts are passed over.
+#[tactic(auto, using(crate::proofs::LoadLaws::all_counted))]
+fn count_play<'a>(alloc: Global, file: &'a Verified<'a>, entries: &[Entry]) -> Result<Sums, Stop>
+    ensures { States itself (sums_of (trace (tab (tables_of file.now)) (events_of entries.now))) result }
+{
+    let mut session = match Session::start(alloc, file) {
+        Ok(session) => session,
+        Err(Memory) => return Err(Stop::Memory),
+    };
+    let mut progress = no_progress();
+    for entry in entries {
+        match count_entry(alloc, &mut session, progress, entry) {
+            Ok(next) => progress = next,
+            Err(stop) => return Err(stop),
+        }
+    }
+    Ok(Sums {
+        events: progress.events,
+        put: progress.put,
+        text: text_length(&session),
+    })
+}
+
+/// The length of a session's text, in characters.
+fn text_length(session: &Session) -> usize
+    ensures { result ≡ length (whole_text session.now.state) }
+{
+    let editor = session.editor();
+    editor.left().len() + editor.right().len()
+}
+
+/// Nothing is counted.
+fn no_progress() -> Progress
+    ensures { result ≡ no_progress }
+{
+    Progress {
+        number: 0,
+        events: 0,
+        put: 0,
+    }
+}
+
+/// Does the event of an entry, and counts it.
+fn count_entry(
+    alloc: Global,
+    session: &mut Session,
+    progress: Progress,
+    entry: &Entry,
+) -> Result<Progress, Stop>
+    requires numbered { session.old.number ≡ progress.number }
+    requires events { progress.events < 2 ^ 64 - 1 }
+    ensures numbered { IfOk result (λ next. (session.new.number ≡ next.number) × (next.events ≤ progress.events + 1)) }
+    ensures leads { (entries : List Entry) → LeadsTo (sums_left session.old progress (entry.now ∷ entries)) (λ next. sums_left session.new next entries) result }
+{
+    match entry {
+        Entry::Act { event, .. } => count_event(alloc, session, progress, event),
+        Entry::Expect { .. } => Ok(progress),
+    }
+}
+
+/// Does an event, and counts it. More items than the count has room for are want of memory.
+#[tactic(auto, using(crate::proofs::LoadLaws::event_counted, crate::proofs::LoadLaws::event_stops))]
+fn count_event(
+    alloc: Global,
+    session: &mut Session,
+    progress: Progress,
+    event: &Event,
+) -> Result<Progress, Stop>
+    requires numbered { session.old.number ≡ progress.number }
+    requires events { progress.events < 2 ^ 64 - 1 }
+    ensures numbered { IfOk result (λ next. (session.new.number ≡ next.number) × (next.events ≤ progress.events + 1)) }
+    ensures leads { (line : ℕ) (entries : List Entry) → LeadsTo (sums_left session.old progress (Act line event.now ∷ entries)) (λ next. sums_left session.new next entries) result }
+{
+    match session.step(alloc, event) {
+        Ok(step) => match progress.put.checked_add(u64::from(step.outcome.put)) {
+            Some(put) => Ok(Progress {
+                number: step.number,
+                events: progress.events + 1,
+                put,
+            }),
+            None => Err(Stop::Memory),
+        },
+        Err(StepError::Place) => Err(event_stop(progress.number, Code::E1)),
+        Err(StepError::Length) => Err(event_stop(progress.number, Code::E2)),
+        Err(StepError::Memory) => Err(Stop::Memory),
+    }
+}
+
+/// Why a play stops whose next event is refused.
+fn event_stop(last: u32, code: Code) -> Stop
+    ensures { result ≡ Stop.Refused (Reason.Event (one_more last) code) }
+{
+    Stop::Refused(Reason::Event {
+        number: last.saturating_add(1),
+        code,
+    })
+}
+
+/// The line of a load.
+fn load_line(alloc: Global, number: u32, compiled: &Compiled, sums: Sums) -> Result<Text, Memory>
+    requires { length (all_rules compiled.now.tables) < 2 ^ 64 }
+    ensures { IfOk result (λ line. line ≡ load_line number (length (all_rules compiled.now.tables)) (length compiled.now.bytes) sums) }
+{
+    let rules = rule_count(compiled.tables.groups.as_slice());
+    let file = file_part(alloc, number, rules, compiled.bytes.len())?;
+    let play = play_part(alloc, sums)?;
+    let mut line = Seq::from_slice(alloc, file.as_bytes())?;
+    line.extend_from_slice(play.as_bytes())?;
+    Ok(line)
+}
+
+/// What the line of a load says of its file.
+#[tactic(auto, unfolding(crate::specs::Loads::file_part))]
+fn file_part(alloc: Global, number: u32, rules: u64, bytes: usize) -> Result<String, AllocError>
+    ensures { IfOk result (λ text. string_bytes text ≡ file_part number rules bytes) }
+{
+    format!(in alloc; "load n={number} rules={rules} bytes={bytes}")
+}
+
+/// What it says of its play.
+#[tactic(auto, unfolding(crate::specs::Loads::play_part))]
+fn play_part(alloc: Global, sums: Sums) -> Result<String, AllocError>
+    ensures { IfOk result (λ text. string_bytes text ≡ play_part sums) }
+{
+    let Sums { events, put, text } = sums;
+    format!(in alloc; " events={events} put={put} text={text}\n")
+}

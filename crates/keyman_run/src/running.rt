@@ -1,0 +1,392 @@
+ghost use Rattle.std.specs.Prelude.{◌≡◌, ◌⊎◌, ◌↔◌, false, IsTrue, IsSomeAnd};
+ghost use Rattle.kmn_outside.specs.Outside.{Rose};
+ghost use Rattle.kmx_format.specs.TablesOf.{tables_of};
+ghost use Rattle.rule_model.specs.Tab.{tab};
+ghost use Rattle.rule_model.specs.Trace.{trace};
+ghost use Rattle.rule_model.specs.Transcript.{events_of, transcript};
+ghost use Rattle.keyman_run.specs.Asked.{AsksBy};
+ghost use Rattle.keyman_run.specs.Command.{is_form, request_of};
+ghost use Rattle.keyman_run.specs.Endings.{asked, ends, compiled_line, decompiled_line, sound_line, valid_line, end_status, play_status};
+ghost use Rattle.keyman_run.specs.Orders.{bytes_play_work, compile_work, decompile_work, layout_work, play_work, tables_layout_work, tables_play_work, test_work, verify_work, work_of};
+ghost use Rattle.keyman_run.specs.Inputs.{tables_of_file};
+ghost use Rattle.keyman_run.specs.Loads.{load_text};
+ghost use Rattle.keyman_run.specs.Reasons.{reason_line};
+ghost use Rattle.keyman_run.specs.Run.{Does, FaultCounts, FileMeans, Leaves};
+ghost use Rattle.keyman_run.specs.Seen.{seen_folder, seen_sink};
+ghost use Rattle.keyman_run.specs.Steps.{IsCompiled, Tells, TellsFile, TellsLoad, TellsStop, write_status};
+
+use crate::command::{Command, command_of};
+use crate::file_lines::valid_line;
+use crate::layouts::{read_keys, sound_line};
+use crate::lines::{compiled_line, reason_line};
+use crate::loading::played_load;
+use crate::preparing::{Prepared, Stop, prepare, read_and_compile, read_file, read_own_entries};
+use crate::reason::Reason;
+use crate::status::Status;
+use crate::texts::{decompiled_line, read_text};
+use kmn_base::Text;
+use kmn_compiler::Compiled;
+use kmn_outside::{Folder, Sink, WriteError};
+use kmx_verifier::{Verified, VerifyError, verify};
+use play_transcript::{PlayEnd, play, put_all};
+use rule_model::{Entry, Tables};
+use std::alloc::Global;
+
+/// Runs the command that the words are, over a folder and a sink. The order of its work is `work_of` of the words.
+pub fn run<F: Folder, S: Sink>(alloc: Global, words: &[Text], folder: &mut F, out: &mut S) -> Status
+    ensures words { (result ≡ Status.Words) ↔ (is_form words.now ≡ false) }
+    ensures counts { FaultCounts (F.faults folder.old) (F.faults folder.new) (S.faults out.old) (S.faults out.new) result }
+    ensures told { (F.told folder.new ≡ F.told folder.old) × (S.told out.new ≡ S.told out.old) }
+    ensures asked { IsTrue (F.told folder.old)
+        → AsksBy (Rose (S.faults out.old) (S.faults out.new)) (asked (F.files folder.old) (work_of (request_of words.now)))
+        (F.calls folder.old) (F.calls folder.new) result }
+    ensures leaves { IsTrue (F.told folder.old)
+        → Leaves (work_of (request_of words.now)) (seen_folder F.Folder folder.old) (seen_folder F.Folder folder.new)
+        (seen_sink S.Sink out.old) (seen_sink S.Sink out.new) result }
+    // Where no count of faults rose, the run ends as its words and files want it.
+    ensures complete { IsTrue (F.told folder.old)
+        → ¬ Rose (F.faults folder.old) (F.faults folder.new) → ¬ Rose (S.faults out.old) (S.faults out.new)
+        → (result ≡ Status.Memory) ⊎ IsSomeAnd (ends (F.files folder.old) (work_of (request_of words.now))) (λ ending. result ≡ ending.status) }
+    // The file that was written takes the steps that the source means, whatever events come and however the run ended.
+    ensures means { IsTrue (F.told folder.old)
+        → FileMeans (seen_folder F.Folder folder.old) (seen_folder F.Folder folder.new) (request_of words.now) }
+{
+    match command_of(words) {
+        Some(Command::Compile { source, file }) => compile(alloc, source, file, folder, out),
+        Some(Command::Test { source, file, keys }) => test(alloc, source, file, keys, folder, out),
+        Some(Command::Verify { file }) => verify_file(alloc, file, folder, out),
+        Some(Command::Decompile { file, source }) => decompile(alloc, file, source, folder, out),
+        Some(Command::Play { file, keys }) => play_on_file(alloc, file, keys, folder, out),
+        Some(Command::Layout { source, layout }) => {
+            check_layout(alloc, source, layout, folder, out)
+        }
+        Some(Command::Load { number }) => load(alloc, number, out),
+        None => Status::Words,
+    }
+}
+
+/// Compiles a source, writes the file and prints its counts.
+fn compile<F: Folder, S: Sink>(
+    alloc: Global,
+    source: &[u8],
+    file: &[u8],
+    folder: &mut F,
+    out: &mut S,
+) -> Status
+    ensures { Does (compile_work source.now file.now) F.Folder folder.old folder.new S.Sink out.old out.new result }
+{
+    match read_and_compile(alloc, source, folder) {
+        Ok(compiled) => match folder.write(alloc, file, compiled.bytes.as_slice()) {
+            Ok(()) => tell_compiled(alloc, &compiled, out),
+            Err(error) => write_status(error),
+        },
+        Err(stop) => tell_stop(alloc, stop, out),
+    }
+}
+
+/// Compiles a source, writes the file, and plays a script on it: what is printed is what the source means.
+fn test<F: Folder, S: Sink>(
+    alloc: Global,
+    source: &[u8],
+    file: &[u8],
+    keys: &[u8],
+    folder: &mut F,
+    out: &mut S,
+) -> Status
+    ensures { Does (test_work source.now file.now keys.now) F.Folder folder.old folder.new S.Sink out.old out.new result }
+{
+    match prepare(alloc, source, keys, folder) {
+        Ok(prepared) => match folder.write(alloc, file, prepared.compiled.bytes.as_slice()) {
+            Ok(()) => play_file(alloc, &prepared, out),
+            Err(error) => write_status(error),
+        },
+        Err(stop) => tell_stop(alloc, stop, out),
+    }
+}
+
+/// Verifies a file, and prints its version and counts or its first fault.
+fn verify_file<F: Folder, S: Sink>(
+    alloc: Global,
+    file: &[u8],
+    folder: &mut F,
+    out: &mut S,
+) -> Status
+    ensures { Does (verify_work file.now) F.Folder folder.old folder.new S.Sink out.old out.new result }
+{
+    match read_file(alloc, file, folder) {
+        Ok(bytes) => tell_file(alloc, bytes.as_slice(), out),
+        Err(stop) => tell_stop(alloc, stop, out),
+    }
+}
+
+/// Prints the version and counts of a file, or its first fault.
+#[tactic(auto, using(crate::proofs::FileRuns::tells_valid, crate::proofs::FileRuns::tells_faulty, crate::proofs::FileRuns::tells_nothing))]
+fn tell_file<S: Sink>(alloc: Global, bytes: &[u8], out: &mut S) -> Status
+    ensures { TellsFile (tables_of_file bytes.now) S.Sink out.old out.new result }
+{
+    match verify(alloc, bytes) {
+        Ok(file) => tell_valid(alloc, &file, out),
+        Err(VerifyError::Refused(fault)) => refuse(alloc, Reason::File(fault), out),
+        Err(VerifyError::Memory) => Status::Memory,
+    }
+}
+
+/// Prints the version and the counts of a valid file.
+#[tactic(auto, using(play_transcript::proofs::PrintingLaws::none_begun))]
+fn tell_valid<S: Sink>(alloc: Global, file: &Verified<'_>, out: &mut S) -> Status
+    ensures { Tells Status.Done (valid_line (tables_of file.now)) S.Sink out.old out.new result }
+{
+    let Ok(line) = valid_line(alloc, file) else {
+        return Status::Memory;
+    };
+    match put_all(out, line.as_slice()) {
+        Ok(()) => Status::Done,
+        Err(error) => write_status(error),
+    }
+}
+
+/// Decompiles a file, writes its text and prints the text's size.
+fn decompile<F: Folder, S: Sink>(
+    alloc: Global,
+    file: &[u8],
+    source: &[u8],
+    folder: &mut F,
+    out: &mut S,
+) -> Status
+    ensures { Does (decompile_work file.now source.now) F.Folder folder.old folder.new S.Sink out.old out.new result }
+{
+    match read_text(alloc, file, folder) {
+        Ok(text) => match folder.write(alloc, source, text.as_slice()) {
+            Ok(()) => tell_decompiled(alloc, &text, out),
+            Err(error) => write_status(error),
+        },
+        Err(stop) => tell_stop(alloc, stop, out),
+    }
+}
+
+/// Prints the size of a text.
+#[tactic(auto, using(play_transcript::proofs::PrintingLaws::none_begun))]
+fn tell_decompiled<S: Sink>(alloc: Global, text: &Text, out: &mut S) -> Status
+    ensures { Tells Status.Done (decompiled_line text.now) S.Sink out.old out.new result }
+{
+    let Ok(line) = decompiled_line(alloc, text) else {
+        return Status::Memory;
+    };
+    match put_all(out, line.as_slice()) {
+        Ok(()) => Status::Done,
+        Err(error) => write_status(error),
+    }
+}
+
+/// Plays a script on a compiled file, whoever made it.
+fn play_on_file<F: Folder, S: Sink>(
+    alloc: Global,
+    file: &[u8],
+    keys: &[u8],
+    folder: &mut F,
+    out: &mut S,
+) -> Status
+    ensures { Does (play_work file.now keys.now) F.Folder folder.old folder.new S.Sink out.old out.new result }
+{
+    match read_file(alloc, file, folder) {
+        Ok(bytes) => play_on_bytes(alloc, bytes.as_slice(), keys, folder, out),
+        Err(stop) => tell_stop(alloc, stop, out),
+    }
+}
+
+/// Plays a script on the bytes of a file, or prints the file's first fault.
+#[tactic(auto, using(crate::proofs::FileRuns::plays_valid, crate::proofs::FileRuns::plays_faulty, crate::proofs::FileRuns::does_no_memory))]
+fn play_on_bytes<F: Folder, S: Sink>(
+    alloc: Global,
+    bytes: &[u8],
+    keys: &[u8],
+    folder: &mut F,
+    out: &mut S,
+) -> Status
+    ensures { Does (bytes_play_work bytes.now keys.now) F.Folder folder.old folder.new S.Sink out.old out.new result }
+{
+    match verify(alloc, bytes) {
+        Ok(file) => play_on_valid(alloc, &file, keys, folder, out),
+        Err(VerifyError::Refused(fault)) => refuse(alloc, Reason::File(fault), out),
+        Err(VerifyError::Memory) => Status::Memory,
+    }
+}
+
+/// Reads a script for the keyboard of a valid file, and plays it.
+fn play_on_valid<'a, F: Folder, S: Sink>(
+    alloc: Global,
+    file: &'a Verified<'a>,
+    keys: &[u8],
+    folder: &mut F,
+    out: &mut S,
+) -> Status
+    ensures { Does (tables_play_work (tables_of file.now) keys.now) F.Folder folder.old folder.new S.Sink out.old out.new result }
+{
+    match read_own_entries(alloc, file, keys, folder) {
+        Ok(entries) => tell_played(alloc, file, entries.as_slice(), out),
+        Err(stop) => tell_stop(alloc, stop, out),
+    }
+}
+
+/// Compiles a source, checks a touch layout against its tables, and prints the count of the layout's keys.
+fn check_layout<F: Folder, S: Sink>(
+    alloc: Global,
+    source: &[u8],
+    layout: &[u8],
+    folder: &mut F,
+    out: &mut S,
+) -> Status
+    ensures { Does (layout_work source.now layout.now) F.Folder folder.old folder.new S.Sink out.old out.new result }
+{
+    match read_and_compile(alloc, source, folder) {
+        Ok(compiled) => check_beside(alloc, &compiled.tables, layout, folder, out),
+        Err(stop) => tell_stop(alloc, stop, out),
+    }
+}
+
+/// Reads a touch layout and checks it against tables, and prints the count of its keys.
+fn check_beside<F: Folder, S: Sink>(
+    alloc: Global,
+    tables: &Tables,
+    layout: &[u8],
+    folder: &mut F,
+    out: &mut S,
+) -> Status
+    ensures { Does (tables_layout_work tables.now layout.now) F.Folder folder.old folder.new S.Sink out.old out.new result }
+{
+    match read_keys(alloc, layout, tables, folder) {
+        Ok(count) => tell_sound(alloc, count, out),
+        Err(stop) => tell_stop(alloc, stop, out),
+    }
+}
+
+/// Prints the count of the keys of a layout.
+#[tactic(auto, using(play_transcript::proofs::PrintingLaws::none_begun))]
+fn tell_sound<S: Sink>(alloc: Global, count: u32, out: &mut S) -> Status
+    ensures { Tells Status.Done (sound_line count) S.Sink out.old out.new result }
+{
+    let Ok(line) = sound_line(alloc, count) else {
+        return Status::Memory;
+    };
+    match put_all(out, line.as_slice()) {
+        Ok(()) => Status::Done,
+        Err(error) => write_status(error),
+    }
+}
+
+/// Makes, compiles and plays a load, and prints its line.
+fn load<S: Sink>(alloc: Global, number: u32, out: &mut S) -> Status
+    ensures { TellsLoad (load_text number) S.Sink out.old out.new result }
+{
+    match played_load(alloc, number) {
+        Ok(line) => tell_load(line.as_slice(), out),
+        Err(stop) => tell_stop(alloc, stop, out),
+    }
+}
+
+/// Prints the line of a load.
+#[tactic(auto, using(play_transcript::proofs::PrintingLaws::none_begun))]
+fn tell_load<S: Sink>(line: &[u8], out: &mut S) -> Status
+    ensures { Tells Status.Done line.now S.Sink out.old out.new result }
+{
+    match put_all(out, line) {
+        Ok(()) => Status::Done,
+        Err(error) => write_status(error),
+    }
+}
+
+/// Prints what the keyboard of a valid file does with a script.
+#[tactic(auto, using(play_transcript::proofs::PrintingLaws::none_begun))]
+fn tell_played<'a, S: Sink>(
+    alloc: Global,
+    file: &'a Verified<'a>,
+    entries: &[Entry],
+    out: &mut S,
+) -> Status
+    ensures { Tells (play_status (trace (tab (tables_of file.now)) (events_of entries.now)) entries.now)
+        (transcript (tab (tables_of file.now)) entries.now) S.Sink out.old out.new result }
+{
+    match play(alloc, file, entries, out) {
+        Ok(end) => end_status(end),
+        Err(error) => write_status(error),
+    }
+}
+
+/// Ends a run that stops before it writes: prints the line of a reason, and nothing after a fault.
+fn tell_stop<S: Sink>(alloc: Global, stop: Stop, out: &mut S) -> Status
+    ensures { TellsStop stop S.Sink out.old out.new result }
+{
+    match stop {
+        Stop::Refused(why) => refuse(alloc, why, out),
+        Stop::ReadFault => Status::ReadFault,
+        Stop::Memory => Status::Memory,
+    }
+}
+
+/// Prints the counts of a compiled file.
+#[tactic(auto, using(play_transcript::proofs::PrintingLaws::none_begun))]
+fn tell_compiled<S: Sink>(alloc: Global, compiled: &Compiled, out: &mut S) -> Status
+    requires { IsCompiled compiled.now }
+    ensures { Tells Status.Done (compiled_line compiled.now) S.Sink out.old out.new result }
+{
+    let Ok(line) = compiled_line(alloc, compiled) else {
+        return Status::Memory;
+    };
+    match put_all(out, line.as_slice()) {
+        Ok(()) => Status::Done,
+        Err(error) => write_status(error),
+    }
+}
+
+/// Plays the script on the file that was written.
+#[tactic(auto, using(play_transcript::proofs::PrintingLaws::none_begun))]
+fn play_file<S: Sink>(alloc: Global, prepared: &Prepared, out: &mut S) -> Status
+    requires { IsCompiled prepared.now.compiled }
+    ensures { Tells (play_status (trace (tab prepared.now.compiled.tables) (events_of prepared.now.entries)) prepared.now.entries)
+        (transcript (tab prepared.now.compiled.tables) prepared.now.entries) S.Sink out.old out.new result }
+{
+    let file = match verify(alloc, prepared.compiled.bytes.as_slice()) {
+        Ok(file) => file,
+        Err(VerifyError::Refused(_)) => unreachable!(),
+        Err(VerifyError::Memory) => return Status::Memory,
+    };
+    match play(alloc, &file, prepared.entries.as_slice(), out) {
+        Ok(end) => end_status(end),
+        Err(error) => write_status(error),
+    }
+}
+
+/// Prints the line of a reason.
+#[tactic(auto, using(play_transcript::proofs::PrintingLaws::none_begun))]
+fn refuse<S: Sink>(alloc: Global, why: Reason, out: &mut S) -> Status
+    ensures { Tells Status.Refused (reason_line why) S.Sink out.old out.new result }
+{
+    let Ok(line) = reason_line(alloc, why) else {
+        return Status::Memory;
+    };
+    match put_all(out, line.as_slice()) {
+        Ok(()) => Status::Refused,
+        Err(error) => write_status(error),
+    }
+}
+
+/// The status of a run that ends with a play.
+fn end_status(end: PlayEnd) -> Status
+    ensures { result ≡ end_status end }
+{
+    match end {
+        PlayEnd::Done => Status::Done,
+        PlayEnd::Refused => Status::Refused,
+        PlayEnd::ExpectFailed => Status::ExpectFailed,
+    }
+}
+
+/// The status of a run that ends with a write or a put that didn't succeed.
+fn write_status(error: WriteError) -> Status
+    ensures { result ≡ write_status error }
+{
+    match error {
+        WriteError::Failed => Status::WriteFault,
+        WriteError::Memory => Status::Memory,
+    }
+}

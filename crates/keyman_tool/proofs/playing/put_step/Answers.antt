@@ -1,5 +1,0 @@
-use Rattle.keyman_tool.proofs.PrintingLaws.{none_begun}
-use Rattle.keyman_tool.proofs.playing.put_step.Goals as goal
-
-pub returns-in_default-clause-prints : goal.returns-in_default-clause-prints
-returns-in_default-clause-prints g c = λ told. none_begun _ _

@@ -1,0 +1,85 @@
+-- Lists that are appended in parts.
+use Rattle.std.proofs.Common.{◌≡◌, ℕ, List, [], ◌∷◌, ◌++◌, take, arith, drop, length, Result, Ok, Err, subst, refl, sym, ◌∙◌, ap, append_assoc, append-nil}
+use Rattle.std.proofs.lemmas.List.{take-append-drop}
+use Rattle.kmn_outside.specs.Outside.{Puts}
+use Rattle.kmn_outside.specs.declared.traits.WriteError.{WriteError}
+use Rattle.kmn_outside.specs.declared.traits.WriteError.TheVariants as write
+use Rattle.play_transcript.specs.Printing.{AppendsBut, IsBegun, Prints}
+
+-- at first all of a list is still to be appended
+pub none_appended : {X : Type 0} (before wanted : List X) → AppendsBut wanted before before wanted
+none_appended before wanted = record { done = []; parts = refl; appended = sym (append-nil before) }
+
+pub none_begun : {X : Type 0} (before wanted : List X) → IsBegun before before wanted
+none_begun before wanted = record { rest = wanted; begun = none_appended before wanted }
+
+-- more of the rest is appended
+pub appended_more : {X : Type 0} (part rest before middle after wanted : List X) → AppendsBut (part ++ rest) before middle wanted → after ≡ middle ++ part → AppendsBut rest before after wanted
+appended_more part rest before middle after wanted h is = record {
+  done = h.done ++ part;
+  parts = h.parts ∙ sym (append_assoc h.done part rest);
+  appended = is ∙ ap (λ front. front ++ part) h.appended ∙ append_assoc before h.done part;
+}
+
+-- the whole rest is appended
+pub appended_all : {X : Type 0} (rest before middle after wanted : List X) → AppendsBut rest before middle wanted → after ≡ middle ++ rest → after ≡ before ++ wanted
+appended_all rest before middle after wanted h is =
+    is ∙ ap (λ front. front ++ rest) h.appended ∙ append_assoc before h.done rest ∙ ap (λ list. before ++ list) (sym h.parts)
+
+-- a first part of the rest is appended
+pub begun_within : {X : Type 0} (part rest before middle after wanted : List X) → AppendsBut (part ++ rest) before middle wanted → IsBegun middle after part → IsBegun before after wanted
+begun_within part rest before middle after wanted h begun = record {
+  rest = begun.rest ++ rest;
+  begun = record {
+    done = h.done ++ begun.begun.done;
+    parts = h.parts ∙ ap (λ list. h.done ++ (list ++ rest)) begun.begun.parts ∙ ap (λ list. h.done ++ list) (append_assoc begun.begun.done begun.rest rest)
+        ∙ sym (append_assoc h.done begun.begun.done (begun.rest ++ rest));
+    appended = begun.begun.appended ∙ ap (λ front. front ++ begun.begun.done) h.appended ∙ append_assoc before h.done begun.begun.done;
+  };
+}
+
+-- a first part of a list is one of the list and what follows
+pub begun_front : {X : Type 0} (before after part more : List X) → IsBegun before after part → IsBegun before after (part ++ more)
+begun_front before after part more begun = begun_within part more before before after (part ++ more) (none_appended before (part ++ more)) begun
+
+-- a first part of what follows a list is one of the list and what follows
+pub begun_behind : {X : Type 0} (before middle after part more : List X) → middle ≡ before ++ part → IsBegun middle after more → IsBegun before after (part ++ more)
+begun_behind before middle after part more is begun = record {
+  rest = begun.rest;
+  begun = record {
+    done = part ++ begun.begun.done;
+    parts = ap (λ list. part ++ list) begun.begun.parts ∙ sym (append_assoc part begun.begun.done begun.rest);
+    appended = begun.begun.appended ∙ ap (λ front. front ++ begun.begun.done) is ∙ append_assoc before part begun.begun.done;
+  };
+}
+
+-- a list that was appended whole is begun
+pub whole_begun : {X : Type 0} (before after wanted : List X) → after ≡ before ++ wanted → IsBegun before after wanted
+whole_begun before after wanted is = record { rest = []; begun = record { done = wanted; parts = sym (append-nil wanted); appended = is } }
+
+-- a put that took a part of the rest
+pub put_on : (start line before after rest : List ℕ) (count : ℕ) → Puts before after rest (Ok count) → AppendsBut rest start before line → AppendsBut (drop count rest) start after line
+put_on start line before after rest count puts h =
+    appended_more (take count rest) (drop count rest) start before after line
+    (record { done = h.done; parts = h.parts ∙ ap (λ list. h.done ++ list) (sym (take-append-drop count rest)); appended = h.appended }) puts
+
+-- a put that failed
+pub put_stops : (start line before after rest : List ℕ) (error : WriteError) → Puts before after rest (Err error) → AppendsBut rest start before line → IsBegun start after line
+put_stops start line before after rest write.Failed puts h = record { rest = drop puts.0 rest; begun = put_on start line before after rest puts.0 puts.1 h }
+put_stops start line before after rest write.Memory puts h = record { rest = rest; begun = record { done = h.done; parts = h.parts; appended = puts ∙ h.appended } }
+
+-- where nothing is left, all was appended
+pub nothing_left : {X : Type 0} (rest before after wanted : List X) → AppendsBut rest before after wanted → length rest ≡ 0 → after ≡ before ++ wanted
+nothing_left [] before after wanted h none = h.appended ∙ ap (λ list. before ++ list) (sym (h.parts ∙ append-nil h.done))
+nothing_left (x ∷ rest) before after wanted h none = absurd (omega arith)
+
+-- the rest is printed, or where something failed a first part of it
+pub prints_rest : {A E : Type 0} (rest start before after whole : List ℕ) (result : Result A E) → AppendsBut rest start before whole → Prints before after rest result → Prints start after whole result
+prints_rest rest start before after whole (Ok x) h prints = appended_all rest start before after whole h prints
+prints_rest rest start before after whole (Err error) h begun =
+    begun_within rest [] start before after whole (subst (λ (list : List ℕ). AppendsBut list start before whole) (sym (append-nil rest)) h) begun
+
+-- after a first line more is printed, or where something failed a first part of it
+pub prints_behind : {A E : Type 0} (line more before middle after : List ℕ) (result : Result A E) → middle ≡ before ++ line → Prints middle after more result → Prints before after (line ++ more) result
+prints_behind line more before middle after (Ok x) is prints = prints ∙ ap (λ front. front ++ more) is ∙ append_assoc before line more
+prints_behind line more before middle after (Err error) is begun = begun_behind before middle after line more is begun

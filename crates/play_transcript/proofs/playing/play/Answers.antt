@@ -1,0 +1,55 @@
+use Rattle.std.proofs.Common.{sym, refl, rules, arith}
+use Rattle.kmx_format.specs.TablesOf.{tables_of}
+use Rattle.play_session.proofs.Printing.{sessions_begin, sessions_go_on}
+use Rattle.play_transcript.proofs.PrintingLaws.{none_begun}
+use Rattle.play_transcript.proofs.PlayingLaws.{Begins, session_begins, HasGoneOn, gone_on, refused_ends, refused_prints, play_stops, play_ends, ends_if, ends_so}
+use Rattle.play_transcript.proofs.playing.play.Goals as goal
+
+pub returns-in-Err-clause-prints : goal.returns-in-Err-clause-prints
+returns-in-Err-clause-prints g c = λ told. none_begun _ _
+
+pub loop-entry-init : goal.loop-entry-init
+loop-entry-init g c =
+    let h : Begins c.in-Ok.session (tables_of c.args.file.now) c.args.entries.now = session_begins sessions_begin c.in-Ok.session (tables_of c.args.file.now) c.args.entries.now c.in-Ok.ensures in
+    rw c.no_counts-counts.ensures (record { faults = refl; told = refl; session = h.options; number = h.number; events = omega arith; failed = omega arith; end = h.end; printed = λ told. h.printed _ })
+
+pub returns-in-Ok-Refused-clause-ends : goal.returns-in-Ok-Refused-clause-ends
+returns-in-Ok-Refused-clause-ends g c =
+    sym (refused_ends c.loop-entry.session c.loop-entry.counts c.args.entries.now c.loop-entry.entry-index c.entry-item.result c.entry-item.result (omega arith) c.entry-item.is sessions_go_on c.play_entry.new.session
+    c.loop-entry.invariant.session c.loop-entry.invariant.number (search rules) _ c.loop-entry.invariant.end)
+
+pub returns-in-Ok-Refused-clause-prints : goal.returns-in-Ok-Refused-clause-prints
+returns-in-Ok-Refused-clause-prints g c = λ told.
+    refused_prints c.loop-entry.session c.loop-entry.counts c.args.entries.now c.loop-entry.entry-index c.entry-item.result c.entry-item.result (omega arith) c.entry-item.is sessions_go_on c.play_entry.new.session
+    c.loop-entry.invariant.session c.loop-entry.invariant.number (search rules) _ _ _ _ (c.loop-entry.invariant.printed told) (search rules)
+
+pub returns-in-Err-play_entry-clause-prints : goal.returns-in-Err-play_entry-clause-prints
+returns-in-Err-play_entry-clause-prints g c = λ told.
+    play_stops c.loop-entry.session c.loop-entry.counts c.args.entries.now c.loop-entry.entry-index c.entry-item.result c.entry-item.result (omega arith) c.entry-item.is
+    _ _ _ _ (c.loop-entry.invariant.printed told) (c.in-Err-play_entry.ensures.prints (search rules))
+
+pub returns-clause-ends : goal.returns-clause-ends
+returns-clause-ends g c =
+    ends_if c.put_end.result _ _ c.put_end.ensures.ends
+    (ends_so c.loop-entry.session c.loop-entry.counts c.args.entries.now c.loop-entry.entry-index _ (omega arith) c.loop-entry.invariant.end)
+
+pub returns-clause-prints : goal.returns-clause-prints
+returns-clause-prints g c = λ told.
+    play_ends c.loop-entry.session c.loop-entry.counts c.args.entries.now c.loop-entry.entry-index _ _ _ _ _ (omega arith)
+    (c.loop-entry.invariant.printed told) (c.put_end.ensures.prints (search rules))
+
+pub loop-entry-preserved : goal.loop-entry-preserved
+loop-entry-preserved g c =
+    let h : HasGoneOn c.loop-entry.session c.loop-entry.counts c.args.entries.now c.loop-entry.entry-index c.entry-item.result c.entry-item.result (omega arith) c.entry-item.is c.play_entry.new.session c.in-Ok-On.next =
+    gone_on c.loop-entry.session c.loop-entry.counts c.args.entries.now c.loop-entry.entry-index c.entry-item.result c.entry-item.result (omega arith) c.entry-item.is sessions_go_on c.play_entry.new.session c.in-Ok-On.next
+    c.loop-entry.invariant.session c.loop-entry.invariant.number (search rules) in
+    record {
+      faults = search rules;
+      told = search rules;
+      session = h.session;
+      number = h.number;
+      events = omega (arith, h.events, c.loop-entry.invariant.events);
+      failed = omega (arith, h.failed, c.loop-entry.invariant.failed);
+      end = h.end _ c.loop-entry.invariant.end;
+      printed = λ told. h.printed _ _ _ _ (c.loop-entry.invariant.printed told) (search rules);
+    }

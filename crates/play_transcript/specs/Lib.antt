@@ -1,0 +1,4 @@
+pub mod Ends
+pub mod Failures
+pub mod Playing
+pub mod Printing

@@ -1,0 +1,99 @@
+-- What is printed of a script, entry by entry.
+use Rattle.std.specs.Prelude.{◌≡◌, ℕ, ◌+◌, ◌<◌, length, if◌then◌else◌, List, [], ◌++◌, Result, Ok, Err}
+use Rattle.std.specs.List.{All}
+use Rattle.std.specs.Str.{bytes_eq}
+use Rattle.kmn_base.specs.declared.codes.Code.{Code}
+use Rattle.kmn_base.specs.declared.events.Event.{Event}
+use Rattle.kmn_base.specs.Lists.{characters, window}
+use Rattle.rule_model.specs.declared.script.Entry.{Entry}
+use Rattle.rule_model.specs.declared.script.Entry.TheVariants.{Act, Expect}
+use Rattle.rule_model.specs.Act.{one_more}
+use Rattle.rule_model.specs.Event.{State, Happening, whole_text, event_of}
+use Rattle.rule_model.specs.Lines.{event_line, text_line, end_line}
+use Rattle.rule_model.specs.Tab.{tab}
+use Rattle.rule_model.specs.Trace.{Steps, steps_from}
+use Rattle.rule_model.specs.Transcript.{refused_event_line, expect_line, events_of, lines_from, step_lines}
+use Rattle.play_session.specs.declared.changes.Change.{Change}
+use Rattle.play_session.specs.declared.session.Step.{Step}
+use Rattle.play_session.specs.Printed.{change_lines}
+use Rattle.play_session.specs.Session.{SessionState, after_step}
+use Rattle.play_transcript.specs.Ends.{end_after}
+use Rattle.play_transcript.specs.Failures.{failures_from}
+use Rattle.play_transcript.specs.declared.playing.Counts.{Counts}
+use Rattle.play_transcript.specs.declared.playing.Played.{Played}
+use Rattle.play_transcript.specs.declared.playing.Played.TheVariants as played
+use Rattle.play_transcript.specs.declared.playing.PlayEnd.{PlayEnd}
+
+-- before the first entry
+abbrev pub no_counts : Counts
+no_counts = record { number = 0; events = 0; failed = 0 }
+
+-- the steps that a script still takes from a session on
+abbrev pub steps_left : SessionState → List Entry → Steps
+steps_left session entries = steps_from (tab session.tables) (one_more session.number) (events_of entries) session.state
+
+-- the lines that are still to be printed, where so much was counted
+abbrev pub lines_left : SessionState → Counts → List Entry → List ℕ
+lines_left session counts entries =
+    lines_from counts.events counts.failed session.state entries (steps_left session entries).done (steps_left session entries).refused
+
+-- how the play ends
+abbrev pub end_left : SessionState → Counts → List Entry → PlayEnd
+end_left session counts entries =
+    end_after (steps_left session entries).refused (failures_from counts.failed session.state entries (steps_left session entries).done)
+
+-- the lines of an event: what happened and what it changed, or its refusal
+abbrev pub happening_lines : State → ℕ → Result Happening Code → List ℕ
+happening_lines before number (Ok happened) = step_lines before (record { number = number; happened = happened })
+happening_lines before number (Err code) = refused_event_line number code
+
+abbrev pub event_lines : SessionState → Event → List ℕ
+event_lines session event = happening_lines session.state (one_more session.number) (event_of (tab session.tables) session.state event)
+
+-- the same as the session behind it tells them
+abbrev pub happened_lines : SessionState → Step → List ℕ
+happened_lines session step = event_line step.number step.outcome session.inserted (window session.state.left) ++ change_lines session
+
+-- the changes of a session are of its stores
+abbrev pub AreOfStores : SessionState → Type 0
+AreOfStores session = All (λ (change : Change). change.store < length session.tables.stores) session.changes
+
+-- the line of an expected text, where it differs
+abbrev pub expect_lines : State → ℕ → List ℕ → List ℕ
+expect_lines state line text = if bytes_eq (whole_text state) text then [] else expect_line line
+
+-- the lines of an entry
+abbrev pub entry_lines : SessionState → Entry → List ℕ
+entry_lines session (Act line event) = event_lines session event
+entry_lines session (Expect line text) = expect_lines session.state line text
+
+-- the counts after an event, and after an expected text
+abbrev pub event_counted : SessionState → Counts → Counts
+event_counted session counts = record { number = one_more session.number; events = counts.events + 1; failed = counts.failed }
+
+abbrev pub text_counted : State → List ℕ → Counts → Counts
+text_counted state text counts = if bytes_eq (whole_text state) text then counts else record counts { failed = counts.failed + 1 }
+
+-- an event that happened left the session behind it, and the play goes on; one that is refused ends the play
+abbrev pub PlaysBy : SessionState → SessionState → Counts → Event → Result Happening Code → Played → Type 0
+PlaysBy before after counts event (Ok happened) (played.On next) = (after ≡ after_step before event) × (next ≡ event_counted before counts)
+PlaysBy before after counts event (Ok happened) played.Refused = ⊥
+PlaysBy before after counts event (Err code) (played.On next) = ⊥
+PlaysBy before after counts event (Err code) played.Refused = Unit {0}
+
+abbrev pub PlaysEvent : SessionState → SessionState → Counts → Event → Played → Type 0
+PlaysEvent before after counts event end = PlaysBy before after counts event (event_of (tab before.tables) before.state event) end
+
+-- an expected text leaves the session as it is
+abbrev pub PlaysExpect : SessionState → SessionState → Counts → List ℕ → Played → Type 0
+PlaysExpect before after counts text (played.On next) = (after ≡ before) × (next ≡ text_counted before.state text counts)
+PlaysExpect before after counts text played.Refused = ⊥
+
+-- the same of an entry
+abbrev pub Plays : SessionState → SessionState → Counts → Entry → Played → Type 0
+Plays before after counts (Act line event) end = PlaysEvent before after counts event end
+Plays before after counts (Expect line text) end = PlaysExpect before after counts text end
+
+-- the two last lines: the text, and the counts
+abbrev pub end_lines : SessionState → Counts → List ℕ
+end_lines session counts = text_line (characters session.state.left) session.state.right ++ end_line counts.events counts.failed

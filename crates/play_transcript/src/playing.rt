@@ -1,0 +1,335 @@
+ghost use Rattle.std.specs.Prelude.{◌≡◌, ◌-◌, ◌<◌, ◌^◌, ◌++◌, [], None, length, flat_map, unwrap_or, IsTrue, IfOk};
+ghost use Rattle.std.specs.List.{All};
+ghost use Rattle.std.specs.Str.{bytes_eq};
+ghost use Rattle.kmn_outside.specs.Outside.{WriteCounts};
+ghost use Rattle.kmx_format.specs.TablesOf.{tables_of};
+ghost use Rattle.rule_model.specs.Tab.{tab};
+ghost use Rattle.rule_model.specs.Trace.{trace};
+ghost use Rattle.rule_model.specs.Transcript.{events_of, transcript, refused_event_line};
+ghost use Rattle.play_session.specs.Printed.{IsSession, change_line};
+ghost use Rattle.play_transcript.specs.Ends.{play_end, end_after};
+ghost use Rattle.play_transcript.specs.Playing.{entry_lines, event_lines, expect_lines, end_lines, happened_lines, no_counts, AreOfStores, Plays, PlaysEvent, PlaysExpect};
+ghost use Rattle.play_transcript.specs.Printing.{Prints};
+
+use crate::printing::put_all;
+use kmn_base::slices::{before, behind};
+use kmn_base::{Code, Element, Event, Memory, Seq, Text};
+use kmn_outside::{Sink, WriteError};
+use kmx_verifier::Verified;
+use play_script::{end_line, expect_line, line_of, refused_event_line, text_line, value_line};
+use play_session::{Change, Session, Step, StepError};
+use rule_model::Entry;
+use std::alloc::Global;
+
+/// What was counted of a play: the number of its last step, events that were done, and expected texts that differed.
+#[derive(Clone, Copy, Debug, PartialEq, Eq)]
+pub struct Counts {
+    /// Stays at the end of its type.
+    pub number: u32,
+    pub events: usize,
+    pub failed: usize,
+}
+
+/// What an entry makes of a play: it goes on, or an event was refused.
+#[derive(Clone, Copy, Debug, PartialEq, Eq)]
+pub enum Played {
+    On(Counts),
+    Refused,
+}
+
+/// How a play ends.
+#[derive(Clone, Copy, Debug, PartialEq, Eq)]
+pub enum PlayEnd {
+    Done,
+    /// An event was refused.
+    Refused,
+    /// The script came to its end, and an expected text differed.
+    ExpectFailed,
+}
+
+/// Plays a script on a keyboard: prints what each event did and which expected texts differ, and in the end the text.
+pub fn play<'a, S: Sink>(
+    alloc: Global,
+    file: &'a Verified<'a>,
+    entries: &[Entry],
+    out: &mut S,
+) -> Result<PlayEnd, WriteError>
+    ensures counts { WriteCounts (S.faults out.old) (S.faults out.new) result }
+    ensures told { S.told out.new ≡ S.told out.old }
+    ensures ends { IfOk result (λ end. end ≡ play_end (trace (tab (tables_of file.now)) (events_of entries.now)) entries.now) }
+    ensures prints { IsTrue (S.told out.old)
+        → Prints (S.written out.old) (S.written out.new) (transcript (tab (tables_of file.now)) entries.now) result }
+{
+    let mut session = match Session::start(alloc, file) {
+        Ok(session) => session,
+        Err(Memory) => return Err(WriteError::Memory),
+    };
+    let mut counts = no_counts();
+    for entry in entries {
+        match play_entry(alloc, &mut session, counts, entry, out) {
+            Ok(Played::On(next)) => counts = next,
+            Ok(Played::Refused) => return Ok(PlayEnd::Refused),
+            Err(error) => return Err(error),
+        }
+    }
+    put_end(alloc, &session, counts, out)
+}
+
+/// Nothing is counted.
+fn no_counts() -> Counts
+    ensures { result ≡ no_counts }
+{
+    Counts {
+        number: 0,
+        events: 0,
+        failed: 0,
+    }
+}
+
+/// Plays an entry of a script and prints its lines.
+fn play_entry<S: Sink>(
+    alloc: Global,
+    session: &mut Session,
+    counts: Counts,
+    entry: &Entry,
+    out: &mut S,
+) -> Result<Played, WriteError>
+    requires numbered { session.old.number ≡ counts.number }
+    requires events { counts.events < 2 ^ 64 - 1 }
+    requires failed { counts.failed < 2 ^ 64 - 1 }
+    requires options { IsSession session.old }
+    ensures counts { WriteCounts (S.faults out.old) (S.faults out.new) result }
+    ensures told { S.told out.new ≡ S.told out.old }
+    ensures plays { IfOk result (Plays session.old session.new counts entry.now) }
+    ensures prints { IsTrue (S.told out.old) → Prints (S.written out.old) (S.written out.new) (entry_lines session.old entry.now) result }
+{
+    match entry {
+        Entry::Act { event, .. } => play_event(alloc, session, counts, event, out),
+        Entry::Expect { line, text } => {
+            play_expect(alloc, session, counts, *line, text.as_slice(), out)
+        }
+    }
+}
+
+/// Does an event and prints its lines.
+#[tactic(auto, using(crate::proofs::PrintingLaws::none_begun, crate::proofs::PlayingLaws::step_of_stores))]
+fn play_event<S: Sink>(
+    alloc: Global,
+    session: &mut Session,
+    counts: Counts,
+    event: &Event,
+    out: &mut S,
+) -> Result<Played, WriteError>
+    requires numbered { session.old.number ≡ counts.number }
+    requires events { counts.events < 2 ^ 64 - 1 }
+    requires options { IsSession session.old }
+    ensures counts { WriteCounts (S.faults out.old) (S.faults out.new) result }
+    ensures told { S.told out.new ≡ S.told out.old }
+    ensures plays { IfOk result (PlaysEvent session.old session.new counts event.now) }
+    ensures prints { IsTrue (S.told out.old) → Prints (S.written out.old) (S.written out.new) (event_lines session.old event.now) result }
+{
+    match session.step(alloc, event) {
+        Ok(step) => match put_step(alloc, session, step, out) {
+            Ok(()) => Ok(Played::On(Counts {
+                number: step.number,
+                events: counts.events + 1,
+                failed: counts.failed,
+            })),
+            Err(error) => Err(error),
+        },
+        Err(StepError::Place) => put_refusal(alloc, counts.number.saturating_add(1), Code::E1, out),
+        Err(StepError::Length) => {
+            put_refusal(alloc, counts.number.saturating_add(1), Code::E2, out)
+        }
+        Err(StepError::Memory) => Err(WriteError::Memory),
+    }
+}
+
+/// Prints what the last event did, and the values that it changed.
+#[tactic(auto, using(crate::proofs::PrintingLaws::none_begun, crate::proofs::PrintingLaws::begun_front, crate::proofs::PrintingLaws::prints_behind))]
+fn put_step<S: Sink>(
+    alloc: Global,
+    session: &Session,
+    step: Step,
+    out: &mut S,
+) -> Result<(), WriteError>
+    requires { AreOfStores session.now }
+    ensures counts { WriteCounts (S.faults out.old) (S.faults out.new) result }
+    ensures told { S.told out.new ≡ S.told out.old }
+    ensures prints { IsTrue (S.told out.old) → Prints (S.written out.old) (S.written out.new) (happened_lines session.now step) result }
+{
+    let context = session.engine().context();
+    let Ok(line) = line_of(
+        alloc,
+        step.number,
+        step.outcome,
+        session.inserted(),
+        context,
+    ) else {
+        return Err(WriteError::Memory);
+    };
+    match put_all(out, line.as_slice()) {
+        Ok(()) => put_changes(alloc, session, session.changes(), out),
+        Err(error) => Err(error),
+    }
+}
+
+/// Prints the new values of options.
+#[tactic(auto, using(crate::proofs::PlayingLaws::changes_begin))]
+fn put_changes<S: Sink>(
+    alloc: Global,
+    session: &Session,
+    changes: &[Change],
+    out: &mut S,
+) -> Result<(), WriteError>
+    requires { All (λ change. change.store < length session.now.tables.stores) changes.now }
+    ensures counts { WriteCounts (S.faults out.old) (S.faults out.new) result }
+    ensures told { S.told out.new ≡ S.told out.old }
+    ensures prints { IsTrue (S.told out.old) → Prints (S.written out.old) (S.written out.new) (flat_map (change_line session.now) changes.now) result }
+{
+    for change in changes {
+        match put_change(alloc, session, change, out) {
+            Ok(()) => {}
+            Err(error) => return Err(error),
+        }
+    }
+    Ok(())
+}
+
+/// Prints the new value of an option.
+#[tactic(auto, using(crate::proofs::PrintingLaws::none_begun))]
+fn put_change<S: Sink>(
+    alloc: Global,
+    session: &Session,
+    change: &Change,
+    out: &mut S,
+) -> Result<(), WriteError>
+    requires { change.now.store < length session.now.tables.stores }
+    ensures counts { WriteCounts (S.faults out.old) (S.faults out.new) result }
+    ensures told { S.told out.new ≡ S.told out.old }
+    ensures prints { IsTrue (S.told out.old) → Prints (S.written out.old) (S.written out.new) (change_line session.now change.now) result }
+{
+    let Ok(line) = change_line(alloc, session, *change) else {
+        return Err(WriteError::Memory);
+    };
+    put_all(out, line.as_slice())
+}
+
+/// The line of an option's new value.
+fn change_line(alloc: Global, session: &Session, change: Change) -> Result<Text, Memory>
+    requires { change.store < length session.now.tables.stores }
+    ensures { IfOk result (λ line. line ≡ change_line session.now change) }
+{
+    let name = session.name(alloc, change.store)?;
+    let value = session.value(alloc, change.store, change.saved)?;
+    value_line(alloc, change.saved, name.as_slice(), elements_of(&value))
+}
+
+/// The elements of a value, none where there is none.
+fn elements_of(value: &Option<Seq<Element>>) -> &[Element]
+    ensures { result.now ≡ unwrap_or value.now [] }
+{
+    match value {
+        Some(value) => value.as_slice(),
+        None => &[],
+    }
+}
+
+/// Prints the refusal of an event.
+#[tactic(auto, using(crate::proofs::PrintingLaws::none_begun))]
+fn put_refusal<S: Sink>(
+    alloc: Global,
+    number: u32,
+    code: Code,
+    out: &mut S,
+) -> Result<Played, WriteError>
+    ensures counts { WriteCounts (S.faults out.old) (S.faults out.new) result }
+    ensures told { S.told out.new ≡ S.told out.old }
+    ensures refused { IfOk result (λ played. played ≡ Played.Refused) }
+    ensures prints { IsTrue (S.told out.old) → Prints (S.written out.old) (S.written out.new) (refused_event_line number code) result }
+{
+    let Ok(line) = refused_event_line(alloc, number, code) else {
+        return Err(WriteError::Memory);
+    };
+    match put_all(out, line.as_slice()) {
+        Ok(()) => Ok(Played::Refused),
+        Err(error) => Err(error),
+    }
+}
+
+/// Compares the whole text with an expected one, and prints where it differs.
+#[tactic(auto, using(crate::proofs::PrintingLaws::none_begun))]
+fn play_expect<S: Sink>(
+    alloc: Global,
+    session: &Session,
+    counts: Counts,
+    line: u32,
+    text: &[char],
+    out: &mut S,
+) -> Result<Played, WriteError>
+    requires failed { counts.failed < 2 ^ 64 - 1 }
+    ensures counts { WriteCounts (S.faults out.old) (S.faults out.new) result }
+    ensures told { S.told out.new ≡ S.told out.old }
+    ensures plays { IfOk result (PlaysExpect session.now session.now counts text.now) }
+    ensures prints { IsTrue (S.told out.old) → Prints (S.written out.old) (S.written out.new) (expect_lines session.now.state line text.now) result }
+{
+    if is_text(session.editor().left(), session.editor().right(), text) {
+        return Ok(Played::On(counts));
+    }
+    let Ok(line) = expect_line(alloc, line) else {
+        return Err(WriteError::Memory);
+    };
+    match put_all(out, line.as_slice()) {
+        Ok(()) => Ok(Played::On(Counts {
+            failed: counts.failed + 1,
+            ..counts
+        })),
+        Err(error) => Err(error),
+    }
+}
+
+/// Whether a text before the caret and one after it are together this text.
+#[tactic(auto, using(crate::proofs::PlayingLaws::text_in_parts))]
+fn is_text(left: &[char], right: &[char], text: &[char]) -> bool
+    ensures { result ≡ bytes_eq (left.now ++ right.now) text.now }
+{
+    left == before(text, left.len()) && right == behind(text, left.len())
+}
+
+/// Prints the text and the counts, and answers how the play ends.
+fn put_end<S: Sink>(
+    alloc: Global,
+    session: &Session,
+    counts: Counts,
+    out: &mut S,
+) -> Result<PlayEnd, WriteError>
+    ensures counts { WriteCounts (S.faults out.old) (S.faults out.new) result }
+    ensures told { S.told out.new ≡ S.told out.old }
+    ensures ends { IfOk result (λ end. end ≡ end_after None counts.failed) }
+    ensures prints { IsTrue (S.told out.old) → Prints (S.written out.old) (S.written out.new) (end_lines session.now counts) result }
+{
+    let Ok(text) = text_line(alloc, session.editor().left(), session.editor().right()) else {
+        return Err(WriteError::Memory);
+    };
+    let Ok(end) = end_line(alloc, counts.events, counts.failed) else {
+        return Err(WriteError::Memory);
+    };
+    match put_all(out, text.as_slice()) {
+        Ok(()) => match put_all(out, end.as_slice()) {
+            Ok(()) => Ok(end_after(counts.failed)),
+            Err(error) => Err(error),
+        },
+        Err(error) => Err(error),
+    }
+}
+
+/// How a play ends that comes to the end of its script.
+fn end_after(failed: usize) -> PlayEnd
+    ensures { result ≡ end_after None failed }
+{
+    if failed == 0 {
+        PlayEnd::Done
+    } else {
+        PlayEnd::ExpectFailed
+    }
+}

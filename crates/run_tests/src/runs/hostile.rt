@@ -1,0 +1,116 @@
+//! Runs in which a call of the folder or the sink fails, and files of the greatest size and of one byte more.
+
+use super::rows::FILE;
+use super::{ended, folder};
+use crate::fixtures::seq;
+use keyman_run::Status;
+use kmn_base::Seq;
+use kmn_base::slices::before;
+use kmn_outside::{MemoryFolder, MemorySink};
+use std::alloc::Global;
+use std::test::Fail;
+
+/// The first run with a fault: what can't be read or written, by the numbers from 1 of the folder's and of the sink's call that
+/// fail, 0 for none; how it ends, what is printed, and how many bytes of the file stand in `out`, None where it isn't there.
+const FAULTS: [(&str, (u32, u32), Status, &str, Option<usize>); 5] = [
+    ("the source", (1, 0), Status::ReadFault, "", None),
+    ("the script", (2, 0), Status::ReadFault, "", None),
+    ("the file", (3, 0), Status::WriteFault, "", Some(61)),
+    ("the first line", (0, 1), Status::WriteFault, "", Some(122)),
+    (
+        "the second line",
+        (0, 2),
+        Status::WriteFault,
+        "1 del=0 ins=0062 pass=0 beep=0 ent=1 ctx=0062\n",
+        Some(122),
+    ),
+];
+
+/// A command on a file `a` of so many equal bytes, and the line that refuses it.
+const SIZES: [(&str, u8, usize, &str); 4] = [
+    ("compile a out", b' ', 4_194_304, "refused C01 line 1\n"),
+    ("compile a out", b' ', 4_194_305, "refused L05 line 1\n"),
+    ("verify a", 0, 67_108_864, "refused V02 at 0\n"),
+    ("verify a", 0, 67_108_865, "refused V15 at 0\n"),
+];
+
+/// How many bytes a large file is put together of at a time.
+const BLOCK: usize = 4096;
+
+/// Whether the first run ends, prints and leaves what is wanted where these calls fail.
+fn is_fault(
+    alloc: Global,
+    calls: (u32, u32),
+    status: Status,
+    printed: &str,
+    size: Option<usize>,
+) -> Result<bool, Fail> {
+    let mut folder = folder(alloc, "@+ 'a' > 'b'~", b"", "[K_A]~", calls.0)?;
+    let fails = Vec::from_slice(alloc, &[calls.1])?;
+    let mut sink = MemorySink::new(alloc, Seq::from_vec(fails));
+    let ends = ended(alloc, "test a.kmn out a.keys", &mut folder, &mut sink)?;
+    Ok(
+        ends == status
+            && sink.written() == printed.as_bytes()
+            && folder.file(b"out") == size.and_then(|size| FILE.get(..size)),
+    )
+}
+
+/// What fails in the first row of `FAULTS` that isn't right.
+fn wrong_fault(alloc: Global) -> Result<Option<&'static str>, Fail> {
+    for (what, calls, status, printed, size) in FAULTS {
+        if !is_fault(alloc, calls, status, printed, size)? {
+            return Ok(Some(what));
+        }
+    }
+    Ok(None)
+}
+
+/// So many equal bytes.
+fn equal_bytes(alloc: Global, byte: u8, size: usize) -> Result<Seq<u8>, Fail> {
+    let block = [byte; BLOCK];
+    let mut bytes = Vec::with_capacity(alloc, size)?;
+    for _ in 0..size / BLOCK {
+        bytes.extend_from_slice(&block)?;
+    }
+    bytes.extend_from_slice(before(&block, size % BLOCK))?;
+    Ok(Seq::from_vec(bytes))
+}
+
+/// Whether a file of so many equal bytes is refused with this line, and nothing is written.
+fn is_refused(alloc: Global, words: &str, byte: u8, size: usize, line: &str) -> Result<bool, Fail> {
+    let mut files = Vec::new(alloc);
+    files.push((seq(alloc, b"a")?, equal_bytes(alloc, byte, size)?))?;
+    let mut folder = MemoryFolder::new(alloc, Seq::from_vec(files), Seq::new(alloc));
+    let mut sink = MemorySink::new(alloc, Seq::new(alloc));
+    let ends = ended(alloc, words, &mut folder, &mut sink)?;
+    Ok(
+        ends == Status::Refused
+            && sink.written() == line.as_bytes()
+            && folder.file(b"out").is_none(),
+    )
+}
+
+/// The line of the first row of `SIZES` that isn't right.
+fn wrong_size(alloc: Global) -> Result<Option<&'static str>, Fail> {
+    for (words, byte, size, line) in SIZES {
+        if !is_refused(alloc, words, byte, size, line)? {
+            return Ok(Some(line));
+        }
+    }
+    Ok(None)
+}
+
+#[test]
+fn faults(rt: HostRuntime) -> Result<(), Fail> {
+    let wrong = wrong_fault(rt.alloc())?;
+    assert!(rt; wrong.is_none(), "{}", wrong.unwrap_or(""));
+    Ok(())
+}
+
+#[test]
+fn sizes(rt: HostRuntime) -> Result<(), Fail> {
+    let wrong = wrong_size(rt.alloc())?;
+    assert!(rt; wrong.is_none(), "{}", wrong.unwrap_or(""));
+    Ok(())
+}
