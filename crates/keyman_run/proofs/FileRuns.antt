@@ -1,6 +1,7 @@
 -- Runs on a compiled file that anyone made.
 use Rattle.std.proofs.Common.{◌≡◌, inl, List, ℕ, Option, Some, None, Result, Ok, Err, refl, sym, subst, ◌∙◌, append-nil}
 use Rattle.rule_model.specs.Keyboard.{Keyboard}
+use Rattle.rule_model.specs.Tab.{tab}
 use Rattle.rule_model.specs.Trace.{trace}
 use Rattle.rule_model.specs.Transcript.{events_of, transcript}
 use Rattle.rule_model.specs.declared.script.Entry.{Entry}
@@ -97,3 +98,13 @@ plays_entries kb slice entries folders folder sinks out out_after how same tells
     subst (λ (es : List Entry). Does (Give (play_ending kb es)) folders folder folder sinks out out_after how) same
     (does_told (Give (play_ending kb slice)) (play_ending kb slice) folders folder folder sinks out out_after how refl refl
     (λ told. (refl, record { asked = sym (append-nil (folders.calls folder)); files = λ name. refl })) tells)
+
+-- playing on the file that was written, whose keyboard is that of its tables
+pub plays_written : {S : Type 0} (bytes file : List ℕ) (tables : Tables) (slice entries : List Entry) (sinks : SinkView S) (out out_after : S) (how : Status)
+    → tab (tables_of bytes) ≡ tab tables → file ≡ bytes → slice ≡ entries
+    → Tells (play_status (trace (tab (tables_of file)) (events_of slice)) slice) (transcript (tab (tables_of file)) slice) sinks out out_after how
+    → Tells (play_status (trace (tab tables) (events_of entries)) entries) (transcript (tab tables) entries) sinks out out_after how
+plays_written bytes file tables slice entries sinks out out_after how keyboard same same_entries tells =
+    subst (λ (kb : Keyboard). Tells (play_status (trace kb (events_of entries)) entries) (transcript kb entries) sinks out out_after how) keyboard
+    (subst (λ (b : List ℕ). Tells (play_status (trace (tab (tables_of b)) (events_of entries)) entries) (transcript (tab (tables_of b)) entries) sinks out out_after how) same
+    (subst (λ (es : List Entry). Tells (play_status (trace (tab (tables_of file)) (events_of es)) es) (transcript (tab (tables_of file)) es) sinks out out_after how) same_entries tells))

@@ -4,6 +4,7 @@ ghost use Rattle.kmx_format.specs.TablesOf.{tables_of};
 ghost use Rattle.rule_model.specs.Tab.{tab};
 ghost use Rattle.rule_model.specs.Trace.{trace};
 ghost use Rattle.rule_model.specs.Transcript.{events_of, transcript};
+ghost use Rattle.play_session.specs.Session.{first_session};
 ghost use Rattle.keyman_run.specs.Asked.{AsksBy};
 ghost use Rattle.keyman_run.specs.Command.{is_form, request_of};
 ghost use Rattle.keyman_run.specs.Endings.{asked, ends, compiled_line, decompiled_line, sound_line, valid_line, end_status, play_status};
@@ -24,10 +25,11 @@ use crate::preparing::{Prepared, Stop, prepare, read_and_compile, read_file, rea
 use crate::reason::Reason;
 use crate::status::Status;
 use crate::texts::{decompiled_line, read_text};
-use kmn_base::Text;
+use kmn_base::{Memory, Text};
 use kmn_compiler::Compiled;
 use kmn_outside::{Folder, Sink, WriteError};
 use kmx_verifier::{Verified, VerifyError, verify};
+use play_session::Session;
 use play_transcript::{PlayEnd, play, put_all};
 use rule_model::{Entry, Tables};
 use std::alloc::Global;
@@ -306,7 +308,25 @@ fn tell_played<'a, S: Sink>(
     ensures { Tells (play_status (trace (tab (tables_of file.now)) (events_of entries.now)) entries.now)
         (transcript (tab (tables_of file.now)) entries.now) S.Sink out.old out.new result }
 {
-    match play(alloc, file, entries, out) {
+    match Session::start(alloc, file) {
+        Ok(session) => tell_session(alloc, session, entries, out),
+        Err(Memory) => Status::Memory,
+    }
+}
+
+/// Prints what is done in a session before its first event.
+#[tactic(auto, using(play_transcript::proofs::PrintingLaws::none_begun))]
+fn tell_session<'a, S: Sink>(
+    alloc: Global,
+    session: Session<'a>,
+    entries: &[Entry],
+    out: &mut S,
+) -> Status
+    requires { session ≡ first_session session.tables }
+    ensures { Tells (play_status (trace (tab session.entry.tables) (events_of entries.now)) entries.now)
+        (transcript (tab session.entry.tables) entries.now) S.Sink out.old out.new result }
+{
+    match play(alloc, session, entries, out) {
         Ok(end) => end_status(end),
         Err(error) => write_status(error),
     }
@@ -339,7 +359,7 @@ fn tell_compiled<S: Sink>(alloc: Global, compiled: &Compiled, out: &mut S) -> St
 }
 
 /// Plays the script on the file that was written.
-#[tactic(auto, using(play_transcript::proofs::PrintingLaws::none_begun))]
+#[tactic(auto, using(play_transcript::proofs::PrintingLaws::none_begun, crate::proofs::FileRuns::plays_written))]
 fn play_file<S: Sink>(alloc: Global, prepared: &Prepared, out: &mut S) -> Status
     requires { IsCompiled prepared.now.compiled }
     ensures { Tells (play_status (trace (tab prepared.now.compiled.tables) (events_of prepared.now.entries)) prepared.now.entries)
@@ -350,10 +370,7 @@ fn play_file<S: Sink>(alloc: Global, prepared: &Prepared, out: &mut S) -> Status
         Err(VerifyError::Refused(_)) => unreachable!(),
         Err(VerifyError::Memory) => return Status::Memory,
     };
-    match play(alloc, &file, prepared.entries.as_slice(), out) {
-        Ok(end) => end_status(end),
-        Err(error) => write_status(error),
-    }
+    tell_played(alloc, &file, prepared.entries.as_slice(), out)
 }
 
 /// Prints the line of a reason.

@@ -2,11 +2,11 @@ ghost use Rattle.std.specs.Prelude.{◌≡◌, ◌-◌, ◌<◌, ◌^◌, ◌++�
 ghost use Rattle.std.specs.List.{All};
 ghost use Rattle.std.specs.Str.{bytes_eq};
 ghost use Rattle.kmn_outside.specs.Outside.{WriteCounts};
-ghost use Rattle.kmx_format.specs.TablesOf.{tables_of};
 ghost use Rattle.rule_model.specs.Tab.{tab};
 ghost use Rattle.rule_model.specs.Trace.{trace};
 ghost use Rattle.rule_model.specs.Transcript.{events_of, transcript, refused_event_line};
 ghost use Rattle.play_session.specs.Printed.{IsSession, change_line};
+ghost use Rattle.play_session.specs.Session.{first_session};
 ghost use Rattle.play_transcript.specs.Ends.{play_end, end_after};
 ghost use Rattle.play_transcript.specs.Playing.{entry_lines, event_lines, expect_lines, end_lines, happened_lines, no_counts, AreOfStores, Plays, PlaysEvent, PlaysExpect};
 ghost use Rattle.play_transcript.specs.Printing.{Prints};
@@ -15,7 +15,6 @@ use crate::printing::put_all;
 use kmn_base::slices::{before, behind};
 use kmn_base::{Code, Element, Event, Memory, Seq, Text};
 use kmn_outside::{Sink, WriteError};
-use kmx_verifier::Verified;
 use play_script::{end_line, expect_line, line_of, refused_event_line, text_line, value_line};
 use play_session::{Change, Session, Step, StepError};
 use rule_model::Entry;
@@ -47,23 +46,21 @@ pub enum PlayEnd {
     ExpectFailed,
 }
 
-/// Plays a script on a keyboard: prints what each event did and which expected texts differ, and in the end the text.
+/// Plays a script in a session before its first event: prints what each event did and which expected texts differ, and in the
+/// end the text.
 pub fn play<'a, S: Sink>(
     alloc: Global,
-    file: &'a Verified<'a>,
+    mut session: Session<'a>,
     entries: &[Entry],
     out: &mut S,
 ) -> Result<PlayEnd, WriteError>
+    requires { session ≡ first_session session.tables }
     ensures counts { WriteCounts (S.faults out.old) (S.faults out.new) result }
     ensures told { S.told out.new ≡ S.told out.old }
-    ensures ends { IfOk result (λ end. end ≡ play_end (trace (tab (tables_of file.now)) (events_of entries.now)) entries.now) }
+    ensures ends { IfOk result (λ end. end ≡ play_end (trace (tab session.entry.tables) (events_of entries.now)) entries.now) }
     ensures prints { IsTrue (S.told out.old)
-        → Prints (S.written out.old) (S.written out.new) (transcript (tab (tables_of file.now)) entries.now) result }
+        → Prints (S.written out.old) (S.written out.new) (transcript (tab session.entry.tables) entries.now) result }
 {
-    let mut session = match Session::start(alloc, file) {
-        Ok(session) => session,
-        Err(Memory) => return Err(WriteError::Memory),
-    };
     let mut counts = no_counts();
     for entry in entries {
         match play_entry(alloc, &mut session, counts, entry, out) {

@@ -1,16 +1,11 @@
 use Rattle.std.proofs.Common.{sym, refl, rules, arith}
-use Rattle.kmx_format.specs.TablesOf.{tables_of}
 use Rattle.play_session.proofs.Printing.{sessions_begin, sessions_go_on}
-use Rattle.play_transcript.proofs.PrintingLaws.{none_begun}
 use Rattle.play_transcript.proofs.PlayingLaws.{Begins, session_begins, HasGoneOn, gone_on, refused_ends, refused_prints, play_stops, play_ends, ends_if, ends_so}
 use Rattle.play_transcript.proofs.playing.play.Goals as goal
 
-pub returns-in-Err-clause-prints : goal.returns-in-Err-clause-prints
-returns-in-Err-clause-prints g c = λ told. none_begun _ _
-
 pub loop-entry-init : goal.loop-entry-init
 loop-entry-init g c =
-    let h : Begins c.in-Ok.session (tables_of c.args.file.now) c.args.entries.now = session_begins sessions_begin c.in-Ok.session (tables_of c.args.file.now) c.args.entries.now c.in-Ok.ensures in
+    let h : Begins c.args.session c.args.session.tables c.args.entries.now = session_begins sessions_begin c.args.session c.args.session.tables c.args.entries.now c.requires in
     rw c.no_counts-counts.ensures (record { faults = refl; told = refl; session = h.options; number = h.number; events = omega arith; failed = omega arith; end = h.end; printed = λ told. h.printed _ })
 
 pub returns-in-Ok-Refused-clause-ends : goal.returns-in-Ok-Refused-clause-ends
@@ -23,10 +18,10 @@ returns-in-Ok-Refused-clause-prints g c = λ told.
     refused_prints c.loop-entry.session c.loop-entry.counts c.args.entries.now c.loop-entry.entry-index c.entry-item.result c.entry-item.result (omega arith) c.entry-item.is sessions_go_on c.play_entry.new.session
     c.loop-entry.invariant.session c.loop-entry.invariant.number (search rules) _ _ _ _ (c.loop-entry.invariant.printed told) (search rules)
 
-pub returns-in-Err-play_entry-clause-prints : goal.returns-in-Err-play_entry-clause-prints
-returns-in-Err-play_entry-clause-prints g c = λ told.
+pub returns-in-Err-clause-prints : goal.returns-in-Err-clause-prints
+returns-in-Err-clause-prints g c = λ told.
     play_stops c.loop-entry.session c.loop-entry.counts c.args.entries.now c.loop-entry.entry-index c.entry-item.result c.entry-item.result (omega arith) c.entry-item.is
-    _ _ _ _ (c.loop-entry.invariant.printed told) (c.in-Err-play_entry.ensures.prints (search rules))
+    _ _ _ _ (c.loop-entry.invariant.printed told) (c.in-Err.ensures.prints (search rules))
 
 pub returns-clause-ends : goal.returns-clause-ends
 returns-clause-ends g c =

@@ -1,6 +1,5 @@
 use Rattle.std.proofs.Common.{◌≡◌, ◌≤◌, drop, IsTrue}
 use Rattle.rule_model.specs.Tab.{tab}
-use Rattle.kmx_format.specs.TablesOf.{tables_of}
 use Rattle.rule_model.specs.Trace.{trace}
 use Rattle.rule_model.specs.Transcript.{events_of, transcript}
 use Rattle.play_session.specs.Printed.{IsSession}
@@ -18,7 +17,7 @@ invariant-loop-entry g l =
       number : l.session.number ≡ l.counts.number;
       events : l.counts.events ≤ l.entry-index;
       failed : l.counts.failed ≤ l.entry-index;
-      end : end_left l.session l.counts (drop l.entry-index l.entries) ≡ play_end (trace (tab (tables_of l.file)) (events_of l.entries)) l.entries;
+      end : end_left l.session l.counts (drop l.entry-index l.entries) ≡ play_end (trace (tab l.initial.session.tables) (events_of l.entries)) l.entries;
       printed : IsTrue (g.S.Sink.told l.initial.out)
-          → AppendsBut (lines_left l.session l.counts (drop l.entry-index l.entries)) (g.S.Sink.written l.initial.out) (g.S.Sink.written l.out) (transcript (tab (tables_of l.file)) l.entries);
+          → AppendsBut (lines_left l.session l.counts (drop l.entry-index l.entries)) (g.S.Sink.written l.initial.out) (g.S.Sink.written l.out) (transcript (tab l.initial.session.tables) l.entries);
     }
