@@ -6,7 +6,6 @@ pub mod InputLaws
 mod LayoutLaws
 mod LoadLaws
 pub mod MeaningLaws
-pub mod OwnNames
 pub mod RunLaws
 mod StatedLoads
 mod TextLaws

@@ -9,7 +9,6 @@
 #![tactic(auto)]
 
 mod command;
-mod file_keys;
 mod file_lines;
 mod layouts;
 mod lines;

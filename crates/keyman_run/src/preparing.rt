@@ -1,20 +1,19 @@
 ghost use Rattle.std.specs.Prelude.{◌≡◌, Some, IfOk};
-ghost use Rattle.kmx_format.specs.TablesOf.{tables_of};
 ghost use Rattle.rule_model.specs.Src.{src};
 ghost use Rattle.rule_model.specs.Tab.{tab};
 ghost use Rattle.kmn_compiler.specs.Picture.{picture_name};
 ghost use Rattle.keyman_run.specs.Orders.{bytes_work, compiled_work, file_work, job_work, picture_work, script_work, source_work};
 ghost use Rattle.keyman_run.specs.Steps.{Gives, IsCompiled, itself, prepared_job, compile_stop, script_stop, first_line, read_stop};
 
-use crate::file_keys::own_keys;
 use crate::neighbours::beside;
 use crate::reason::Reason;
 use kmn_base::limits::{FILE_BYTES, PICTURE_BYTES, TEXT_BYTES};
 use kmn_base::{Code, CompileError, Memory, Refusal, Seq};
 use kmn_compiler::{Compiled, back, front, picture_name};
 use kmn_outside::{Folder, ReadError};
-use kmx_verifier::{Fault, Verified};
+use kmx_verifier::Fault;
 use play_script::{ScriptError, read_script};
+use play_session::Session;
 use rule_checker::Checked;
 use rule_model::Entry;
 use std::alloc::Global;
@@ -191,19 +190,23 @@ pub fn read_file<F: Folder>(alloc: Global, name: &[u8], folder: &mut F) -> Resul
     }
 }
 
-/// Reads the script of a name for the keyboard of a valid file.
+/// The names of the own keys of a session's file.
+fn own_names<'s>(session: &'s Session<'_>) -> &'s KeyDictionary
+    ensures { result.now ≡ (tab session.now.tables).dictionary }
+{
+    session.engine().names()
+}
+
+/// Reads the script of a name for the keyboard of a session.
 pub fn read_own_entries<F: Folder>(
     alloc: Global,
-    file: &Verified<'_>,
+    session: &Session<'_>,
     keys: &[u8],
     folder: &mut F,
 ) -> Result<Seq<Entry>, Stop>
-    ensures { Gives itself (script_work (tab (tables_of file.now)).dictionary keys.now) F.Folder folder.old folder.new result }
+    ensures { Gives itself (script_work (tab session.now.tables).dictionary keys.now) F.Folder folder.old folder.new result }
 {
-    let Ok(names) = own_keys(alloc, file) else {
-        return Err(Stop::Memory);
-    };
-    read_entries(alloc, keys, &names, folder)
+    read_entries(alloc, keys, own_names(session), folder)
 }
 
 /// A refusal at line 1.

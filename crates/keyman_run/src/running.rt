@@ -215,6 +215,7 @@ fn play_on_bytes<F: Folder, S: Sink>(
 }
 
 /// Reads a script for the keyboard of a valid file, and plays it.
+#[tactic(auto, using(crate::proofs::FileRuns::does_no_memory))]
 fn play_on_valid<'a, F: Folder, S: Sink>(
     alloc: Global,
     file: &'a Verified<'a>,
@@ -224,8 +225,25 @@ fn play_on_valid<'a, F: Folder, S: Sink>(
 ) -> Status
     ensures { Does (tables_play_work (tables_of file.now) keys.now) F.Folder folder.old folder.new S.Sink out.old out.new result }
 {
-    match read_own_entries(alloc, file, keys, folder) {
-        Ok(entries) => tell_played(alloc, file, entries.as_slice(), out),
+    match Session::start(alloc, file) {
+        Ok(session) => play_in_session(alloc, session, keys, folder, out),
+        Err(Memory) => Status::Memory,
+    }
+}
+
+/// Reads a script for the keyboard of a session before its first event, and plays it there.
+fn play_in_session<'a, F: Folder, S: Sink>(
+    alloc: Global,
+    session: Session<'a>,
+    keys: &[u8],
+    folder: &mut F,
+    out: &mut S,
+) -> Status
+    requires { session ≡ first_session session.tables }
+    ensures { Does (tables_play_work session.entry.tables keys.now) F.Folder folder.old folder.new S.Sink out.old out.new result }
+{
+    match read_own_entries(alloc, &session, keys, folder) {
+        Ok(entries) => tell_session(alloc, session, entries.as_slice(), out),
         Err(stop) => tell_stop(alloc, stop, out),
     }
 }

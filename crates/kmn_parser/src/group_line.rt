@@ -59,7 +59,12 @@ pub(crate) fn read_begin(alloc: Global, line: Line<'_>) -> Result<Statement, Tro
     requires { length (texts line.tokens) < 2 ^ 59 }
     ensures { Reads (read_begin line.entry.number line.entry.last (texts line.entry.tokens)) result }
 {
-    let Line { number, last, tokens, .. } = line;
+    let Line {
+        number,
+        last,
+        tokens,
+        ..
+    } = line;
     if let Some(fault) = begin_fault(last, tokens) {
         return Err(Trouble::Broken(fault));
     }
@@ -109,7 +114,12 @@ pub(crate) fn read_group(alloc: Global, line: Line<'_>) -> Result<Statement, Tro
     requires { length (texts line.tokens) < 2 ^ 59 }
     ensures { Reads (read_group line.entry.number line.entry.last (texts line.entry.tokens)) result }
 {
-    let Line { number, last, tokens, .. } = line;
+    let Line {
+        number,
+        last,
+        tokens,
+        ..
+    } = line;
     if let Some(fault) = group_fault(last, tokens) {
         return Err(Trouble::Broken(fault));
     }

@@ -96,7 +96,12 @@ pub(crate) fn read_match(
     requires { length (texts line.tokens) < 2 ^ 59 }
     ensures { Reads (read_match kind line.entry.group line.entry.number line.entry.last (texts line.entry.tokens)) result }
 {
-    let Line { number, group, last, tokens } = line;
+    let Line {
+        number,
+        group,
+        last,
+        tokens,
+    } = line;
     let arrow = place_of(Sign::Arrow, tokens);
     if let Some(fault) = match_fault(group, arrow, tokens) {
         return Err(Trouble::Broken(fault));
@@ -160,11 +165,7 @@ fn rule_head(group: LastGroup, signs: Signs, tokens: LineTokens<'_>) -> Option<C
 
 /// The key of a rule, which stands between `+` and `>`.
 #[tactic(auto, unfolding(crate::specs::Line::rule_key))]
-fn rule_key(
-    alloc: Global,
-    line: Line<'_>,
-    signs: Signs,
-) -> Result<Option<SrcItem>, Trouble>
+fn rule_key(alloc: Global, line: Line<'_>, signs: Signs) -> Result<Option<SrcItem>, Trouble>
     requires few { length (texts line.tokens) < 2 ^ 59 }
     requires within { signs.arrow ≤ length (texts line.tokens) }
     ensures { Reads (rule_key line.entry.group line.entry.last signs.arrow signs.plus (texts line.entry.tokens)) result }
@@ -192,7 +193,12 @@ fn rule_body(alloc: Global, line: Line<'_>, signs: Signs) -> Result<RuleDef, Tro
     requires within { signs.arrow ≤ length (texts line.tokens) }
     ensures { Reads (rule_body line.entry.group line.entry.number line.entry.last signs.arrow signs.plus (texts line.entry.tokens)) result }
 {
-    let Line { number, last, tokens, .. } = line;
+    let Line {
+        number,
+        last,
+        tokens,
+        ..
+    } = line;
     let before = tokens.before(signs.plus);
     let context = match read_items(alloc, Where::Context, last, 0, before) {
         Ok(context) => context,

@@ -122,7 +122,12 @@ pub(crate) fn read_store(alloc: Global, line: Line<'_>) -> Result<Statement, Tro
     requires { length (texts line.tokens) < 2 ^ 59 }
     ensures { Reads (read_store line.entry.number line.entry.last (texts line.entry.tokens)) result }
 {
-    let Line { number, last, tokens, .. } = line;
+    let Line {
+        number,
+        last,
+        tokens,
+        ..
+    } = line;
     if let Some(fault) = store_fault(last, tokens) {
         return Err(Trouble::Broken(fault));
     }

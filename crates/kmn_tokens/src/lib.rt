@@ -20,9 +20,9 @@ mod sizes;
 mod tests;
 mod token_error;
 
+pub use faults::has_forbidden;
 use kmn_base::{CompileError, Seq};
 use kmn_lines::{Logical, parts};
-pub use faults::has_forbidden;
 pub use kmn_lines::{Token, TokenKind};
 pub use numbers::number;
 use scan::add_all;

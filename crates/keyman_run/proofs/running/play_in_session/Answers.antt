@@ -1,5 +1,4 @@
 use Rattle.std.proofs.Common.{List}
-use Rattle.kmx_format.specs.TablesOf.{tables_of}
 use Rattle.rule_model.specs.Keyboard.{Keyboard}
 use Rattle.rule_model.specs.Tab.{tab}
 use Rattle.rule_model.specs.declared.script.Entry.{Entry}
@@ -10,7 +9,7 @@ use Rattle.keyman_run.specs.Work.{Work}
 use Rattle.keyman_run.specs.Work.Work.{Give}
 use Rattle.keyman_run.proofs.FileRuns.{plays_entries}
 use Rattle.keyman_run.proofs.RunLaws.{does_behind, does_stopped}
-use Rattle.keyman_run.proofs.running.play_on_valid.Goals as goal
+use Rattle.keyman_run.proofs.running.play_in_session.Goals as goal
 
 -- the work behind the script
 abbrev rest : Keyboard → List Entry → Work Ending
@@ -18,11 +17,11 @@ rest kb entries = Give (play_ending kb entries)
 
 pub returns-in-Ok : goal.returns-in-Ok
 returns-in-Ok g c =
-    let kb : Keyboard = tab (tables_of c.args.file.now) in
-    does_behind itself (script_work kb.dictionary c.args.keys.now) (rest kb) g.F.Folder _ _ _ c.in-Ok.entries g.S.Sink _ _ c.tell_played.result c.in-Ok.ensures
-    (plays_entries kb c.as_slice.result.now c.in-Ok.entries g.F.Folder _ g.S.Sink _ _ c.tell_played.result c.as_slice.ensures c.tell_played.ensures)
+    let kb : Keyboard = tab c.args.session.tables in
+    does_behind itself (script_work kb.dictionary c.args.keys.now) (rest kb) g.F.Folder _ _ _ c.in-Ok.entries g.S.Sink _ _ c.tell_session.result c.in-Ok.ensures
+    (plays_entries kb c.as_slice.result.now c.in-Ok.entries g.F.Folder _ g.S.Sink _ _ c.tell_session.result c.as_slice.ensures c.tell_session.ensures)
 
 pub returns-in-Err : goal.returns-in-Err
 returns-in-Err g c =
-    let kb : Keyboard = tab (tables_of c.args.file.now) in
+    let kb : Keyboard = tab c.args.session.tables in
     does_stopped itself (script_work kb.dictionary c.args.keys.now) (rest kb) g.F.Folder _ _ c.in-Err.stop g.S.Sink _ _ c.tell_stop.result c.in-Err.ensures c.tell_stop.ensures
