@@ -1,5 +1,5 @@
 -- Records that stand one after the other, by number; units that are read again.
-use Rattle.std.proofs.Common.{◌≡◌, ℕ, zero, suc, ◌+◌, ◌*◌, ◌<◌, ◌≤◌, Bool, List, [], ◌∷◌, length, refl, sym, ap, ◌∙◌, append-nil, arith}
+use Rattle.std.proofs.Common.{◌≡◌, ℕ, zero, suc, ◌+◌, ◌-◌, ◌*◌, ◌<◌, ◌≤◌, Bool, List, [], ◌∷◌, length, refl, sym, ap, ◌∙◌, append-nil, arith}
 use Rattle.std.specs.Prelude.{Some, None, slice_get}
 use Rattle.std.proofs.lemmas.Option.{slice_get_past}
 use Rattle.kmn_base.specs.Spelling.{unit_bytes, whole_units}
@@ -27,6 +27,15 @@ module _ {X : Type 0} (record_at : ℕ → X) (size : ℕ) (records_from : ℕ �
       let behind : place + size * suc i ≡ place + size + size * i = omega arith in
       ap (λ p. Some (record_at p)) behind ∙ record_there (place + size) count i (omega arith)
       ∙ sym (ap (λ (xs : List X). slice_get xs (suc i)) (more place count))
+
+  records_ended : (place left : ℕ) → left ≡ 0 → records_from place left ≡ []
+  records_ended place left e = ap (records_from place) e ∙ none place
+
+  records_more : (place left : ℕ) → 0 < left → records_from place left ≡ record_at place ∷ records_from (place + size) (left - 1)
+  records_more place zero positive = absurd (omega arith)
+  records_more place (suc left) positive =
+      let less : left ≡ suc left - 1 = omega arith in
+      more place left ∙ ap (λ k. record_at place ∷ records_from (place + size) k) less
 
   record_past : (place count i : ℕ) → count ≤ i → None ≡ slice_get (records_from place count) i
   record_past place count i past = sym (slice_get_past (records_from place count) i (omega (arith, record_count place count)))
@@ -61,3 +70,27 @@ rule_there bytes using_keys = record_there (rule_at bytes using_keys) 20 (rules_
 
 pub rule_past : (bytes : List ℕ) (using_keys : Bool) (place count i : ℕ) → count ≤ i → None ≡ slice_get (rules_from bytes using_keys place count) i
 rule_past bytes using_keys = record_past (rule_at bytes using_keys) 20 (rules_from bytes using_keys) (λ _. refl) (λ _ _. refl)
+
+-- the stores one by one
+pub stores_ended : (bytes : List ℕ) (place left : ℕ) → left ≡ 0 → stores_from bytes place left ≡ []
+stores_ended bytes = records_ended (store_at bytes) 12 (stores_from bytes) (λ _. refl) (λ _ _. refl)
+
+pub stores_more : (bytes : List ℕ) (place left : ℕ) → 0 < left
+    → stores_from bytes place left ≡ store_at bytes place ∷ stores_from bytes (place + 12) (left - 1)
+stores_more bytes = records_more (store_at bytes) 12 (stores_from bytes) (λ _. refl) (λ _ _. refl)
+
+-- the groups one by one
+pub groups_ended : (bytes : List ℕ) (place left : ℕ) → left ≡ 0 → groups_from bytes place left ≡ []
+groups_ended bytes = records_ended (group_at bytes) 24 (groups_from bytes) (λ _. refl) (λ _ _. refl)
+
+pub groups_more : (bytes : List ℕ) (place left : ℕ) → 0 < left
+    → groups_from bytes place left ≡ group_at bytes place ∷ groups_from bytes (place + 24) (left - 1)
+groups_more bytes = records_more (group_at bytes) 24 (groups_from bytes) (λ _. refl) (λ _ _. refl)
+
+-- the rules one by one
+pub rules_ended : (bytes : List ℕ) (using_keys : Bool) (place left : ℕ) → left ≡ 0 → rules_from bytes using_keys place left ≡ []
+rules_ended bytes using_keys = records_ended (rule_at bytes using_keys) 20 (rules_from bytes using_keys) (λ _. refl) (λ _ _. refl)
+
+pub rules_more : (bytes : List ℕ) (using_keys : Bool) (place left : ℕ) → 0 < left
+    → rules_from bytes using_keys place left ≡ rule_at bytes using_keys place ∷ rules_from bytes using_keys (place + 20) (left - 1)
+rules_more bytes using_keys = records_more (rule_at bytes using_keys) 20 (rules_from bytes using_keys) (λ _. refl) (λ _ _. refl)

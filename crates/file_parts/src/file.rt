@@ -5,6 +5,7 @@ ghost use Rattle.kmn_base.specs.declared.limits.TheConstants.{FILE_BYTES};
 ghost use Rattle.kmx_format.specs.TablesOf.{tables_of};
 
 use crate::groups::FileGroup;
+use crate::lists::{Groups, Stores};
 use crate::stores::FileStore;
 use kmx_format::sizes::{GROUP_BYTES, STORE_BYTES};
 use kmx_view::{half_at, word_at};
@@ -83,6 +84,22 @@ impl<'a> FileTables<'a> {
         ensures { result ≡ length self.now.groups }
     {
         word_at(self.bytes, 28)
+    }
+
+    /// The stores, in their order.
+    #[tactic(auto, unfolding(kmx_format::specs::TablesOf::tables_of))]
+    pub fn stores(&self) -> Stores<'a>
+        ensures { result ≡ self.now.stores }
+    {
+        Stores::at(self.bytes, word_at(self.bytes, 32), word_at(self.bytes, 24))
+    }
+
+    /// The groups, in their order.
+    #[tactic(auto, unfolding(kmx_format::specs::TablesOf::tables_of))]
+    pub fn groups(&self) -> Groups<'a>
+        ensures { result ≡ self.now.groups }
+    {
+        Groups::at(self.bytes, word_at(self.bytes, 36), word_at(self.bytes, 28))
     }
 
     /// The store of a number, from 0.

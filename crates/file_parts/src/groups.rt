@@ -4,6 +4,7 @@ ghost use Rattle.std.specs.Prelude.{◌≡◌, ◌<◌, ◌≤◌, ◌^◌, leng
 ghost use Rattle.kmn_base.specs.declared.limits.TheConstants.{FILE_BYTES};
 ghost use Rattle.kmx_format.specs.TablesOf.{group_at};
 
+use crate::lists::Rules;
 use crate::names::name_at;
 use crate::records::FileRule;
 use crate::walks::Outputs;
@@ -63,6 +64,15 @@ impl<'a> FileGroup<'a> {
         ensures { result ≡ length self.now.rules }
     {
         word_at(self.bytes, self.place + 16)
+    }
+
+    /// The key records, in their order.
+    pub fn rules(&self) -> Rules<'a>
+        ensures { result ≡ self.now.rules }
+    {
+        let using_keys = word_at(self.bytes, self.place + 20) != 0;
+        let place = word_at(self.bytes, self.place + 4);
+        Rules::at(self.bytes, using_keys, place, word_at(self.bytes, self.place + 16))
     }
 
     /// The key record of a number, from 0.

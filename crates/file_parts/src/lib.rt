@@ -10,6 +10,7 @@
 mod file;
 mod groups;
 mod kinds;
+mod lists;
 mod names;
 mod records;
 mod stores;
@@ -20,6 +21,7 @@ mod walks;
 pub use file::FileTables;
 pub use groups::FileGroup;
 pub use kinds::Part;
+pub use lists::{Groups, Rules, Stores};
 pub use records::FileRule;
 pub use stores::FileStore;
 pub use walks::{Elements, Outputs, Parts, Patterns};

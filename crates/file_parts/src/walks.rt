@@ -1,6 +1,6 @@
 //! The strings of a file, part by part.
 
-ghost use Rattle.std.specs.Prelude.{◌≡◌, ◌≤◌, length};
+ghost use Rattle.std.specs.Prelude.{◌≡◌, ◌≤◌, [], length};
 ghost use Rattle.std.specs.List.{filter_map};
 ghost use Rattle.kmn_base.specs.declared.limits.TheConstants.{FILE_BYTES};
 ghost use Rattle.kmx_format.specs.TablesOf.{string_at, items_of};
@@ -38,6 +38,17 @@ impl<'a, T: Part> Model for Parts<'a, T> {
 }
 
 impl<'a, T: Part> Parts<'a, T> {
+    /// No parts.
+    #[tactic(auto, unfolding(item_codec::specs::Walk::results_of))]
+    pub fn none() -> Parts<'a, T>
+        ensures { result ≡ [] }
+    {
+        Parts {
+            items: items_of(&[]),
+            kind: PhantomData,
+        }
+    }
+
     /// The parts that the string at an offset spells.
     #[tactic(auto, using(crate::proofs::Counts::few_parts), unfolding(kmx_format::specs::TablesOf::items_of))]
     pub(crate) fn at(bytes: &'a [u8], offset: u32) -> Parts<'a, T>

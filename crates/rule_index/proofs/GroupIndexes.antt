@@ -1,5 +1,5 @@
 -- Groups are indexed one after the other.
-use Rattle.std.proofs.Common.{◌≡◌, ℕ, ◌+◌, ◌<◌, List, [], ◌∷◌, ◌++◌, length, slice_index_or, Some, sym, ◌∙◌, ap, subst, inl, inr, arith, length-append}
+use Rattle.std.proofs.Common.{◌≡◌, ℕ, zero, suc, drop, ◌+◌, ◌<◌, List, [], ◌∷◌, ◌++◌, length, slice_index_or, Some, sym, ◌∙◌, ap, subst, inl, inr, arith, length-append}
 use Rattle.std.specs.Prelude.{slice_get}
 use Rattle.std.proofs.lemmas.Bool.{cases_lt}
 use Rattle.std.proofs.lemmas.List.{get_or_append_left, get_or_default}
@@ -31,6 +31,19 @@ group_more groups indexes n here rows at is h = record {
         subst (IsIndexOf (record_classes group)) (sym last) (subst (λ (g : Group). IsIndexOf (record_classes g) rows) same is)
   ];
 }
+
+-- the groups that are left are few enough, and the first of them is the next
+pub group_here : (groups : List Group) (n : ℕ) (here : Group) (rest : List Group) → drop n groups ≡ here ∷ rest → slice_get groups n ≡ Some here
+group_here [] zero here rest e = cc
+group_here [] (suc n) here rest e = cc
+group_here (group ∷ groups) zero here rest e = cc
+group_here (group ∷ groups) (suc n) here rest e = group_here groups n here rest e
+
+pub groups_behind : (groups : List Group) (n : ℕ) (here : Group) (rest : List Group) → drop n groups ≡ here ∷ rest → drop (n + 1) groups ≡ rest
+groups_behind [] zero here rest e = absurd (cc)
+groups_behind [] (suc n) here rest e = absurd (cc)
+groups_behind (group ∷ groups) zero here rest e = cc
+groups_behind (group ∷ groups) (suc n) here rest e = groups_behind groups n here rest e
 
 -- all groups have theirs
 pub groups_indexed : (groups : List Group) (indexes : List (List Row)) (n : ℕ) → n ≡ length groups → AreFirst groups indexes n → AreIndexesOf groups indexes

@@ -1,17 +1,19 @@
--- The names of a key dictionary, put into another one name by name.
-use Rattle.std.proofs.Common.{◌≡◌, ℕ, zero, suc, ◌+◌, ◌-◌, ◌<◌, ◌≤◌, Bool, true, false, not, cond, ltb, List, [], ◌∷◌, ◌++◌, length, drop, Option, Some, None, get_or, nat_lt, refl, sym, ap, ◌∙◌, arith, is_some, if◌then◌else◌}
-use Rattle.std.specs.Prelude.{slice_get, filter_map, find, encode_utf8_all, position, option_map, ◌||◌}
-use Rattle.std.specs.List.{position_or_len, list_any}
+-- The names that are read character by character are the words of the text, each once.
+use Rattle.std.proofs.Common.{◌≡◌, ℕ, suc, ◌+◌, ◌<◌, Bool, true, false, not, cond, ltb, List, [], ◌∷◌, ◌++◌, length, get_or, Option, Some, None, refl, sym, ap, ◌∙◌, arith, is_some, if◌then◌else◌, append_assoc, append-nil, inl, inr}
+use Rattle.std.specs.Prelude.{filter, nat_eq, encode_utf8_all, position, option_map, ◌||◌, All}
+use Rattle.std.specs.Char.{encode_utf8}
+use Rattle.std.specs.List.{position_or_len, list_any, slice_split}
 use Rattle.std.specs.Str.{str_to_ascii_lowercase}
 use Rattle.std.specs.Cmp.Lexicographic.{nat_list_eq_equiv}
 use Rattle.std.proofs.lemmas.Bool.Decides.{nat_tests}
-use Rattle.std.proofs.lemmas.List.{drop_more}
-use Rattle.std.proofs.lemmas.Option.{slice_get_within, get_or_from_slice_get, none-some}
+use Rattle.std.proofs.lemmas.List.{get_or_default}
+use Rattle.std.proofs.lemmas.List.Elements.{All-nil, All-append}
+use Rattle.std.proofs.lemmas.List.Splits.{slice_split_at, slice_split_none}
+use Rattle.std.proofs.lemmas.Str.{encode_ascii, inside_one}
 use Rattle.kmn_base.specs.Names.{same_name}
-use Rattle.virtual_keys.specs.Dictionary.{name_in, with_name}
-use Rattle.rule_model.specs.declared.tables.Tables.{Tables}
-use Rattle.rule_model.specs.Tab.{tab, tab_dictionary, distinct_onto, element_char, is_dictionary, store_elements, words}
-use Rattle.rule_model.proofs.Distinct.{distinct_again}
+use Rattle.virtual_keys.specs.Dictionary.{with_name}
+use Rattle.rule_model.specs.Tab.{distinct_onto, words}
+use Rattle.rule_index.specs.OwnNames.{names_with, names_after, word_after, names_read}
 
 from_zero : (l : ℕ) → cond {A = Option ℕ} (ltb 0 (suc l)) (Some 0) None ≡ Some 0
 from_zero l = grind (arith, nat_tests)
@@ -50,51 +52,62 @@ with_name_new : (names : List (List ℕ)) (name : List ℕ) → with_name names 
 with_name_new names name =
     ap (λ known. if known then names else names ++ name ∷ []) (some_place (same_name name) names ∙ any_name name names)
 
--- the names of a dictionary are distinct
-pub own_names_distinct : (tables : Tables) → distinct_onto same_name [] (drop 0 (tab tables).dictionary) ≡ (tab tables).dictionary
-unfolding tab tab_dictionary
-own_names_distinct tables =
-    distinct_again same_name (words (encode_utf8_all (filter_map element_char (store_elements (find is_dictionary tables.stores)))))
+-- no byte of a text is a space
+abbrev HasNoSpace : List ℕ → Type 0
+HasNoSpace text = All (λ byte. nat_eq 32 byte ≡ false) text
 
-past : {X : Type 0} (xs : List X) (i : ℕ) → slice_get xs i ≡ None → length xs ≤ i
-past [] i e = omega arith
-past (x ∷ xs) zero e = absurd (none-some x (sym e))
-past (x ∷ xs) (suc i) e =
-    let h : length xs ≤ i = past xs i e in
-    omega arith
+-- whether a word is not empty
+abbrev is_word : List ℕ → Bool
+is_word word = not (nat_eq (length word) 0)
 
-none_left : {X : Type 0} (xs : List X) (i : ℕ) → length xs ≤ i → drop i xs ≡ []
-none_left [] zero h = refl
-none_left [] (suc i) h = refl
-none_left (x ∷ xs) zero h = absurd (omega arith)
-none_left (x ∷ xs) (suc i) h =
-    let less : length xs ≤ i = omega arith in
-    none_left xs i less
+-- a word before others
+word_as : (names : List (List ℕ)) (word : List ℕ) (rest : List (List ℕ)) (empty : Bool) → nat_eq (length word) 0 ≡ empty
+    → distinct_onto same_name names (if not empty then word ∷ filter is_word rest else filter is_word rest)
+    ≡ distinct_onto same_name (if empty then names else with_name names word) (filter is_word rest)
+word_as names word rest true e = refl
+word_as names word rest false e = ap (λ seen. distinct_onto same_name seen (filter is_word rest)) (sym (with_name_new names word))
 
-name_read_as : (place : ℕ) (names : List (List ℕ)) (low : Bool) → nat_lt (256 + place) 256 ≡ low → (if low then None else slice_get names ((256 + place) - 256)) ≡ slice_get names place
-name_read_as place names true e = absurd (grind (arith, nat_tests))
-name_read_as place names false e =
-    let same : (256 + place) - 256 ≡ place = omega arith in
-    ap (slice_get names) same
+word_first : (names : List (List ℕ)) (word : List ℕ) (rest : List (List ℕ))
+    → distinct_onto same_name names (filter is_word (word ∷ rest)) ≡ distinct_onto same_name (names_with names word) (filter is_word rest)
+word_first names word rest = word_as names word rest (nat_eq (length word) 0) refl
 
-name_read : (names : List (List ℕ)) (place : ℕ) → name_in names (256 + place) ≡ slice_get names place
-name_read names place = name_read_as place names (nat_lt (256 + place) 256) refl
+-- a character that is no space has no byte that is one
+bytes_of : (c : ℕ) → nat_eq c 32 ≡ false → HasNoSpace (encode_utf8 c)
+bytes_of c other = λ k d below. differ k d below (nat_eq 32 (get_or (encode_utf8 c) k d)) refl
+  where
+    differ : (k d : ℕ) → k < length (encode_utf8 c) → (same : Bool) → nat_eq 32 (get_or (encode_utf8 c) k d) ≡ same → same ≡ false
+    differ k d below false e = refl
+    differ k d below true e =
+        let byte : get_or (encode_utf8 c) k 0 ≡ get_or (encode_utf8 c) k d = get_or_default (encode_utf8 c) k 0 d below in
+        let space : 32 ≡ get_or (encode_utf8 c) k d = grind (arith, nat_tests) in
+        let is : c ≡ get_or (encode_utf8 c) k 0 = inside_one c [] (encode_utf8 c) k (sym (append-nil (encode_utf8 c))) below (omega arith) in
+        let same : c ≡ 32 = omega arith in
+        absurd (grind (arith, nat_tests))
 
--- one name more
-pub next_name : (names keys : List (List ℕ)) (place : ℕ) (name : List ℕ) → name_in names (256 + place) ≡ Some name
-    → distinct_onto same_name keys (drop place names) ≡ names → distinct_onto same_name (with_name keys name) (drop (place + 1) names) ≡ names
-next_name names keys place name e h =
-    let here : slice_get names place ≡ Some name = sym (name_read names place) ∙ e in
-    let within : place < length names = slice_get_within names place name here in
-    let is : name ≡ get_or names place name = sym (get_or_from_slice_get names place name name here) in
-    let split : drop place names ≡ name ∷ drop (place + 1) names =
-    drop_more names place name within ∙ ap (λ n. n ∷ drop (place + 1) names) (sym is) in
-    ap (λ seen. distinct_onto same_name seen (drop (place + 1) names)) (with_name_new keys name)
-    ∙ sym (ap (distinct_onto same_name keys) split) ∙ h
+-- the words of a text that goes on behind a word
+words_read : (names : List (List ℕ)) (word : List ℕ) (cs : List ℕ) → HasNoSpace word
+    → names_read names word cs ≡ distinct_onto same_name names (words (word ++ encode_utf8_all cs))
+words_read names word [] whole =
+    sym (word_first names word [])
+    ∙ ap (λ parts. distinct_onto same_name names (filter is_word parts)) (sym (ap (slice_split (nat_eq 32)) (append-nil word) ∙ slice_split_none (nat_eq 32) word whole))
+words_read names word (c ∷ cs) whole = next (nat_eq c 32) refl
+  where
+    next : (space : Bool) → nat_eq c 32 ≡ space
+        → names_read (if space then names_with names word else names) (if space then [] else word ++ encode_utf8 c) cs
+        ≡ distinct_onto same_name names (words (word ++ (encode_utf8 c ++ encode_utf8_all cs)))
+    next true e =
+        let is : c ≡ 32 = grind (arith, nat_tests) in
+        let bytes : encode_utf8 c ≡ 32 ∷ [] = ap encode_utf8 is ∙ encode_ascii 32 (omega arith) in
+        let parts : slice_split (nat_eq 32) (word ++ 32 ∷ encode_utf8_all cs) ≡ word ∷ slice_split (nat_eq 32) (encode_utf8_all cs)
+        = slice_split_at (nat_eq 32) word 32 (encode_utf8_all cs) whole refl in
+        words_read (names_with names word) [] cs (All-nil (λ byte. nat_eq 32 byte ≡ false))
+        ∙ sym (word_first names word (slice_split (nat_eq 32) (encode_utf8_all cs)))
+        ∙ ap (λ all. distinct_onto same_name names (filter is_word all)) (sym parts)
+        ∙ ap (λ text. distinct_onto same_name names (words (word ++ (text ++ encode_utf8_all cs)))) (sym bytes)
+    next false e =
+        words_read names (word ++ encode_utf8 c) cs (All-append (λ byte. nat_eq 32 byte ≡ false) word (encode_utf8 c) whole (bytes_of c e))
+        ∙ ap (λ text. distinct_onto same_name names (words text)) (append_assoc word (encode_utf8 c) (encode_utf8_all cs))
 
--- no name is left
-pub all_names : (names keys : List (List ℕ)) (place : ℕ) → name_in names (256 + place) ≡ None
-    → distinct_onto same_name keys (drop place names) ≡ names → keys ≡ names
-all_names names keys place e h =
-    let none : drop place names ≡ [] = none_left names place (past names place (sym (name_read names place) ∙ e)) in
-    sym (ap (distinct_onto same_name keys) none) ∙ h
+-- so the names that are read from the first character on are the distinct words
+pub names_are_read : (cs : List ℕ) → names_read [] [] cs ≡ distinct_onto same_name [] (words (encode_utf8_all cs))
+names_are_read cs = words_read [] [] cs (All-nil (λ byte. nat_eq 32 byte ≡ false))

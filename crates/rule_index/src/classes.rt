@@ -3,10 +3,12 @@ ghost use Rattle.virtual_keys.specs.Fits.{char_of_press};
 ghost use Rattle.rule_model.specs.Match.{takes_item};
 ghost use Rattle.rule_model.specs.Tab.{tab_pattern, tab_rule};
 ghost use Rattle.rule_index.specs.Classes.{key_class, pattern_class, last_class, given_class, item_class, last_item, class_of, rule_class, wanted_classes};
+ghost use Rattle.rule_index.specs.Groups.{record_classes};
 
 use crate::class::Class;
+use file_parts::{FileGroup, FileRule, Patterns};
 use kmn_base::{Item, KeyPress, Memory, RuleKey};
-use rule_model::{Pat, Rule};
+use rule_model::Pat;
 use std::alloc::Global;
 use virtual_keys::char_of;
 
@@ -42,14 +44,14 @@ fn takes_item(pattern: Pat) -> bool
 }
 
 /// What the last pattern of a context wants.
-fn last_class(context: &[Pat]) -> u64
-    ensures value { result ≡ last_class 0 (map (tab_pattern []) context.now) }
+fn last_class(context: Patterns<'_>) -> u64
+    ensures value { result ≡ last_class 0 (map (tab_pattern []) context) }
     ensures small { result < 2097152 }
 {
     let mut class = 0;
     for pattern in context {
-        if takes_item(*pattern) {
-            class = pattern_class(*pattern);
+        if takes_item(pattern) {
+            class = pattern_class(pattern);
         }
     }
     class
@@ -65,20 +67,25 @@ fn class_of(by_key: u64, by_item: u64) -> Class
 }
 
 /// What a record can be met by; in a group without keys by every press.
-fn rule_class(using_keys: bool, rule: &Rule) -> Class
+fn rule_class(using_keys: bool, rule: &FileRule<'_>) -> Class
     ensures { result ≡ rule_class (tab_rule [] using_keys rule.now) }
 {
-    let key = if using_keys { rule.key } else { RuleKey::Any };
-    class_of(key_class(key), last_class(rule.context.as_slice()))
+    let key = if using_keys {
+        rule.key()
+    } else {
+        RuleKey::Any
+    };
+    class_of(key_class(key), last_class(rule.context()))
 }
 
-/// The classes of records, in their order.
-pub fn rule_classes(alloc: Global, using_keys: bool, rules: &[Rule]) -> Result<Vec<Class>, Memory>
-    ensures { IfOk result (λ classes. classes.items ≡ map (λ rule. rule_class (tab_rule [] using_keys rule)) rules.now) }
+/// The classes of a group's records, in their order.
+pub fn record_classes(alloc: Global, group: &FileGroup<'_>) -> Result<Vec<Class>, Memory>
+    ensures { IfOk result (λ classes. classes.items ≡ record_classes group.now) }
 {
+    let using_keys = group.using_keys();
     let mut classes = Vec::new(alloc);
-    for rule in rules {
-        classes.push(rule_class(using_keys, rule))?;
+    for rule in group.rules() {
+        classes.push(rule_class(using_keys, &rule))?;
     }
     Ok(classes)
 }

@@ -1,5 +1,6 @@
 ghost use Rattle.std.specs.Prelude.{◌≡◌, ◌≤◌, All, IfOk, IfSome, length, option_copied, option_map, slice_get};
-ghost use Rattle.kmn_base.specs.declared.limits.TheConstants.{RECORDS};
+ghost use Rattle.std.specs.Option.{option_flatten};
+ghost use Rattle.kmn_base.specs.declared.limits.TheConstants.{FILE_BYTES, RECORDS};
 ghost use Rattle.virtual_keys.specs.Dictionary.{name_in};
 ghost use Rattle.rule_model.specs.Content.{option_number};
 ghost use Rattle.rule_model.specs.Keyboard.{Numbered};
@@ -8,19 +9,22 @@ ghost use Rattle.rule_model.specs.Tab.{elements_of, tab};
 ghost use Rattle.rule_index.specs.Groups.{record_classes, AreIndexesOf};
 ghost use Rattle.rule_index.specs.Rows.{IsIndexOf};
 
+use crate::options::option_numbers;
 use crate::own_names::own_keys;
 use crate::rule_index::RuleIndex;
-use kmn_base::{Element, Memory};
-use rule_model::{Group, IndexedTables, Tables};
+use file_parts::{Elements, FileGroup, FileTables, Parts};
+use kmn_base::Memory;
 use std::alloc::Global;
 use std::marker::Model;
 use virtual_keys::KeyDictionary;
 
-/// Tables with what an engine looks up: the option number of each store, an index of each group's records, and the names of
-/// own keys. Contracts see the tables.
+/// A file with what an engine looks up: the option number of each store, an index of each group's records, and the names
+/// of own keys. Nothing of the file is copied but these names. Contracts see the file's tables.
 #[derive(Drop)]
 pub struct IndexedKeyboard<'a> {
-    tables: IndexedTables<'a>,
+    alloc: Global,
+    file: FileTables<'a>,
+    numbers: Vec<Option<usize>>,
     indexes: Vec<RuleIndex>,
     names: KeyDictionary,
 }
@@ -28,41 +32,54 @@ pub struct IndexedKeyboard<'a> {
 impl<'a> Model for IndexedKeyboard<'a> {
     ghost use Rattle.std.specs.Prelude.{◌≡◌};
     ghost use Rattle.rule_model.specs.declared.tables.Tables.{Tables};
+    ghost use Rattle.rule_model.specs.Plain.{option_numbers};
     ghost use Rattle.rule_model.specs.Tab.{tab};
     ghost use Rattle.rule_index.specs.Groups.{AreIndexesOf};
 
     ghost Value = { Tables };
 
-    ghost view = { λ keyboard. keyboard.tables };
+    ghost view = { λ keyboard. keyboard.file };
 
     ghost invariant = { λ keyboard.
-        AreIndexesOf keyboard.tables.groups keyboard.indexes.items × (keyboard.names ≡ (tab keyboard.tables).dictionary) };
+        (keyboard.numbers.items ≡ option_numbers 0 (tab keyboard.file).stores)
+        × AreIndexesOf keyboard.file.groups keyboard.indexes.items
+        × (keyboard.names ≡ (tab keyboard.file).dictionary) };
 }
 
 /// The index of each group's records.
-fn indexes_of(alloc: Global, groups: &[Group]) -> Result<Vec<RuleIndex>, Memory>
-    requires { All (λ group. length group.rules ≤ RECORDS) groups.now }
-    ensures { IfOk result (λ indexes. AreIndexesOf groups.now indexes.items) }
+fn indexes_of(alloc: Global, file: &FileTables<'_>) -> Result<Vec<RuleIndex>, Memory>
+    requires { All (λ group. length group.rules ≤ RECORDS) file.now.groups }
+    ensures { IfOk result (λ indexes. AreIndexesOf file.now.groups indexes.items) }
 {
     let mut indexes = Vec::new(alloc);
-    for group in groups {
-        let index = RuleIndex::new(alloc, group.using_keys, group.rules.as_slice())?;
+    for group in file.groups() {
+        let index = RuleIndex::new(alloc, &group)?;
         indexes.push(index)?;
     }
     Ok(indexes)
 }
 
+/// The option number in a list of numbers by store.
+fn number_at(numbers: &[Option<usize>], store: u32) -> Option<usize>
+    ensures { result ≡ option_flatten (slice_get numbers.now store) }
+{
+    numbers.get(store as usize).copied().flatten()
+}
+
 impl<'a> IndexedKeyboard<'a> {
-    /// Looks up what an engine needs of tables.
-    pub fn new(alloc: Global, tables: &'a Tables) -> Result<IndexedKeyboard<'a>, Memory>
-        requires { All (λ group. length group.rules ≤ RECORDS) tables.now.groups }
-        ensures { IfOk result (λ keyboard. keyboard ≡ tables.now) }
+    /// Looks up what an engine needs of a file.
+    #[tactic(auto, unfolding(rule_model::specs::Tab::tab))]
+    pub fn new(alloc: Global, file: FileTables<'a>) -> Result<IndexedKeyboard<'a>, Memory>
+        requires { All (λ group. length group.rules ≤ RECORDS) file.groups }
+        ensures { IfOk result (λ keyboard. keyboard ≡ file) }
     {
-        let indexes = indexes_of(alloc, tables.groups.as_slice())?;
-        let tables = IndexedTables::new(alloc, tables)?;
-        let names = own_keys(alloc, &tables)?;
+        let numbers = option_numbers(alloc, &file)?;
+        let indexes = indexes_of(alloc, &file)?;
+        let names = own_keys(alloc, &file)?;
         Ok(IndexedKeyboard {
-            tables,
+            alloc,
+            file,
+            numbers,
             indexes,
             names,
         })
@@ -70,10 +87,17 @@ impl<'a> IndexedKeyboard<'a> {
 
     /// The allocator.
     pub fn alloc(&self) -> Global {
-        self.tables.alloc()
+        self.alloc
     }
 
-    /// The names of the tables' own keys.
+    /// The file.
+    pub fn file(&self) -> FileTables<'a>
+        ensures { result ≡ self.now }
+    {
+        self.file.copy()
+    }
+
+    /// The names of the file's own keys.
     pub fn names(&self) -> &KeyDictionary
         ensures { result.now ≡ (tab self.now).dictionary }
     {
@@ -91,16 +115,16 @@ impl<'a> IndexedKeyboard<'a> {
     pub fn start(&self) -> u32
         ensures { result ≡ self.now.start_unicode }
     {
-        self.tables.start()
+        self.file.start_unicode()
     }
 
     /// The group of a number, and the index of its records.
     #[tactic(auto, using(crate::proofs::GroupIndexes::index_within))]
-    pub fn group(&self, number: u32) -> Option<(&Group, &RuleIndex)>
-        ensures group { option_map (λ found. found.0.now) result ≡ slice_get self.now.groups number }
-        ensures index { IfSome result (λ found. IsIndexOf (record_classes found.0.now) found.1.now) }
+    pub fn group(&self, number: u32) -> Option<(FileGroup<'a>, &RuleIndex)>
+        ensures group { option_map (λ found. found.0) result ≡ slice_get self.now.groups number }
+        ensures index { IfSome result (λ found. IsIndexOf (record_classes found.0) found.1.now) }
     {
-        match self.tables.group(number) {
+        match self.file.group(number) {
             Some(group) => Some((group, &self.indexes[number as usize])),
             None => None,
         }
@@ -110,20 +134,25 @@ impl<'a> IndexedKeyboard<'a> {
     pub fn numbers(&self) -> &[Option<usize>]
         ensures { result.now ≡ option_numbers 0 (tab self.now).stores }
     {
-        self.tables.numbers()
+        self.numbers.as_slice()
     }
 
     /// The option number of a store.
+    #[tactic(auto, using(rule_model::proofs::PlainOptions::number_found))]
     pub fn option_number(&self, store: u32) -> Option<usize>
         ensures { result ≡ option_number (tab self.now).stores (Numbered store) }
     {
-        self.tables.option_number(store)
+        number_at(self.numbers.as_slice(), store)
     }
 
     /// The elements of a store, none where there is no such store.
-    pub fn elements(&self, store: u32) -> &[Element]
-        ensures { result.now ≡ elements_of self.now.stores store }
+    pub fn elements(&self, store: u32) -> Elements<'a>
+        ensures value { result ≡ elements_of self.now.stores store }
+        ensures few { length result ≤ FILE_BYTES }
     {
-        self.tables.elements(store)
+        match self.file.store(store) {
+            Some(store) => store.elements(),
+            None => Parts::none(),
+        }
     }
 }

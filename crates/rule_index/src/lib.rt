@@ -1,13 +1,14 @@
 //! Finds, of a group's records, those that can hold for a press and the last item before the caret, and the first place of
 //! an item in a store, both by search.
 //!
-//! It stands on `kmn_base`, `rule_model` and `virtual_keys`. The layer above makes an `IndexedKeyboard` of tables, which has
-//! once and for all what is looked up in them: an index of each group's records (`specs/Groups`), and the dictionary of their
-//! own keys, by which a script is read (`own_keys`). It asks `wanted_classes` of a press and the list before the caret, and
-//! tries the records that `next_candidate` of a group's `RuleIndex` answers, in the file's order. A `PlaceIndex` of a store
-//! answers the place that `any` catches, and `value_numbers` numbers values so that conditions compare numbers. `specs/Classes`
-//! says by what a record can be met, `specs/Next` which record is the next candidate. The laws stand in `laws`: a record that
-//! holds is among the wanted ones, so the first record that holds is the first candidate that does.
+//! It stands on `kmn_base`, `rule_model`, `virtual_keys` and `file_parts`, which reads a file where it lies. The layer above
+//! makes an `IndexedKeyboard` of `FileTables`, which has once and for all what is looked up: an index of each group's records
+//! (`specs/Groups`), the option number of each store (`specs/OptionFlags`), and the names of own keys (`specs/OwnNames`); it
+//! hands out groups and elements as the file has them. The layer above asks `wanted_classes` of a press and the list before
+//! the caret, and tries the records that `next_candidate` of a group's `RuleIndex` answers, in the file's order. A `PlaceIndex`
+//! of a store answers the place that `any` catches, and `value_numbers` numbers values so that conditions compare numbers.
+//! `specs/Classes` says by what a record can be met, `specs/Next` which record is the next candidate. The laws stand in
+//! `laws`: a record that holds is among the wanted ones, so the first record that holds is the first candidate that does.
 #![tactic(auto)]
 
 mod class;
@@ -15,6 +16,7 @@ mod classes;
 mod elements;
 mod indexed_keyboard;
 pub mod laws;
+mod options;
 mod own_names;
 mod place_index;
 mod row;
@@ -27,7 +29,6 @@ mod values;
 pub use class::Class;
 pub use classes::wanted_classes;
 pub use indexed_keyboard::IndexedKeyboard;
-pub use own_names::own_keys;
 pub use place_index::PlaceIndex;
 pub use rule_index::RuleIndex;
 pub use values::value_numbers;

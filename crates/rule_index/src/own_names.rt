@@ -1,26 +1,71 @@
-ghost use Rattle.std.specs.Prelude.{◌≡◌, IfOk};
-ghost use Rattle.rule_model.specs.Tab.{tab};
+//! The names of a file's own keys.
 
-use kmn_base::Memory;
-use kmn_base::limits::KEY_NAMES;
-use rule_model::IndexedTables;
+ghost use Rattle.std.specs.Prelude.{◌≡◌, IfOk, OnOk, find};
+ghost use Rattle.std.specs.String.{string_bytes};
+ghost use Rattle.rule_model.specs.Tab.{store_elements, is_dictionary, tab_dictionary};
+ghost use Rattle.rule_index.specs.OwnNames.{names_with, names_after, word_after};
+
+use file_parts::{Elements, FileTables, Parts};
+use kmn_base::{Element, Memory};
 use std::alloc::Global;
 use virtual_keys::KeyDictionary;
 
-/// The code of the first name.
-const FIRST_CODE: u16 = 256;
+/// The system id of the store that has the names of own keys.
+const DICTIONARY: u32 = 34;
 
-/// The names of tables' own keys. The one store that they stand in is too short for more names than there are codes.
-#[tactic(auto, using(crate::proofs::OwnNames::own_names_distinct, crate::proofs::OwnNames::next_name, crate::proofs::OwnNames::all_names))]
-pub fn own_keys(alloc: Global, tables: &IndexedTables<'_>) -> Result<KeyDictionary, Memory>
-    ensures { IfOk result (λ keys. keys ≡ (tab tables.now).dictionary) }
+/// The elements of the store of the names, none where there is no such store.
+fn dictionary_elements<'a>(file: &FileTables<'a>) -> Elements<'a>
+    ensures { result ≡ store_elements (find is_dictionary file.now.stores) }
 {
-    let mut keys = KeyDictionary::new(alloc);
-    for place in 0..KEY_NAMES {
-        let Some(name) = tables.own_key(FIRST_CODE + place as u16) else {
-            return Ok(keys);
-        };
-        keys.add(name)?;
+    for store in file.stores() {
+        if store.system() == DICTIONARY {
+            return store.elements();
+        }
     }
-    Err(Memory)
+    Parts::none()
+}
+
+/// Adds a word, unless it is empty or the same as a name before it. The one store that the names stand in is too short
+/// for more names than there are codes.
+fn add_word(names: &mut KeyDictionary, word: &[u8]) -> Result<(), Memory>
+    ensures { OnOk result (names.new ≡ names_with names.old word.now) }
+{
+    if word.is_empty() {
+        return Ok(());
+    }
+    if names.is_full() {
+        return Err(Memory);
+    }
+    names.add(word)?;
+    Ok(())
+}
+
+/// Takes up one more character: a space ends the word, any other one belongs to it.
+fn take_char(names: &mut KeyDictionary, word: &mut String, c: char) -> Result<(), Memory>
+    ensures names { OnOk result (names.new ≡ names_after c names.old (string_bytes word.old)) }
+    ensures word { OnOk result (string_bytes word.new ≡ word_after c (string_bytes word.old)) }
+{
+    if c != ' ' {
+        word.push(c)?;
+        return Ok(());
+    }
+    add_word(names, word.as_bytes())?;
+    word.clear();
+    Ok(())
+}
+
+/// The names of a file's own keys: the words of the store's characters, each once.
+#[tactic(auto, using(crate::proofs::OwnNames::names_are_read), unfolding(rule_model::specs::Tab::tab_dictionary))]
+pub fn own_keys(alloc: Global, file: &FileTables<'_>) -> Result<KeyDictionary, Memory>
+    ensures { IfOk result (λ names. names ≡ tab_dictionary file.now.stores) }
+{
+    let mut names = KeyDictionary::new(alloc);
+    let mut word = String::new(alloc);
+    for element in dictionary_elements(file) {
+        if let Element::Char(c) = element {
+            take_char(&mut names, &mut word, c)?;
+        }
+    }
+    add_word(&mut names, word.as_bytes())?;
+    Ok(names)
 }

@@ -1,16 +1,15 @@
-ghost use Rattle.std.specs.Prelude.{◌≡◌, ◌≤◌, ℕ, List, [], map, length, IfOk};
+ghost use Rattle.std.specs.Prelude.{◌≡◌, ◌≤◌, ℕ, List, length, IfOk};
 ghost use Rattle.kmn_base.specs.declared.limits.TheConstants.{RECORDS};
-ghost use Rattle.rule_model.specs.Tab.{tab_rule};
-ghost use Rattle.rule_index.specs.Classes.{rule_class};
+ghost use Rattle.rule_index.specs.Groups.{record_classes};
 ghost use Rattle.rule_index.specs.Rows.{IsIndexOf};
 ghost use Rattle.rule_index.specs.Next.{IsNext, earlier};
 
 use crate::class::Class;
-use crate::classes::rule_classes;
+use crate::classes::record_classes;
 use crate::row::Row;
 use crate::rows::{first_from, rows_of};
+use file_parts::FileGroup;
 use kmn_base::Memory;
-use rule_model::Rule;
 use std::alloc::Global;
 use std::marker::Model;
 
@@ -58,11 +57,11 @@ fn next_of(rows: &[Row], wanted: &[Class], from: u32) -> Option<u32>
 
 impl RuleIndex {
     /// The index of a group's records.
-    pub fn new(alloc: Global, using_keys: bool, rules: &[Rule]) -> Result<RuleIndex, Memory>
-        requires { length rules.now ≤ RECORDS }
-        ensures { IfOk result (λ index. IsIndexOf (map (λ rule. rule_class (tab_rule [] using_keys rule)) rules.now) index) }
+    pub fn new(alloc: Global, group: &FileGroup<'_>) -> Result<RuleIndex, Memory>
+        requires { length group.now.rules ≤ RECORDS }
+        ensures { IfOk result (λ index. IsIndexOf (record_classes group.now) index) }
     {
-        let classes = rule_classes(alloc, using_keys, rules)?;
+        let classes = record_classes(alloc, group)?;
         Ok(RuleIndex {
             rows: rows_of(alloc, classes.as_slice())?,
         })

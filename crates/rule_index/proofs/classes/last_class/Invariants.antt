@@ -1,10 +1,10 @@
-use Rattle.std.proofs.Common.{◌≡◌, ◌<◌, [], map, drop}
+use Rattle.std.proofs.Common.{◌≡◌, ◌<◌, [], map}
 use Rattle.rule_model.specs.Tab.{tab_pattern}
 use Rattle.rule_index.specs.Classes.{last_class}
 use Rattle.rule_index.proofs.classes.last_class.Given as goal
 
 abbrev pub invariant-loop-pattern : goal.invariant-loop-pattern
 invariant-loop-pattern l = record {
-  value : last_class l.class (map (tab_pattern []) (drop l.pattern-index l.context)) ≡ last_class 0 (map (tab_pattern []) l.context);
+  value : last_class l.class (map (tab_pattern []) l.pattern-iterator) ≡ last_class 0 (map (tab_pattern []) l.context);
   small : l.class < 2097152;
 }

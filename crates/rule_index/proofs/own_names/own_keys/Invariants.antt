@@ -1,8 +1,11 @@
-use Rattle.std.proofs.Common.{◌≡◌, ◌≤◌, length, drop}
-use Rattle.kmn_base.specs.Names.{same_name}
-use Rattle.rule_model.specs.Tab.{tab, distinct_onto}
+use Rattle.std.proofs.Common.{◌≡◌, []}
+use Rattle.std.specs.Prelude.{find, filter_map}
+use Rattle.std.specs.String.{string_bytes}
+use Rattle.rule_model.specs.Tab.{element_char, is_dictionary, store_elements}
+use Rattle.rule_index.specs.OwnNames.{names_read}
 use Rattle.rule_index.proofs.own_names.own_keys.Given as goal
 
-abbrev pub invariant-loop-place : goal.invariant-loop-place
-invariant-loop-place l =
-    (distinct_onto same_name l.keys (drop l.place (tab l.tables).dictionary) ≡ (tab l.tables).dictionary) × (length l.keys ≤ l.place)
+abbrev pub invariant-loop-element : goal.invariant-loop-element
+invariant-loop-element l =
+    names_read l.names (string_bytes l.word) (filter_map element_char l.element-iterator)
+    ≡ names_read [] [] (filter_map element_char (store_elements (find is_dictionary l.file.stores)))

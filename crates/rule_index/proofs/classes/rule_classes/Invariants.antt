@@ -1,8 +1,0 @@
-use Rattle.std.proofs.Common.{◌≡◌, [], map, take}
-use Rattle.rule_model.specs.declared.tables.Rule.{Rule}
-use Rattle.rule_model.specs.Tab.{tab_rule}
-use Rattle.rule_index.specs.Classes.{rule_class}
-use Rattle.rule_index.proofs.classes.rule_classes.Given as goal
-
-abbrev pub invariant-loop-rule : goal.invariant-loop-rule
-invariant-loop-rule l = l.classes.items ≡ map (λ (rule : Rule). rule_class (tab_rule [] l.using_keys rule)) (take l.rule-index l.rules)

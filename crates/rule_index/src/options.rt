@@ -1,0 +1,107 @@
+//! The option number of each store of a file.
+
+ghost use Rattle.std.specs.Prelude.{◌≡◌, [], ◌∷◌, IfOk, flat_map};
+ghost use Rattle.rule_model.specs.Tab.{pattern_options, output_options, rule_options, group_options, tab_options, with_options};
+ghost use Rattle.rule_model.specs.Plain.{option_numbers};
+ghost use Rattle.rule_index.specs.OptionFlags.{with_flags, flag_numbers};
+
+use file_parts::{FileGroup, FileRule, FileTables, Outputs, Patterns};
+use kmn_base::Memory;
+use rule_model::{Out, Pat};
+use std::alloc::Global;
+
+/// Sets the flag of a store, where there is one.
+fn mark(flags: &mut [bool], store: u32)
+    ensures { flags.new ≡ with_flags flags.old (store ∷ []) }
+{
+    let place = store as usize;
+    if place < flags.len() {
+        flags[place] = true;
+    }
+}
+
+fn mark_context(flags: &mut [bool], context: Patterns<'_>)
+    ensures { flags.new ≡ with_flags flags.old (flat_map pattern_options context) }
+{
+    for pattern in context {
+        if let Pat::Equal(store, _) | Pat::Unequal(store, _) = pattern {
+            mark(flags, store);
+        }
+    }
+}
+
+fn mark_outputs(flags: &mut [bool], outputs: Outputs<'_>)
+    ensures { flags.new ≡ with_flags flags.old (flat_map output_options outputs) }
+{
+    for output in outputs {
+        if let Out::Set(store, _) | Out::Save(store) | Out::Reset(store) = output {
+            mark(flags, store);
+        }
+    }
+}
+
+#[tactic(auto, using(crate::proofs::OptionFlags::with_flags_append))]
+fn mark_rule(flags: &mut [bool], rule: &FileRule<'_>)
+    ensures { flags.new ≡ with_flags flags.old (rule_options rule.now) }
+{
+    mark_context(flags, rule.context());
+    mark_outputs(flags, rule.output());
+}
+
+#[tactic(auto, using(crate::proofs::OptionFlags::with_flags_append))]
+fn mark_rules(flags: &mut [bool], group: &FileGroup<'_>)
+    ensures { flags.new ≡ with_flags flags.old (flat_map rule_options group.now.rules) }
+{
+    for rule in group.rules() {
+        mark_rule(flags, &rule);
+    }
+}
+
+#[tactic(auto, using(crate::proofs::OptionFlags::with_flags_append))]
+fn mark_group(flags: &mut [bool], group: &FileGroup<'_>)
+    ensures { flags.new ≡ with_flags flags.old (group_options group.now) }
+{
+    mark_rules(flags, group);
+    mark_outputs(flags, group.on_match());
+    mark_outputs(flags, group.on_nomatch());
+}
+
+#[tactic(auto, using(crate::proofs::OptionFlags::with_flags_append))]
+fn mark_groups(flags: &mut [bool], file: &FileTables<'_>)
+    ensures { flags.new ≡ with_flags flags.old (flat_map group_options file.now.groups) }
+{
+    for group in file.groups() {
+        mark_group(flags, &group);
+    }
+}
+
+/// The numbers of the flags that are set, counted in their order.
+#[tactic(auto, using(std::proofs::lemmas::Grind::common_steps, crate::proofs::OptionFlags::numbers_more))]
+fn flag_numbers(alloc: Global, flags: &[bool]) -> Result<Vec<Option<usize>>, Memory>
+    ensures { IfOk result (λ numbers. numbers.items ≡ flag_numbers 0 flags.now) }
+{
+    let mut numbers = Vec::new(alloc);
+    let mut count = 0;
+    for n in 0..flags.len() {
+        if flags[n] {
+            numbers.push(Some(count))?;
+            count += 1;
+        } else {
+            numbers.push(None)?;
+        }
+    }
+    Ok(numbers)
+}
+
+/// The option number of each store: the stores that an item uses as options are marked, and then counted.
+#[tactic(auto, using(crate::proofs::OptionFlags::numbers_by_flags), unfolding(rule_model::specs::Tab::tab_options))]
+pub fn option_numbers(
+    alloc: Global,
+    file: &FileTables<'_>,
+) -> Result<Vec<Option<usize>>, Memory>
+    ensures { IfOk result (λ numbers. numbers.items ≡ option_numbers 0 (with_options (tab_options file.now) 0 file.now.stores)) }
+{
+    let mut flags = vec![in alloc; false; file.store_count() as usize]?;
+    mark_groups(flags.as_mut_slice(), file);
+    flag_numbers(alloc, flags.as_slice())
+}
