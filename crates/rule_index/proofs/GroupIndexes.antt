@@ -32,10 +32,10 @@ group_more groups indexes n here rows at is h = record {
   ];
 }
 
--- the groups that are left are few enough, and the first of them is the next
+-- the first group that is left is the next one, and the others are left behind it
 pub group_here : (groups : List Group) (n : ℕ) (here : Group) (rest : List Group) → drop n groups ≡ here ∷ rest → slice_get groups n ≡ Some here
-group_here [] zero here rest e = cc
-group_here [] (suc n) here rest e = cc
+group_here [] zero here rest e = absurd (cc)
+group_here [] (suc n) here rest e = absurd (cc)
 group_here (group ∷ groups) zero here rest e = cc
 group_here (group ∷ groups) (suc n) here rest e = group_here groups n here rest e
 

@@ -70,11 +70,7 @@ fn class_of(by_key: u64, by_item: u64) -> Class
 fn rule_class(using_keys: bool, rule: &FileRule<'_>) -> Class
     ensures { result ≡ rule_class (tab_rule [] using_keys rule.now) }
 {
-    let key = if using_keys {
-        rule.key()
-    } else {
-        RuleKey::Any
-    };
+    let key = if using_keys { rule.key() } else { RuleKey::Any };
     class_of(key_class(key), last_class(rule.context()))
 }
 

@@ -95,10 +95,7 @@ fn flag_numbers(alloc: Global, flags: &[bool]) -> Result<Vec<Option<usize>>, Mem
 
 /// The option number of each store: the stores that an item uses as options are marked, and then counted.
 #[tactic(auto, using(crate::proofs::OptionFlags::numbers_by_flags), unfolding(rule_model::specs::Tab::tab_options))]
-pub fn option_numbers(
-    alloc: Global,
-    file: &FileTables<'_>,
-) -> Result<Vec<Option<usize>>, Memory>
+pub fn option_numbers(alloc: Global, file: &FileTables<'_>) -> Result<Vec<Option<usize>>, Memory>
     ensures { IfOk result (λ numbers. numbers.items ≡ option_numbers 0 (with_options (tab_options file.now) 0 file.now.stores)) }
 {
     let mut flags = vec![in alloc; false; file.store_count() as usize]?;

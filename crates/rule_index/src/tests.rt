@@ -1,32 +1,36 @@
-//! The records that can hold for a press and a last item, one after the other, and the first places of items.
+//! The records that can hold for a press and a last item, one after the other, what is looked up of a file, and the first
+//! places of items.
 
+use crate::options::option_numbers;
+use crate::own_names::own_keys;
 use crate::{PlaceIndex, RuleIndex, value_numbers, wanted_classes};
+use file_parts::FileTables;
 use kmn_base::Item::{Char, Mark};
-use kmn_base::{Element, Item, KeyPress, Memory, RuleKey, Seq};
-use rule_model::{Pat, Rule};
+use kmn_base::limits::RECORDS;
+use kmn_base::{Element, Item, KeyPress, Memory, Seq};
 use std::alloc::Global;
 use std::test::Fail;
 
-/// The keys and contexts of six records.
-const RECORDS: [(RuleKey, &[Pat]); 6] = [
-    (RuleKey::Char(0x61), &[]),
-    (RuleKey::Char(0x61), &[Pat::Char('x')]),
-    (
-        RuleKey::Virtual {
-            flags: 0x4010,
-            code: 65,
-        },
-        &[Pat::Mark(1)],
-    ),
-    (RuleKey::Char(0x41), &[Pat::Char('x'), Pat::Any(0)]),
-    (
-        RuleKey::Virtual {
-            flags: 0x4000,
-            code: 65,
-        },
-        &[Pat::NotAny(0)],
-    ),
-    (RuleKey::Char(0x61), &[Pat::Char('x'), Pat::Equal(0, 1)]),
+/// Three stores and two groups. The stores are `a`, `b`, and the names `K1  k2 K1 k1` of own keys. Both groups have the
+/// same six records, and the second uses no keys. Their keys and contexts are `a`; `a` behind `x`; code 65 with flags
+/// 0x4010 behind the first mark; `A` behind `x` and any of the first store; code 65 with flags 0x4000 behind none of it;
+/// and `a` behind `x`, where the second store equals the second. The second group's match output saves a fourth store,
+/// which isn't there, and the third.
+const FILE: [u8; 360] = [
+    0x4B, 0x58, 0x54, 0x53, 0, 0x0A, 0, 0, 0, 0, 0, 0, 0, 0, 0, 0, 0, 0, 0, 0, 0, 0, 0, 0, 3, 0, 0,
+    0, 2, 0, 0, 0, 0x40, 0, 0, 0, 0x64, 0, 0, 0, 0xFF, 0xFF, 0xFF, 0xFF, 0, 0, 0, 0, 0, 0, 0, 0, 0,
+    0, 0, 0, 0, 0, 0, 0, 0, 0, 0, 0, 0, 0, 0, 0, 0, 0, 0, 0, 0x0C, 1, 0, 0, 0, 0, 0, 0, 0, 0, 0, 0,
+    0x10, 1, 0, 0, 0x22, 0, 0, 0, 0, 0, 0, 0, 0x14, 1, 0, 0, 0, 0, 0, 0, 0x94, 0, 0, 0, 0, 0, 0, 0,
+    0, 0, 0, 0, 6, 0, 0, 0, 1, 0, 0, 0, 0, 0, 0, 0, 0x94, 0, 0, 0, 0x5A, 1, 0, 0, 0, 0, 0, 0, 6, 0,
+    0, 0, 0, 0, 0, 0, 0x61, 0, 0, 0, 1, 0, 0, 0, 0, 0, 0, 0, 0, 0, 0, 0, 0, 0, 0, 0, 0x61, 0, 0, 0,
+    1, 0, 0, 0, 0, 0, 0, 0, 0, 0, 0, 0, 0x2E, 1, 0, 0, 0x41, 0, 0, 0, 1, 0, 0, 0, 0x10, 0x40, 0, 0,
+    0, 0, 0, 0, 0x32, 1, 0, 0, 0x41, 0, 0, 0, 1, 0, 0, 0, 0, 0, 0, 0, 0, 0, 0, 0, 0x3A, 1, 0, 0,
+    0x41, 0, 0, 0, 1, 0, 0, 0, 0, 0x40, 0, 0, 0, 0, 0, 0, 0x44, 1, 0, 0, 0x61, 0, 0, 0, 1, 0, 0, 0,
+    0, 0, 0, 0, 0, 0, 0, 0, 0x4C, 1, 0, 0, 0x61, 0, 0, 0, 0x62, 0, 0, 0, 0x4B, 0, 0x31, 0, 0x20, 0,
+    0x20, 0, 0x6B, 0, 0x32, 0, 0x20, 0, 0x4B, 0, 0x31, 0, 0x20, 0, 0x6B, 0, 0x31, 0, 0, 0, 0x78, 0,
+    0, 0, 0xFF, 0xFF, 8, 0, 1, 0, 0, 0, 0x78, 0, 0xFF, 0xFF, 1, 0, 1, 0, 0, 0, 0xFF, 0xFF, 0x12, 0,
+    1, 0, 0, 0, 0x78, 0, 0xFF, 0xFF, 0x14, 0, 2, 0, 2, 0, 1, 0, 0, 0, 0xFF, 0xFF, 0x15, 0, 4, 0,
+    0xFF, 0xFF, 0x15, 0, 3, 0, 0, 0,
 ];
 
 /// Whether the group has keys, a press by code and modifiers, the list before the caret, a number, and the first
@@ -62,31 +66,12 @@ const PLACES: [(Item, Option<u32>); 4] = [
 /// Values, and for each the place of the first that is the same.
 const VALUES: ([&[u8]; 5], [u32; 5]) = ([b"a", b"", b"ab", b"", b"a"], [0, 1, 2, 1, 0]);
 
-fn record(alloc: Global, key: RuleKey, context: &[Pat]) -> Result<Rule, Memory> {
-    let mut patterns = Seq::new(alloc);
-    for pattern in context {
-        patterns.add(*pattern)?;
+/// The index of a group's records, where there are not too many.
+fn index_of(alloc: Global, file: &FileTables<'_>, number: u32) -> Result<RuleIndex, Memory> {
+    match file.group(number) {
+        Some(group) if group.rule_count() as usize <= RECORDS => RuleIndex::new(alloc, &group),
+        _ => Err(Memory),
     }
-    Ok(Rule {
-        line: 1,
-        place: 0,
-        key,
-        context: patterns,
-        output: Seq::new(alloc),
-    })
-}
-
-fn records(alloc: Global) -> Result<Seq<Rule>, Memory> {
-    let mut rules = Seq::new(alloc);
-    for (key, context) in RECORDS {
-        rules.add(record(alloc, key, context)?)?;
-    }
-    Ok(rules)
-}
-
-/// The index of the first six of records.
-fn index_of(alloc: Global, using_keys: bool, rules: &[Rule]) -> Result<RuleIndex, Memory> {
-    RuleIndex::new(alloc, using_keys, &rules[..rules.len().min(6)])
 }
 
 /// Whether the answer to a row of the table is the one that it has.
@@ -109,12 +94,28 @@ fn numbers_are(alloc: Global, values: &[&[u8]], wanted: &[u32]) -> Result<bool, 
 
 #[test]
 fn candidates_of_a_press(rt: HostRuntime) -> Result<(), Fail> {
-    let rules = records(rt.alloc())?;
-    let with_keys = index_of(rt.alloc(), true, rules.as_slice())?;
-    let without_keys = index_of(rt.alloc(), false, rules.as_slice())?;
+    let file = FileTables::of(&FILE);
+    let with_keys = index_of(rt.alloc(), &file, 0)?;
+    let without_keys = index_of(rt.alloc(), &file, 1)?;
     for asked in CANDIDATES {
         assert!(rt; answers(&with_keys, &without_keys, asked));
     }
+    Ok(())
+}
+
+#[test]
+fn options_of_a_file(rt: HostRuntime) -> Result<(), Fail> {
+    let numbers = option_numbers(rt.alloc(), &FileTables::of(&FILE))?;
+    assert!(rt; numbers.as_slice() == &[None, Some(0), Some(1)]);
+    Ok(())
+}
+
+#[test]
+fn names_of_own_keys(rt: HostRuntime) -> Result<(), Fail> {
+    let names = own_keys(rt.alloc(), &FileTables::of(&FILE))?;
+    assert!(rt; names.name_at(256) == Some(b"K1".as_slice()));
+    assert!(rt; names.name_at(257) == Some(b"k2".as_slice()));
+    assert!(rt; names.name_at(258).is_none());
     Ok(())
 }
 
