@@ -102,10 +102,11 @@ numbers_from options k m (flag ∷ flags) (s ∷ ss) count told =
     = λ i h. let further : m + suc i ≡ m + 1 + i = omega arith in told (suc i) (omega arith) ∙ ap (λ (n : ℕ). list_any (nat_eq n) options) further in
     λ j. if here j then Some k ∷ numbers_from options (k + 1) (m + 1) flags ss counted behind j else None ∷ numbers_from options k (m + 1) flags ss counted behind j
 
--- the flags of all stores that items use as options give the option numbers
-pub numbers_by_flags : (options : List ℕ) (count : ℕ) (stores : List Store) → count ≡ length stores
-    → flag_numbers 0 (with_flags (replicate count false) options) ≡ option_numbers 0 (with_options options 0 stores)
-numbers_by_flags options count stores e =
-    let same : length (with_flags (replicate count false) options) ≡ count = count_with (replicate count false) options ∙ count_unset count in
-    numbers_from options 0 0 (with_flags (replicate count false) options) stores (same ∙ e)
-    (λ i h. flag_is options count i (omega (arith, same)))
+-- the flags of the stores that are listed give the option numbers
+pub numbers_by_flags : (options : List ℕ) (stores : List Store)
+    → flag_numbers 0 (with_flags (replicate (length stores) false) options) ≡ option_numbers 0 (with_options options 0 stores)
+numbers_by_flags options stores =
+    let count : length (with_flags (replicate (length stores) false) options) ≡ length stores
+    = count_with (replicate (length stores) false) options ∙ count_unset (length stores) in
+    numbers_from options 0 0 (with_flags (replicate (length stores) false) options) stores count
+    (λ i h. let from_zero : i ≡ 0 + i = omega arith in flag_is options (length stores) i (omega (arith, count)) ∙ ap (λ (n : ℕ). list_any (nat_eq n) options) from_zero)

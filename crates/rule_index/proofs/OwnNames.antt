@@ -84,29 +84,35 @@ bytes_of c other = λ k d below. differ k d below (nat_eq 32 (get_or (encode_utf
         let same : c ≡ 32 = omega arith in
         absurd (grind (arith, nat_tests))
 
+-- one character more, where the words of what stands behind it are known
+words_step : (names : List (List ℕ)) (word : List ℕ) (c : ℕ) (cs : List ℕ) → HasNoSpace word
+    → ((more : List (List ℕ)) → names_read more [] cs ≡ distinct_onto same_name more (words (encode_utf8_all cs)))
+    → ((longer : List ℕ) → HasNoSpace longer → names_read names longer cs ≡ distinct_onto same_name names (words (longer ++ encode_utf8_all cs)))
+    → (space : Bool) → nat_eq c 32 ≡ space
+    → names_read (if space then names_with names word else names) (if space then [] else word ++ encode_utf8 c) cs
+    ≡ distinct_onto same_name names (words (word ++ (encode_utf8 c ++ encode_utf8_all cs)))
+words_step names word c cs whole behind on true e =
+    let is : c ≡ 32 = grind (arith, nat_tests) in
+    let bytes : encode_utf8 c ≡ 32 ∷ [] = ap encode_utf8 is ∙ encode_ascii 32 (omega arith) in
+    let parts : slice_split (nat_eq 32) (word ++ 32 ∷ encode_utf8_all cs) ≡ word ∷ slice_split (nat_eq 32) (encode_utf8_all cs)
+    = slice_split_at (nat_eq 32) word 32 (encode_utf8_all cs) whole refl in
+    behind (names_with names word)
+    ∙ sym (word_first names word (slice_split (nat_eq 32) (encode_utf8_all cs)))
+    ∙ ap (λ all. distinct_onto same_name names (filter is_word all)) (sym parts)
+    ∙ ap (λ text. distinct_onto same_name names (words (word ++ (text ++ encode_utf8_all cs)))) (sym bytes)
+words_step names word c cs whole behind on false e =
+    on (word ++ encode_utf8 c) (All-append (λ byte. nat_eq 32 byte ≡ false) word (encode_utf8 c) whole (bytes_of c e))
+    ∙ ap (λ text. distinct_onto same_name names (words text)) (append_assoc word (encode_utf8 c) (encode_utf8_all cs))
+
 -- the words of a text that goes on behind a word
 words_read : (names : List (List ℕ)) (word : List ℕ) (cs : List ℕ) → HasNoSpace word
     → names_read names word cs ≡ distinct_onto same_name names (words (word ++ encode_utf8_all cs))
 words_read names word [] whole =
     sym (word_first names word [])
     ∙ ap (λ parts. distinct_onto same_name names (filter is_word parts)) (sym (ap (slice_split (nat_eq 32)) (append-nil word) ∙ slice_split_none (nat_eq 32) word whole))
-words_read names word (c ∷ cs) whole = next (nat_eq c 32) refl
-  where
-    next : (space : Bool) → nat_eq c 32 ≡ space
-        → names_read (if space then names_with names word else names) (if space then [] else word ++ encode_utf8 c) cs
-        ≡ distinct_onto same_name names (words (word ++ (encode_utf8 c ++ encode_utf8_all cs)))
-    next true e =
-        let is : c ≡ 32 = grind (arith, nat_tests) in
-        let bytes : encode_utf8 c ≡ 32 ∷ [] = ap encode_utf8 is ∙ encode_ascii 32 (omega arith) in
-        let parts : slice_split (nat_eq 32) (word ++ 32 ∷ encode_utf8_all cs) ≡ word ∷ slice_split (nat_eq 32) (encode_utf8_all cs)
-        = slice_split_at (nat_eq 32) word 32 (encode_utf8_all cs) whole refl in
-        words_read (names_with names word) [] cs (All-nil (λ byte. nat_eq 32 byte ≡ false))
-        ∙ sym (word_first names word (slice_split (nat_eq 32) (encode_utf8_all cs)))
-        ∙ ap (λ all. distinct_onto same_name names (filter is_word all)) (sym parts)
-        ∙ ap (λ text. distinct_onto same_name names (words (word ++ (text ++ encode_utf8_all cs)))) (sym bytes)
-    next false e =
-        words_read names (word ++ encode_utf8 c) cs (All-append (λ byte. nat_eq 32 byte ≡ false) word (encode_utf8 c) whole (bytes_of c e))
-        ∙ ap (λ text. distinct_onto same_name names (words text)) (append_assoc word (encode_utf8 c) (encode_utf8_all cs))
+words_read names word (c ∷ cs) whole =
+    words_step names word c cs whole (λ more. words_read more [] cs (All-nil (λ byte. nat_eq 32 byte ≡ false))) (λ longer without. words_read names longer cs without)
+    (nat_eq c 32) refl
 
 -- so the names that are read from the first character on are the distinct words
 pub names_are_read : (cs : List ℕ) → names_read [] [] cs ≡ distinct_onto same_name [] (words (encode_utf8_all cs))

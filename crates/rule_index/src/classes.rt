@@ -45,7 +45,7 @@ fn takes_item(pattern: Pat) -> bool
 
 /// What the last pattern of a context wants.
 fn last_class(context: Patterns<'_>) -> u64
-    ensures value { result ≡ last_class 0 (map (tab_pattern []) context) }
+    ensures value { result ≡ last_class 0 (map (tab_pattern []) context.entry) }
     ensures small { result < 2097152 }
 {
     let mut class = 0;

@@ -71,7 +71,7 @@ impl<'a> IndexedKeyboard<'a> {
     #[tactic(auto, unfolding(rule_model::specs::Tab::tab))]
     pub fn new(alloc: Global, file: FileTables<'a>) -> Result<IndexedKeyboard<'a>, Memory>
         requires { All (λ group. length group.rules ≤ RECORDS) file.groups }
-        ensures { IfOk result (λ keyboard. keyboard ≡ file) }
+        ensures { IfOk result (λ keyboard. keyboard ≡ file.entry) }
     {
         let numbers = option_numbers(alloc, &file)?;
         let indexes = indexes_of(alloc, &file)?;

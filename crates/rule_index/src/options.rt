@@ -1,6 +1,6 @@
 //! The option number of each store of a file.
 
-ghost use Rattle.std.specs.Prelude.{◌≡◌, [], ◌∷◌, IfOk, flat_map};
+ghost use Rattle.std.specs.Prelude.{◌≡◌, false, [], ◌∷◌, IfOk, length, replicate, flat_map};
 ghost use Rattle.rule_model.specs.Tab.{pattern_options, output_options, rule_options, group_options, tab_options, with_options};
 ghost use Rattle.rule_model.specs.Plain.{option_numbers};
 ghost use Rattle.rule_index.specs.OptionFlags.{with_flags, flag_numbers};
@@ -21,7 +21,7 @@ fn mark(flags: &mut [bool], store: u32)
 }
 
 fn mark_context(flags: &mut [bool], context: Patterns<'_>)
-    ensures { flags.new ≡ with_flags flags.old (flat_map pattern_options context) }
+    ensures { flags.new ≡ with_flags flags.old (flat_map pattern_options context.entry) }
 {
     for pattern in context {
         if let Pat::Equal(store, _) | Pat::Unequal(store, _) = pattern {
@@ -31,7 +31,7 @@ fn mark_context(flags: &mut [bool], context: Patterns<'_>)
 }
 
 fn mark_outputs(flags: &mut [bool], outputs: Outputs<'_>)
-    ensures { flags.new ≡ with_flags flags.old (flat_map output_options outputs) }
+    ensures { flags.new ≡ with_flags flags.old (flat_map output_options outputs.entry) }
 {
     for output in outputs {
         if let Out::Set(store, _) | Out::Save(store) | Out::Reset(store) = output {
@@ -93,12 +93,20 @@ fn flag_numbers(alloc: Global, flags: &[bool]) -> Result<Vec<Option<usize>>, Mem
     Ok(numbers)
 }
 
-/// The option number of each store: the stores that an item uses as options are marked, and then counted.
-#[tactic(auto, using(crate::proofs::OptionFlags::numbers_by_flags), unfolding(rule_model::specs::Tab::tab_options))]
-pub fn option_numbers(alloc: Global, file: &FileTables<'_>) -> Result<Vec<Option<usize>>, Memory>
-    ensures { IfOk result (λ numbers. numbers.items ≡ option_numbers 0 (with_options (tab_options file.now) 0 file.now.stores)) }
+/// A flag for each store: whether some item uses it as an option.
+#[tactic(auto, unfolding(rule_model::specs::Tab::tab_options))]
+fn option_flags(alloc: Global, file: &FileTables<'_>) -> Result<Vec<bool>, Memory>
+    ensures { IfOk result (λ flags. flags.items ≡ with_flags (replicate (length file.now.stores) false) (tab_options file.now)) }
 {
     let mut flags = vec![in alloc; false; file.store_count() as usize]?;
     mark_groups(flags.as_mut_slice(), file);
+    Ok(flags)
+}
+
+/// The option number of each store.
+pub fn option_numbers(alloc: Global, file: &FileTables<'_>) -> Result<Vec<Option<usize>>, Memory>
+    ensures { IfOk result (λ numbers. numbers.items ≡ option_numbers 0 (with_options (tab_options file.now) 0 file.now.stores)) }
+{
+    let flags = option_flags(alloc, file)?;
     flag_numbers(alloc, flags.as_slice())
 }

@@ -55,7 +55,6 @@ fn take_char(names: &mut KeyDictionary, word: &mut String, c: char) -> Result<()
 }
 
 /// The names of a file's own keys: the words of the store's characters, each once.
-#[tactic(auto, using(crate::proofs::OwnNames::names_are_read), unfolding(rule_model::specs::Tab::tab_dictionary))]
 pub fn own_keys(alloc: Global, file: &FileTables<'_>) -> Result<KeyDictionary, Memory>
     ensures { IfOk result (λ names. names ≡ tab_dictionary file.now.stores) }
 {

@@ -1,0 +1,11 @@
+use Rattle.std.proofs.Common.{◌≡◌, ◌∙◌, IfOk, List, Option, ap, subst, ℕ}
+use Rattle.rule_model.specs.Tab.{tab_options}
+use Rattle.rule_index.specs.OptionFlags.{flag_numbers}
+use Rattle.rule_index.proofs.OptionFlags.{numbers_by_flags}
+use Rattle.rule_index.proofs.options.option_numbers.Goals as goal
+
+pub returns : goal.returns
+returns c =
+    subst (λ (numbers : List (Option ℕ)). IfOk c.flag_numbers.result (λ made. made.items ≡ numbers))
+    (ap (flag_numbers 0) (c.as_slice.ensures.value ∙ c.in_ok-flags.ensures) ∙ numbers_by_flags (tab_options c.args.file.now) c.args.file.now.stores)
+    c.flag_numbers.ensures

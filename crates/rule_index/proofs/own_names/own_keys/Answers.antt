@@ -1,0 +1,17 @@
+use Rattle.std.proofs.Common.{◌∙◌, List, ap, sym}
+use Rattle.std.specs.Prelude.{find, filter_map}
+use Rattle.std.specs.String.{string_bytes}
+use Rattle.kmn_base.specs.declared.items.Element.{Element}
+use Rattle.rule_model.specs.Tab.{element_char, is_dictionary, store_elements, tab_dictionary}
+use Rattle.rule_index.specs.OwnNames.{names_with, names_read}
+use Rattle.rule_index.proofs.OwnNames.{names_are_read}
+use Rattle.rule_index.proofs.own_names.own_keys.Goals as goal
+
+pub returns : goal.returns
+unfolding tab_dictionary
+returns c =
+    c.in_ok-add_word.ensures
+    ∙ ap (names_with c.loop-element.names) c.as_bytes.ensures.value
+    ∙ ap (λ (left : List Element). names_read c.loop-element.names (string_bytes c.loop-element.word) (filter_map element_char left)) (sym c.in-None.ensures.steps.0)
+    ∙ c.loop-element.invariant
+    ∙ names_are_read (filter_map element_char (store_elements (find is_dictionary c.args.file.now.stores)))
