@@ -144,10 +144,11 @@ fn are_records(group: &Group, outputs: &[(u32, char)]) -> bool {
 /// Whether the tables of the file of two keys are what it says.
 fn has_tables(alloc: Global) -> Result<bool, Fail> {
     let file = verify(alloc, &TWO_KEYS)?;
-    let groups = file.tables().groups.as_slice();
+    let tables = file.copied_tables(alloc)?;
+    let groups = tables.groups.as_slice();
     Ok(
         file.bytes() == TWO_KEYS.as_slice()
-            && file.tables().stores.len() == 2
+            && tables.stores.len() == 2
             && !file.is_option(0)
             && !file.is_option(2)
             && groups.iter().all(|group| are_records(group, &[(0x4000, 'x'), (0x4010, 'y')])),

@@ -64,7 +64,10 @@ pub fn text_of(alloc: Global, file: &Verified<'_>) -> Result<Text, TextError>
     ensures within { OnOk result (nat_lt TEXT_BYTES (length (program_text (back (tables_of file.now)))) ≡ false) }
     ensures refused { IfErr result (IsTooLong (length (program_text (back (tables_of file.now))))) }
 {
-    match page_of_tables(alloc, file.tables()) {
+    let Ok(tables) = file.copied_tables(alloc) else {
+        return Err(TextError::Memory);
+    };
+    match page_of_tables(alloc, &tables) {
         Ok(page) => text_within(page),
         Err(Memory) => Err(TextError::Memory),
     }

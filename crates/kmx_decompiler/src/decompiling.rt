@@ -98,9 +98,11 @@ pub fn decompile(alloc: Global, file: &Verified<'_>) -> Result<Text, DecompileEr
     ensures spelled { OnOk result (unspelled file.now ≡ None) }
     ensures refused { IfErr result (λ why. TellsWhy file.now why) }
 {
-    let tables = file.tables();
+    let Ok(tables) = file.copied_tables(alloc) else {
+        return Err(DecompileError::Memory);
+    };
     match disorder(tables.groups.as_slice()) {
-        Ok(None) => text_in_order(alloc, file.bytes(), tables),
+        Ok(None) => text_in_order(alloc, file.bytes(), &tables),
         Ok(Some(why)) => Err(refusal(why)),
         Err(Memory) => Err(DecompileError::Memory),
     }

@@ -1,12 +1,14 @@
-//! Files of strangers: says yes to exactly the valid ones and names the first fault of every other. A valid file has the
-//! tables that were read from it, and they can be played.
+//! Files of strangers: says yes to exactly the valid ones and names the first fault of every other. The tables of a valid
+//! file can be played.
 //!
-//! It stands on `kmn_base`, `item_codec`, `rule_model`, `kmx_format`, whose definition of reading it follows, and
-//! `kmx_view`. `specs/FaultOf` has the first fault of a file, step by step. The layers above open a file by `verify` and
-//! use a `Verified`, whose tables are those that its bytes have.
+//! It stands on `kmn_base`, `item_codec`, `rule_model`, `kmx_format`, whose definition of reading it follows, `kmx_view`
+//! and `file_parts`. `specs/FaultOf` has the first fault of a file, step by step. The layers above open a file by `verify`
+//! and use a `Verified`, which borrows its bytes and copies nothing: it lends the file's tables part by part, and copies
+//! them for a caller that asks for it.
 #![tactic(auto)]
 
 mod contexts;
+mod counts;
 mod faults;
 mod groups;
 mod header;

@@ -1,11 +1,12 @@
-//! Which stores of tables are options: some condition, `set`, `save` or `reset` names them.
+//! Which stores of a file are options: some condition, `set`, `save` or `reset` names them.
 
 ghost use Rattle.std.specs.Prelude.{◌≡◌, nat_eq};
 ghost use Rattle.std.specs.List.{list_any};
 ghost use Rattle.rule_model.specs.Tab.{pattern_options, output_options, tab_options};
 ghost use Rattle.kmx_verifier.specs.Options.{used_in, used_in_rule, used_in_group};
 
-use rule_model::{Group, Out, Pat, Rule, Tables};
+use file_parts::{FileGroup, FileRule, FileTables, Outputs, Patterns};
+use rule_model::{Out, Pat};
 
 fn pattern_uses(pattern: &Pat, store: u32) -> bool
     ensures { result ≡ list_any (nat_eq store) (pattern_options pattern.now) }
@@ -25,47 +26,67 @@ fn output_uses(output: &Out, store: u32) -> bool
     }
 }
 
-fn context_uses(context: &[Pat], store: u32) -> bool
-    ensures { result ≡ used_in pattern_options store context.now }
+fn context_uses(context: Patterns<'_>, store: u32) -> bool
+    ensures { result ≡ used_in pattern_options store context.entry }
 {
-    context.iter().any(|pattern| pattern_uses(pattern, store))
+    for pattern in context {
+        if pattern_uses(&pattern, store) {
+            return true;
+        }
+    }
+    false
 }
 
-fn outputs_use(outputs: &[Out], store: u32) -> bool
-    ensures { result ≡ used_in output_options store outputs.now }
+fn outputs_use(outputs: Outputs<'_>, store: u32) -> bool
+    ensures { result ≡ used_in output_options store outputs.entry }
 {
-    outputs.iter().any(|output| output_uses(output, store))
+    for output in outputs {
+        if output_uses(&output, store) {
+            return true;
+        }
+    }
+    false
 }
 
-fn rule_uses(rule: &Rule, store: u32) -> bool
+fn rule_uses(rule: &FileRule<'_>, store: u32) -> bool
     ensures { result ≡ used_in_rule store rule.now }
 {
-    context_uses(rule.context.as_slice(), store) || outputs_use(rule.output.as_slice(), store)
+    context_uses(rule.context(), store) || outputs_use(rule.output(), store)
 }
 
-fn rules_use(rules: &[Rule], store: u32) -> bool
-    ensures { result ≡ list_any (λ rule. used_in_rule store rule) rules.now }
+fn rules_use(group: &FileGroup<'_>, store: u32) -> bool
+    ensures { result ≡ list_any (λ rule. used_in_rule store rule) group.now.rules }
 {
-    rules.iter().any(|rule| rule_uses(rule, store))
+    for rule in group.rules() {
+        if rule_uses(&rule, store) {
+            return true;
+        }
+    }
+    false
 }
 
-fn group_uses(group: &Group, store: u32) -> bool
+fn group_uses(group: &FileGroup<'_>, store: u32) -> bool
     ensures { result ≡ used_in_group store group.now }
 {
-    rules_use(group.rules.as_slice(), store)
-        || outputs_use(group.on_match.as_slice(), store)
-        || outputs_use(group.on_nomatch.as_slice(), store)
+    rules_use(group, store)
+        || outputs_use(group.on_match(), store)
+        || outputs_use(group.on_nomatch(), store)
 }
 
-fn groups_use(groups: &[Group], store: u32) -> bool
-    ensures { result ≡ list_any (λ group. used_in_group store group) groups.now }
+fn groups_use(file: &FileTables<'_>, store: u32) -> bool
+    ensures { result ≡ list_any (λ group. used_in_group store group) file.now.groups }
 {
-    groups.iter().any(|group| group_uses(group, store))
+    for group in file.groups() {
+        if group_uses(&group, store) {
+            return true;
+        }
+    }
+    false
 }
 
 /// Whether a store is an option.
-pub(crate) fn is_option(tables: &Tables, store: u32) -> bool
-    ensures { result ≡ list_any (nat_eq store) (tab_options tables.now) }
+pub(crate) fn is_option(file: &FileTables<'_>, store: u32) -> bool
+    ensures { result ≡ list_any (nat_eq store) (tab_options file.now) }
 {
-    groups_use(tables.groups.as_slice(), store)
+    groups_use(file, store)
 }

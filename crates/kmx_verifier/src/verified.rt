@@ -1,25 +1,28 @@
-ghost use Rattle.std.specs.Prelude.{◌≡◌, length, MatchResult, None, Some};
+ghost use Rattle.std.specs.Prelude.{◌≡◌, ◌≤◌, length, IfOk, MatchResult, None, Some};
+ghost use Rattle.kmn_base.specs.declared.limits.TheConstants.{FILE_BYTES};
 ghost use Rattle.kmx_verifier.specs.FaultOf.{fault_of, IsRefusal};
 
+use crate::counts::rule_count;
 use crate::faults::VerifyError;
 use crate::options::is_option;
 use crate::tables::tables_of;
 use crate::whole::check_file;
+use file_parts::FileTables;
 use kmn_base::Memory;
-use kmx_format::rule_count;
+use kmx_view::KmxView;
 use rule_model::Tables;
 use std::alloc::Global;
 use std::marker::Model;
 
-/// A sound file, borrowed, with the tables that were read from it. Contracts see it as its bytes.
+/// A sound file, borrowed: nothing of it is copied. Contracts see it as its bytes.
 #[derive(Drop)]
 pub struct Verified<'a> {
     bytes: &'a [u8],
-    tables: Tables,
 }
 
 impl<'a> Model for Verified<'a> {
-    ghost use Rattle.std.specs.Prelude.{◌≡◌, ℕ, List};
+    ghost use Rattle.std.specs.Prelude.{◌≤◌, ℕ, List, length};
+    ghost use Rattle.kmn_base.specs.declared.limits.TheConstants.{FILE_BYTES};
     ghost use Rattle.kmx_format.specs.TablesOf.{tables_of};
     ghost use Rattle.kmx_format.specs.Playable.{IsPlayable};
 
@@ -27,7 +30,7 @@ impl<'a> Model for Verified<'a> {
 
     ghost view = { λ file. file.bytes.now };
 
-    ghost invariant = { λ file. (file.tables ≡ tables_of file.bytes.now) × IsPlayable file.tables };
+    ghost invariant = { λ file. (length file.bytes.now ≤ FILE_BYTES) × IsPlayable (tables_of file.bytes.now) };
 }
 
 impl<'a> Verified<'a> {
@@ -45,47 +48,63 @@ impl<'a> Verified<'a> {
         self.bytes
     }
 
-    /// The tables that the file has.
-    pub fn tables(&self) -> &Tables
-        ensures value { result.now ≡ tables_of self.now }
-        ensures playable { IsPlayable result.now }
+    /// The file's parts by place.
+    pub fn view(&self) -> KmxView<'a>
+        ensures value { result.bytes.now ≡ self.now }
+        ensures few { length self.now ≤ FILE_BYTES }
     {
-        &self.tables
+        KmxView::of(self.bytes)
+    }
+
+    /// The tables that the file has, read where they lie.
+    pub fn parts(&self) -> FileTables<'a>
+        ensures value { result ≡ tables_of self.now }
+        ensures playable { IsPlayable result }
+    {
+        FileTables::of(self.bytes)
+    }
+
+    /// The tables that the file has, once more.
+    pub fn copied_tables(&self, alloc: Global) -> Result<Tables, Memory>
+        ensures value { IfOk result (λ tables. tables ≡ tables_of self.now) }
+        ensures playable { IsPlayable (tables_of self.now) }
+    {
+        tables_of(alloc, self.bytes)
     }
 
     /// The version of the file's format.
     pub fn version(&self) -> u16
         ensures { result ≡ (tables_of self.now).version }
     {
-        self.tables.version
+        self.parts().version()
     }
 
     /// How many stores the file has.
     pub fn store_count(&self) -> u32
         ensures { result ≡ length (tables_of self.now).stores }
     {
-        self.tables.stores.len() as u32
+        self.parts().store_count()
     }
 
     /// How many groups the file has.
     pub fn group_count(&self) -> u32
         ensures { result ≡ length (tables_of self.now).groups }
     {
-        self.tables.groups.len() as u32
+        self.parts().group_count()
     }
 
     /// How many key records all groups of the file have.
     pub fn rule_count(&self) -> u32
         ensures { result ≡ length (all_rules (tables_of self.now)) }
     {
-        rule_count(self.tables.groups.as_slice()) as u32
+        rule_count(&self.parts())
     }
 
     /// Whether some condition, `set`, `save` or `reset` names a store.
     pub fn is_option(&self, store: u32) -> bool
         ensures { result ≡ list_any (nat_eq store) (tab_options (tables_of self.now)) }
     {
-        is_option(&self.tables, store)
+        is_option(&self.parts(), store)
     }
 }
 
@@ -96,11 +115,7 @@ pub fn verify<'a>(alloc: Global, bytes: &'a [u8]) -> Result<Verified<'a>, Verify
         (λ error. IsRefusal error (λ fault. fault_of bytes.now ≡ Some fault)) }
 {
     match check_file(alloc, bytes) {
-        Ok(()) => {}
-        Err(error) => return Err(error),
-    }
-    match tables_of(alloc, bytes) {
-        Ok(tables) => Ok(Verified { bytes, tables }),
-        Err(Memory) => Err(VerifyError::Memory),
+        Ok(()) => Ok(Verified { bytes }),
+        Err(error) => Err(error),
     }
 }

@@ -63,7 +63,7 @@ fn put_current_change(changes: &mut Vec<Change>, store: u32, engine: &Engine, be
     ensures room { vec_capacity changes.new ≡ vec_capacity changes.old }
 {
     let was = engine.content_with(before, store);
-    if !was.is_same(&engine.content(store)) {
+    if !was.is_same(engine.content(store)) {
         changes.push_reserved(Change {
             store,
             saved: false,
@@ -92,7 +92,7 @@ fn is_newly_saved(before: Option<StoreValue>, after: Option<StoreValue>) -> bool
 {
     match after {
         Some(after) => match before {
-            Some(before) => !before.is_same(&after),
+            Some(before) => !before.is_same(after),
             None => true,
         },
         None => false,

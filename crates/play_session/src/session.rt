@@ -281,8 +281,8 @@ impl<'a> Session<'a> {
     pub fn name(&self, alloc: Global, store: u32) -> Result<Text, Memory>
         ensures { IfOk result (λ name. name ≡ name_of self.now.tables store) }
     {
-        match self.engine.tables().stores.as_slice().get(store as usize) {
-            Some(store) => store.name.copy(alloc),
+        match self.engine.file().store(store) {
+            Some(store) => store.name(alloc),
             None => Ok(Seq::new(alloc)),
         }
     }

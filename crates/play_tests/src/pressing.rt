@@ -1,9 +1,10 @@
 //! Presses of keys on an engine, and texts that it reads again.
 
-use crate::fixtures::{press, sign, tables};
-use kmn_base::{Element, Item, Memory, Outcome, RuleKey, Seq};
-use rule_engine::{Engine, can_run};
-use rule_model::{Group, Out, Pat, Rule, Store, Tables};
+use crate::fixtures::{press, sign};
+use kmn_base::{Item, Memory, Outcome, Seq};
+use kmn_compiler::compile;
+use kmx_verifier::verify;
+use rule_engine::Engine;
 use std::alloc::Global;
 use std::fmt::Write;
 use std::test::Fail;
@@ -19,34 +20,38 @@ a,c>y ,c>x ; K_A 0 a 0 a ; K_C 1 y 0 y ; K_F5 0  1 y
 ,s>\u{1F600} \u{1F600},a>\u{10FFFF} ; K_S 0 \u{1F600} 0 \u{1F600} ; K_A 1 \u{10FFFF} 0 \u{10FFFF}
 a,b>ab ; K_A 0 a 0 a ; K_B 0 b 0 ab";
 
-fn pattern(c: char) -> Pat {
-    if c == '*' { Pat::Mark(1) } else { Pat::Char(c) }
-}
-
-fn output(c: char) -> Out {
-    if c == '*' { Out::Mark(1) } else { Out::Char(c) }
-}
-
-fn rule(alloc: Global, text: &str) -> Result<Rule, Memory> {
-    let (input, outputs) = text.split_once('>').unwrap_or((text, ""));
-    let (context, key) = input.split_once(',').unwrap_or(("", input));
-    let unit = key.as_bytes().first().copied().unwrap_or(0);
-    Ok(Rule {
-        line: 0,
-        place: 0,
-        key: RuleKey::Char(u16::from(unit)),
-        context: Seq::from_vec(context.chars().map(pattern).collect(alloc)?),
-        output: Seq::from_vec(outputs.chars().map(output).collect(alloc)?),
-    })
-}
-
-/// Tables of one group, which uses keys, with these records.
-fn keyboard(alloc: Global, records: &str) -> Result<Tables, Memory> {
-    let mut rules = Vec::new(alloc);
-    for record in records.split(' ') {
-        rules.push(rule(alloc, record)?)?;
+/// Appends the items of a context or an output.
+fn put_items(text: &mut String, items: &str) -> Result<(), Memory> {
+    for c in items.chars() {
+        if c == '*' {
+            text.push_str("dk(1) ")?;
+        } else {
+            write!(text, "U+{:04X} ", c as u32)?;
+        }
     }
-    tables(alloc, Seq::new(alloc), Seq::from_vec(rules))
+    Ok(())
+}
+
+/// Appends the statement of a record.
+fn put_rule(text: &mut String, record: &str) -> Result<(), Memory> {
+    let (input, output) = record.split_once('>').unwrap_or((record, ""));
+    let (context, key) = input.split_once(',').unwrap_or(("", input));
+    put_items(text, context)?;
+    text.push_str("+ ")?;
+    put_items(text, key)?;
+    text.push_str("> ")?;
+    put_items(text, output)?;
+    text.push('\n')?;
+    Ok(())
+}
+
+/// The file of a keyboard of one group, which uses keys, with these records.
+fn keyboard(alloc: Global, records: &str) -> Result<Seq<u8>, Fail> {
+    let mut text = String::from_str(alloc, "begin Unicode > use(main)\ngroup(main) using keys\n")?;
+    for record in records.split(' ') {
+        put_rule(&mut text, record)?;
+    }
+    Ok(compile(alloc, text.as_bytes(), &[])?.bytes)
 }
 
 /// Appends the context.
@@ -119,11 +124,9 @@ fn shows(
 /// The first step of a case that ends otherwise.
 fn wrong_step(alloc: Global, case: &'static str) -> Result<Option<&'static str>, Fail> {
     let (records, steps) = case.split_once(" ; ").unwrap_or((case, ""));
-    let tables = keyboard(alloc, records)?;
-    if !can_run(&tables) {
-        return Err(Fail::from("tables that no file has"));
-    }
-    let mut engine = Engine::of_tables(alloc, &tables)?;
+    let bytes = keyboard(alloc, records)?;
+    let file = verify(alloc, bytes.as_slice())?;
+    let mut engine = Engine::start(alloc, &file)?;
     let mut text = Vec::new(alloc);
     for step in steps.split(" ; ") {
         if !shows(alloc, &mut engine, &mut text, step)? {
@@ -142,38 +145,18 @@ fn worked_keyboards(rt: HostRuntime) -> Result<(), Fail> {
     Ok(())
 }
 
-/// A group without keys of one record, which takes so many `z` and puts this.
-fn group_of_z(alloc: Global, count: usize, output: &[Out]) -> Result<Group, Memory> {
-    let rule = Rule {
-        line: 0,
-        place: 0,
-        key: RuleKey::Char(u16::from(b'q')),
-        context: Seq::from_vec(vec![in alloc; Pat::Char('z'); count]?),
-        output: Seq::from_slice(alloc, output)?,
-    };
-    Ok(Group {
-        name: Seq::new(alloc),
-        using_keys: false,
-        rules: Seq::from_vec(vec![in alloc; rule]?),
-        on_match: Seq::new(alloc),
-        on_nomatch: Seq::new(alloc),
-    })
-}
-
-/// A keyboard whose key Q puts `z` 70 times and enters a group that takes 60 of them, then one that takes the other 10.
-fn takes_what_it_puts(alloc: Global) -> Result<Tables, Memory> {
-    let mut output = vec![in alloc; Out::Char('z'); 70]?;
-    output.push(Out::Enter(1))?;
-    output.push(Out::Enter(2))?;
-    let mut tables = keyboard(alloc, "q>")?;
-    let mut start = group_of_z(alloc, 0, output.as_slice())?;
-    start.using_keys = true;
-    tables.groups = Seq::from_vec(vec![in alloc;
-        start,
-        group_of_z(alloc, 60, &[Out::Nul])?,
-        group_of_z(alloc, 10, &[Out::Char('N')])?,
-    ]?);
-    Ok(tables)
+/// The file of a keyboard whose key Q puts `z` 70 times and enters a group that takes 60 of them, then one that takes the
+/// other 10.
+fn takes_what_it_puts(alloc: Global) -> Result<Seq<u8>, Fail> {
+    let mut text = String::from_str(
+        alloc,
+        "begin Unicode > use(main)\ngroup(main) using keys\n+ 'q' > '",
+    )?;
+    text.push_str("z".repeat(alloc, 70)?.as_str())?;
+    text.push_str("' use(t) use(n)\ngroup(t)\n'")?;
+    text.push_str("z".repeat(alloc, 60)?.as_str())?;
+    text.push_str("' > nul\ngroup(n)\n'zzzzzzzzzz' > 'N'\n")?;
+    Ok(compile(alloc, text.as_bytes(), &[])?.bytes)
 }
 
 /// Whether a press on an empty text leaves the last character alone.
@@ -187,35 +170,9 @@ fn takes_all(engine: &mut Engine) -> bool {
 
 #[test]
 fn more_taken_than_the_window(rt: HostRuntime) -> Result<(), Fail> {
-    let tables = takes_what_it_puts(rt.alloc())?;
-    assert!(rt; can_run(&tables));
-    let mut engine = Engine::of_tables(rt.alloc(), &tables)?;
+    let bytes = takes_what_it_puts(rt.alloc())?;
+    let file = verify(rt.alloc(), bytes.as_slice())?;
+    let mut engine = Engine::start(rt.alloc(), &file)?;
     assert!(rt; takes_all(&mut engine));
-    Ok(())
-}
-
-/// Tables without records whose own keys have these names, with a space between each two.
-fn with_own_keys(alloc: Global, names: &str) -> Result<Tables, Memory> {
-    let store = Store {
-        system: 34,
-        name: Seq::new(alloc),
-        elements: Seq::from_vec(names.chars().map(|c| Element::Char(c)).collect(alloc)?),
-    };
-    tables(
-        alloc,
-        Seq::from_vec(vec![in alloc; store]?),
-        Seq::new(alloc),
-    )
-}
-
-#[test]
-fn names_of_own_keys(rt: HostRuntime) -> Result<(), Fail> {
-    let tables = with_own_keys(rt.alloc(), "T_ONE U_00E9 t_one T_TWO")?;
-    assert!(rt; can_run(&tables));
-    let engine = Engine::of_tables(rt.alloc(), &tables)?;
-    let names = engine.names();
-    assert!(rt; names.code_of(b"U_00e9") == Some(257));
-    assert!(rt; names.name_at(258) == Some(b"T_TWO".as_slice()));
-    assert!(rt; names.name_at(259).is_none());
     Ok(())
 }

@@ -1,5 +1,6 @@
 -- The records that are tried: the next candidate is the first that can hold, and behind the last one none holds.
-use Rattle.std.proofs.Common.{◌≡◌, ℕ, ◌+◌, ◌<◌, ◌≤◌, Bool, List, [], ◌∷◌, length, drop, map, get_or, Some, None, Option, sym, ◌∙◌, ap, arith}
+use Rattle.std.proofs.Common.{◌≡◌, ℕ, zero, suc, ◌+◌, ◌<◌, ◌≤◌, Bool, List, [], ◌∷◌, length, drop, map, get_or, Some, None, Option, refl, sym, ◌∙◌, ap, arith}
+use Rattle.std.specs.Prelude.{option_map, slice_get}
 use Rattle.std.proofs.lemmas.List.{drop_all, drop_more, get_or-map, length-map}
 use Rattle.kmn_base.specs.declared.items.Item.{Item}
 use Rattle.kmn_base.specs.declared.keys.KeyPress.{KeyPress}
@@ -14,6 +15,7 @@ use Rattle.rule_model.specs.Tab.{tab_rule}
 use Rattle.rule_index.specs.Classes.{rule_class, wanted_classes}
 use Rattle.rule_index.specs.Next.{IsNext, IsTheNext, NoneIsLeft}
 use Rattle.rule_index.proofs.Skipping.{first_is_candidate}
+use Rattle.rule_engine.specs.Event.{held_record}
 
 -- what each record can be met by
 abbrev pub classes_of : Bool → List Rule → List ℕ
@@ -58,22 +60,45 @@ from_number content left press stores using_keys rules number rule within is =
     let same : get_or all number meant ≡ meant = get_or-map (tab_rule stores using_keys) rules number rule meant within ∙ ap (tab_rule stores using_keys) (sym is) in
     ap (first (holds content left press)) (drop_more all number meant inside ∙ ap (λ (r : RuleMeaning). r ∷ drop (number + 1) all) same)
 
--- the candidate holds
-pub candidate_holds : (content : Content) (left : List Item) (press : KeyPress) (stores : List Store) (using_keys : Bool) (rules : List Rule) (from number : ℕ) (rule : Rule)
-    (caught : Caught) → IsNext (wanted_classes press left) 6 (classes_of using_keys rules) from (Some number)
-    → rule ≡ get_or rules number rule → holds content left press (tab_rule stores using_keys rule) ≡ Some caught
-    → first_from content left press stores using_keys rules from ≡ Some (tab_rule stores using_keys rule, caught)
-candidate_holds content left press stores using_keys rules from number rule caught next is held =
-    to_candidate content left press stores using_keys rules from number next
-    ∙ (from_number content left press stores using_keys rules number rule (candidate_within press left using_keys rules from number next).1 is
-    ∙ ap (λ (one : Option Caught). first_with (tab_rule stores using_keys rule) one (first_from content left press stores using_keys rules (number + 1))) held)
+-- the record of a number below their count
+there : (rules : List Rule) (number : ℕ) → number < length rules → (rule : Rule) × (slice_get rules number ≡ Some rule) × (rule ≡ get_or rules number rule)
+there [] number within = absurd (omega arith)
+there (rule ∷ rules) zero within = (rule, refl, refl)
+there (rule ∷ rules) (suc number) within = there rules number (omega arith)
 
--- the candidate doesn't hold: the first that does stands behind it
-pub candidate_passed : (content : Content) (left : List Item) (press : KeyPress) (stores : List Store) (using_keys : Bool) (rules : List Rule) (from number : ℕ) (rule : Rule)
-    → IsNext (wanted_classes press left) 6 (classes_of using_keys rules) from (Some number)
-    → rule ≡ get_or rules number rule → holds content left press (tab_rule stores using_keys rule) ≡ None
-    → first_from content left press stores using_keys rules from ≡ first_from content left press stores using_keys rules (number + 1)
-candidate_passed content left press stores using_keys rules from number rule next is none =
-    to_candidate content left press stores using_keys rules from number next
-    ∙ (from_number content left press stores using_keys rules number rule (candidate_within press left using_keys rules from number next).1 is
-    ∙ ap (λ (one : Option Caught). first_with (tab_rule stores using_keys rule) one (first_from content left press stores using_keys rules (number + 1))) none)
+-- a record goes first where it holds, and else those behind it
+held_first : (rule : RuleMeaning) (one : Option Caught) (others : Option Chosen) (chosen : Chosen)
+    → option_map {U = Chosen} (λ (caught : Caught). (rule, caught)) one ≡ Some chosen → first_with rule one others ≡ Some chosen
+held_first rule None others chosen is = absurd (cc)
+held_first rule (Some caught) others chosen is = is
+
+passed_first : (rule : RuleMeaning) (one : Option Caught) (others : Option Chosen)
+    → option_map {U = Chosen} (λ (caught : Caught). (rule, caught)) one ≡ None → first_with rule one others ≡ others
+passed_first rule None others is = refl
+passed_first rule (Some caught) others is = absurd (cc)
+
+module _ (content : Content) (left : List Item) (press : KeyPress) (stores : List Store) (using_keys : Bool) (rules : List Rule) (from number : ℕ)
+    (next : IsNext (wanted_classes press left) 6 (classes_of using_keys rules) from (Some number)) where
+  -- the candidate holds
+  pub candidate_holds : (chosen : Chosen) → held_record content left press (option_map (tab_rule stores using_keys) (slice_get rules number)) ≡ Some chosen
+      → first_from content left press stores using_keys rules from ≡ Some chosen
+  candidate_holds chosen held =
+      let within = (candidate_within press left using_keys rules from number next).1 in
+      let found = there rules number within in
+      let meant : RuleMeaning = tab_rule stores using_keys found.0 in
+      let here = sym (ap (λ (given : Option Rule). held_record content left press (option_map (tab_rule stores using_keys) given)) found.1) ∙ held in
+      to_candidate content left press stores using_keys rules from number next
+      ∙ (from_number content left press stores using_keys rules number found.0 within found.2
+      ∙ held_first meant (holds content left press meant) (first_from content left press stores using_keys rules (number + 1)) chosen here)
+
+  -- the candidate doesn't hold: the first that does stands behind it
+  pub candidate_passed : held_record content left press (option_map (tab_rule stores using_keys) (slice_get rules number)) ≡ None
+      → first_from content left press stores using_keys rules from ≡ first_from content left press stores using_keys rules (number + 1)
+  candidate_passed none =
+      let within = (candidate_within press left using_keys rules from number next).1 in
+      let found = there rules number within in
+      let meant : RuleMeaning = tab_rule stores using_keys found.0 in
+      let here = sym (ap (λ (given : Option Rule). held_record content left press (option_map (tab_rule stores using_keys) given)) found.1) ∙ none in
+      to_candidate content left press stores using_keys rules from number next
+      ∙ (from_number content left press stores using_keys rules number found.0 within found.2
+      ∙ passed_first meant (holds content left press meant) (first_from content left press stores using_keys rules (number + 1)) here)

@@ -3,6 +3,7 @@ pub mod Catches
 pub mod Contexts
 pub mod Engines
 pub mod Lying
+pub mod OptionNames
 pub mod OptionSteps
 pub mod Runnable
 pub mod StoreContents

@@ -1,12 +1,16 @@
 -- The state inside an event as the engine has it: the tables, the lent text, and the state of the event that they stand for.
-use Rattle.std.specs.Prelude.{◌≤◌, ℕ, List, length, All}
+use Rattle.std.specs.Prelude.{◌≤◌, ℕ, List, length, All, Option, Some, None, option_map}
 use Rattle.kmn_base.specs.declared.limits.TheConstants.{CONTEXT_ITEMS, RECORDS}
+use Rattle.kmn_base.specs.declared.items.Item.{Item}
+use Rattle.kmn_base.specs.declared.keys.KeyPress.{KeyPress}
 use Rattle.rule_model.specs.declared.event_state.EventState.{EventState}
 use Rattle.rule_model.specs.declared.tables.Rule.{Rule}
 use Rattle.rule_model.specs.declared.tables.Group.{Group}
 use Rattle.rule_model.specs.declared.tables.Tables.{Tables}
-use Rattle.rule_model.specs.Keyboard.{Ref, Keyboard}
+use Rattle.rule_model.specs.Keyboard.{Ref, Keyboard, RuleMeaning}
 use Rattle.rule_model.specs.Match.{Content}
+use Rattle.rule_model.specs.Hold.{holds}
+use Rattle.rule_model.specs.Choose.{Chosen}
 use Rattle.rule_model.specs.Act.{content_now}
 use Rattle.rule_model.specs.Enter.{enter_group}
 use Rattle.rule_model.specs.Tab.{tab}
@@ -28,6 +32,11 @@ content_in event = content_now (keyboard_of event) event.state
 -- how an entering enters a group
 abbrev pub enters : EventValue → Entering → Ref → EventState → EventState
 enters event entering = enter_group entering.depth (keyboard_of event) entering.press
+
+-- a record that there may be, with what it catches, where it holds on a list
+abbrev pub held_record : Content → List Item → KeyPress → Option RuleMeaning → Option Chosen
+held_record content left press None = None
+held_record content left press (Some rule) = option_map (λ caught. (rule, caught)) (holds content left press rule)
 
 -- no context has more items than are caught
 abbrev pub AreShort : List Rule → Type 0

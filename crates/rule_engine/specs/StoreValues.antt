@@ -7,5 +7,5 @@ use Rattle.rule_engine.specs.declared.store_value.StoreValue.TheVariants.{Elemen
 
 -- the elements, or the characters of a text as elements
 abbrev pub elements_in : StoreValue → List Element
-elements_in (Elements elements) = elements.now
+elements_in (Elements elements) = elements
 elements_in (Text text) = map Char text.now

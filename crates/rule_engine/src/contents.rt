@@ -1,15 +1,23 @@
 ghost use Rattle.std.specs.Prelude.{◌≡◌, ◌<◌, length, option_map};
 ghost use Rattle.rule_model.specs.Content.{content};
 ghost use Rattle.rule_model.specs.Keyboard.{Numbered};
-ghost use Rattle.rule_model.specs.Tab.{tab};
+ghost use Rattle.rule_model.specs.Tab.{elements_of, tab};
 ghost use Rattle.option_store.specs.Cells.{held_value, cell_at};
 ghost use Rattle.option_store.specs.Meaning.{stated, option_values, option_saves};
 ghost use Rattle.rule_engine.specs.Engine.{saved_of};
 ghost use Rattle.rule_engine.specs.StoreValues.{elements_in};
 
+use crate::store_elements::StoreElements;
 use crate::store_value::StoreValue;
 use option_store::{Held, Options};
 use rule_index::IndexedKeyboard;
+
+/// The elements of a store, none where there is no such store.
+pub fn elements_of<'c>(indexed: &IndexedKeyboard<'c>, store: u32) -> StoreValue<'c>
+    ensures { elements_in result ≡ elements_of indexed.now.stores store }
+{
+    StoreValue::Elements(StoreElements::of(indexed.elements(store)))
+}
 
 /// What is held for a store: the elements of a store of the tables, or the host's text.
 #[tactic(auto, using(crate::proofs::StoreContents::elements_held))]
@@ -23,7 +31,7 @@ fn held<'c>(
     ensures { elements_in result ≡ held_value (stated (tab indexed.now).stores) (cell_at options.now store).text held }
 {
     match held {
-        Held::Store(value) => StoreValue::Elements(indexed.elements(value)),
+        Held::Store(value) => elements_of(indexed, value),
         Held::Host => StoreValue::Text(options.host_text(store)),
     }
 }
@@ -36,7 +44,7 @@ pub fn content<'c>(indexed: &'c IndexedKeyboard, options: &'c Options, store: u3
 {
     match indexed.option_number(store) {
         Some(_) => held(indexed, options, store, options.current(store)),
-        None => StoreValue::Elements(indexed.elements(store)),
+        None => elements_of(indexed, store),
     }
 }
 

@@ -1,30 +1,26 @@
-ghost use Rattle.std.specs.Prelude.{◌≡◌, ◌<◌, ◌≤◌, ◌^◌, ◌↔◌, IsTrue, All, length, option_map, option_and_then, slice_get, IfOk, MatchOption, MatchResult, is_some};
-ghost use Rattle.std.specs.Option.{option_flatten};
+ghost use Rattle.std.specs.Prelude.{◌≡◌, ◌<◌, ◌≤◌, ◌^◌, length, option_map, IfOk, MatchResult, is_some};
 ghost use Rattle.kmn_base.specs.declared.limits.TheConstants.{EVENT_PUTS};
 ghost use Rattle.kmx_format.specs.TablesOf.{tables_of};
 ghost use Rattle.option_store.specs.Meaning.{option_values, option_saves};
-ghost use Rattle.rule_model.specs.Content.{content, option_number};
-ghost use Rattle.rule_model.specs.Event.{has_name};
+ghost use Rattle.rule_model.specs.Content.{content};
 ghost use Rattle.rule_model.specs.Keyboard.{Numbered};
-ghost use Rattle.rule_model.specs.Plain.{option_numbers, option_named as named_option};
+ghost use Rattle.rule_model.specs.Plain.{option_numbers};
 ghost use Rattle.rule_model.specs.Tab.{tab};
 ghost use Rattle.rule_engine.specs.Engine.{IsAtWork, IsRunnable, engine_with, press_outcome, press_leaves};
-ghost use Rattle.rule_engine.specs.Event.{AreShort, HaveFewRecords};
 ghost use Rattle.rule_engine.specs.StoreValues.{elements_in};
 
 use crate::contents;
 use crate::entering::press;
 use crate::event::{Event, Pressed};
+use crate::naming::store_named;
 use crate::store_value::StoreValue;
 use context_cache::Cache;
 use event_text::Inserted;
-use kmn_base::limits::{CONTEXT_ITEMS, RECORDS};
-use kmn_base::names::same_name;
+use file_parts::FileTables;
 use kmn_base::{Item, KeyPress, Memory, Outcome};
 use kmx_verifier::Verified;
 use option_store::Options;
 use rule_index::IndexedKeyboard;
-use rule_model::{Group, Rule, Store, Tables};
 use std::alloc::Global;
 use std::marker::Model;
 use std::mem;
@@ -34,47 +30,43 @@ use virtual_keys::KeyDictionary;
 #[derive(Drop)]
 pub struct Engine<'a> {
     indexed: IndexedKeyboard<'a>,
-    stated: &'a Tables,
     cache: Cache,
     options: Options,
     inserted: Inserted,
 }
 
 impl<'a> Model for Engine<'a> {
-    ghost use Rattle.std.specs.Prelude.{◌≡◌, length};
-    ghost use Rattle.kmn_base.specs.declared.limits.TheConstants.{EVENT_PUTS};
     ghost use Rattle.rule_engine.specs.Engine.{EngineState, engine_with, IsAtWork};
 
     ghost Value = { EngineState };
 
     ghost view = { λ engine. engine_with engine.indexed engine.cache engine.options engine.inserted.text };
 
-    ghost invariant = { λ engine. IsAtWork engine.indexed engine.cache engine.options engine.inserted × (engine.stated.now ≡ engine.indexed) };
+    ghost invariant = { λ engine. IsAtWork engine.indexed engine.cache engine.options engine.inserted };
 }
 
 impl<'a> Engine<'a> {
     ghost use Rattle.rule_engine.specs.Engine.{IsEngine, first_engine, option_named, saved_of, set_by_host, synced};
 
     /// The engine of a file: an empty text, each option with its elements, and none saved.
-    #[tactic(auto, using(crate::proofs::Runnable::playable_is_runnable))]
+    #[tactic(auto, using(crate::proofs::Runnable::playable_is_runnable, crate::proofs::Engines::first_is_at_work, crate::proofs::Engines::first_values))]
     pub fn start(alloc: Global, file: &'a Verified<'a>) -> Result<Engine<'a>, Memory>
         ensures { IfOk result (λ engine. engine ≡ first_engine (tables_of file.now)) }
     {
-        Engine::of_tables(alloc, file.tables())
+        Engine::with_parts(alloc, file.parts())
     }
 
-    /// The engine of tables that a file could have. `can_run` tells whether tables are such.
+    /// The engine of a file that can be run.
     #[tactic(auto, using(crate::proofs::Engines::first_is_at_work, crate::proofs::Engines::first_values))]
-    pub fn of_tables(alloc: Global, tables: &'a Tables) -> Result<Engine<'a>, Memory>
-        requires { IsRunnable tables.now }
-        ensures { IfOk result (λ engine. engine ≡ first_engine tables.now) }
+    fn with_parts(alloc: Global, file: FileTables<'a>) -> Result<Engine<'a>, Memory>
+        requires { IsRunnable file }
+        ensures { IfOk result (λ engine. engine ≡ first_engine file.entry) }
     {
-        let indexed = IndexedKeyboard::new(alloc, tables)?;
-        let options = Options::new(alloc, tables.stores.len() as u32)?;
+        let options = Options::new(alloc, file.store_count())?;
+        let indexed = IndexedKeyboard::new(alloc, file)?;
         let inserted = Inserted::with_room(alloc)?;
         Ok(Engine {
             indexed,
-            stated: tables,
             cache: Cache::new(),
             options,
             inserted,
@@ -85,12 +77,11 @@ impl<'a> Engine<'a> {
     pub fn copy(&self, alloc: Global) -> Result<Engine<'a>, Memory>
         ensures { IfOk result (λ engine. engine ≡ self.now) }
     {
-        let indexed = IndexedKeyboard::new(alloc, self.stated)?;
+        let indexed = IndexedKeyboard::new(alloc, self.indexed.file())?;
         let options = self.options.copy(alloc)?;
         let inserted = self.inserted.copy(alloc)?;
         Ok(Engine {
             indexed,
-            stated: self.stated,
             cache: self.cache.copy(),
             options,
             inserted,
@@ -144,26 +135,17 @@ impl<'a> Engine<'a> {
 
     /// The host gives the option of a name a value, as current and as saved one: the first store that has the name, without
     /// ASCII case; a store without a name is found by none. The answer tells whether there is such a store.
+    #[tactic(auto, using(crate::proofs::Engines::named_is_option))]
     pub fn setting(&mut self, alloc: Global, name: &[u8], value: &[char]) -> Result<bool, Memory>
         ensures found { IfOk result (λ found. found ≡ is_some (option_named name.now self.old)) }
         ensures engine { MatchResult result (λ _. self.new ≡ set_by_host name.now value.now self.old) (λ _. self.new ≡ self.old) }
     {
-        let Some(store) = self.store_named(name) else {
+        let named = store_named(alloc, name, &self.indexed)?;
+        let Some(store) = named else {
             return Ok(false);
         };
         self.options.host_set(alloc, store, value)?;
         Ok(true)
-    }
-
-    /// The option of a name, by its store.
-    #[tactic(auto, using(crate::proofs::Engines::named_is_option, rule_model::proofs::PlainOptions::number_found))]
-    pub fn store_named(&self, name: &[u8]) -> Option<u32>
-        ensures found { is_some result ≡ is_some (option_named name.now self.now) }
-        ensures option { option_and_then (λ store. option_number (tab self.now.tables).stores (Numbered store)) result ≡ option_named name.now self.now }
-        ensures within { MatchOption result (Unit {0}) (λ store. store < length self.now.tables.stores) }
-    {
-        let stores = self.stated.stores.as_slice();
-        Some(store_named(name, self.indexed.numbers(), stores)? as u32)
     }
 
     /// What each store holds.
@@ -176,10 +158,10 @@ impl<'a> Engine<'a> {
     }
 
     /// The tables of the file.
-    pub fn tables(&self) -> &'a Tables
-        ensures { result.now ≡ self.now.tables }
+    pub fn file(&self) -> FileTables<'a>
+        ensures { result ≡ self.now.tables }
     {
-        self.stated
+        self.indexed.file()
     }
 
     /// The names of the file's own keys.
@@ -245,56 +227,4 @@ fn pressed(
     let mut event = Event::begin(indexed, left, inserted, cache, options);
     press(key, &mut event);
     event.finish()
-}
-
-/// Whether no context of records has more items than are caught.
-fn are_short(rules: &[Rule]) -> bool
-    ensures { IsTrue result ↔ AreShort rules.now }
-{
-    rules.iter().all(|rule| rule.context.len() <= CONTEXT_ITEMS)
-}
-
-/// Whether no group has a record with a longer context.
-fn have_short_contexts(groups: &[Group]) -> bool
-    ensures { IsTrue result ↔ All (λ group. AreShort group.rules) groups.now }
-{
-    groups.iter().all(|group| are_short(group.rules.as_slice()))
-}
-
-/// Whether no group has more records than a file may have.
-fn have_few_records(groups: &[Group]) -> bool
-    ensures { IsTrue result ↔ HaveFewRecords groups.now }
-{
-    groups.iter().all(|group| group.rules.len() <= RECORDS)
-}
-
-/// Whether tables can be run, as those of every valid file can. It is for tables that are made otherwise, as tests make them.
-pub fn can_run(tables: &Tables) -> bool
-    ensures { IsTrue result ↔ IsRunnable tables.now }
-{
-    let groups = tables.groups.as_slice();
-    tables.stores.len() < 0x1_0000_0000 && have_short_contexts(groups) && have_few_records(groups)
-}
-
-/// Whether an option has a name.
-fn has_name(name: &[u8], other: &[u8]) -> bool
-    ensures { result ≡ has_name name.now other.now }
-{
-    !other.is_empty() && same_name(other, name)
-}
-
-/// The first store of a name that has an option number.
-#[tactic(auto, using(rule_model::proofs::PlainOptions::named_ended, crate::proofs::Engines::number_there))]
-fn store_named(name: &[u8], numbers: &[Option<usize>], stores: &[Store]) -> Option<usize>
-    ensures found { is_some result ≡ is_some (named_option name.now numbers.now stores.now) }
-    ensures option { option_and_then (λ store. option_flatten (slice_get numbers.now store)) result ≡ named_option name.now numbers.now stores.now }
-    ensures within { MatchOption result (Unit {0}) (λ store. store < length stores.now) }
-{
-    for n in 0..numbers.len().min(stores.len()) {
-        let store = &stores[n];
-        if numbers[n].is_some() && has_name(name, store.name.as_slice()) {
-            return Some(n);
-        }
-    }
-    None
 }

@@ -14,11 +14,12 @@ use crate::defaults::by_default;
 use crate::elements::item_caught;
 use crate::event::Event;
 use crate::matching::chosen_in;
-use crate::outputs::{put_any, put_context, put_index};
+use crate::outputs::{is_empty, put_any, put_context, put_index};
+use file_parts::{FileGroup, FileRule, Outputs};
 use kmn_base::limits::EVENT_ENTRIES;
 use kmn_base::{Item, KeyPress};
 use rule_index::RuleIndex;
-use rule_model::{Group, Out, Rule};
+use rule_model::Out;
 
 /// A press that enters groups, with so many entries inside one another that may still come.
 #[derive(Clone, Copy)]
@@ -66,14 +67,14 @@ fn act_next(entering: Entering, caught: &Caught, output: Out, event: &mut Event)
 
 /// The items of an output act in order; once the event is stopped nothing changes.
 #[cycle(acts)]
-fn act(entering: Entering, caught: &Caught, outputs: &[Out], event: &mut Event)
+fn act(entering: Entering, caught: &Caught, outputs: Outputs<'_>, event: &mut Event)
     ensures { event.new ≡ record event.old {
       state = act
-          (keyboard_of event.old) (enters event.old entering) caught.now (map (tab_output event.old.tables.stores) outputs.now) event.old.state;
+          (keyboard_of event.old) (enters event.old entering) caught.now (map (tab_output event.old.tables.stores) outputs.entry) event.old.state;
     } }
 {
     for output in outputs {
-        act_next(entering, caught, *output, event);
+        act_next(entering, caught, output, event);
     }
 }
 
@@ -102,45 +103,41 @@ fn take(caught: &Caught, event: &mut Event)
 
 /// A chosen record: its items are taken, its output acts, then the group's match output.
 #[cycle(acts)]
-fn do_chosen(entering: Entering, group: &Group, rule: &Rule, caught: &Caught, event: &mut Event)
+fn do_chosen(
+    entering: Entering,
+    group: &FileGroup<'_>,
+    rule: &FileRule<'_>,
+    caught: &Caught,
+    event: &mut Event,
+)
     ensures { event.new ≡ record event.old {
       state = do_chosen (keyboard_of event.old) (enters event.old entering)
           (tab_group event.old.tables.stores group.now) (tab_rule event.old.tables.stores group.now.using_keys rule.now, caught.now) event.old.state;
     } }
 {
     take(caught, event);
-    act(entering, caught, rule.output.as_slice(), event);
-    act(
-        entering,
-        &Caught::nothing(),
-        group.on_match.as_slice(),
-        event,
-    );
+    act(entering, caught, rule.output(), event);
+    act(entering, &Caught::nothing(), group.on_match(), event);
 }
 
 /// Where no record holds: the nomatch output, else the default of a group with keys.
 #[cycle(acts)]
-fn do_unmatched(entering: Entering, group: &Group, event: &mut Event)
+fn do_unmatched(entering: Entering, group: &FileGroup<'_>, event: &mut Event)
     ensures { event.new ≡ record event.old {
       state = do_unmatched (keyboard_of event.old) (enters event.old entering) entering.press
           (tab_group event.old.tables.stores group.now).on_nomatch group.now.using_keys event.old.state;
     } }
 {
-    if !group.on_nomatch.is_empty() {
-        act(
-            entering,
-            &Caught::nothing(),
-            group.on_nomatch.as_slice(),
-            event,
-        );
-    } else if group.using_keys {
+    if !is_empty(group.on_nomatch()) {
+        act(entering, &Caught::nothing(), group.on_nomatch(), event);
+    } else if group.using_keys() {
         by_default(entering.press, event);
     }
 }
 
 /// What a group does.
 #[cycle(acts)]
-fn do_group(entering: Entering, group: &Group, records: &RuleIndex, event: &mut Event)
+fn do_group(entering: Entering, group: &FileGroup<'_>, records: &RuleIndex, event: &mut Event)
     requires short { AreShort group.now.rules }
     requires index { IsIndexOf (record_classes group.now) records.now }
     ensures { event.new ≡ record event.old {
@@ -149,7 +146,7 @@ fn do_group(entering: Entering, group: &Group, records: &RuleIndex, event: &mut 
     } }
 {
     match chosen_in(entering.press, event, group, records) {
-        Some((rule, caught)) => do_chosen(entering, group, rule, &caught, event),
+        Some((rule, caught)) => do_chosen(entering, group, &rule, &caught, event),
         None => do_unmatched(entering, group, event),
     }
 }
@@ -164,7 +161,7 @@ fn in_group(entering: Entering, group: u32, event: &mut Event)
     } }
 {
     if let Some((group, records)) = event.indexed().group(group) {
-        do_group(entering, group, records, event);
+        do_group(entering, &group, records, event);
     }
 }
 

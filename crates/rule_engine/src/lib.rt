@@ -2,7 +2,7 @@
 //! the caret.
 //!
 //! It stands on `kmx_verifier`, which opens the file, on `rule_model`, whose `specs` say what a press does, on `rule_index`
-//! for what is looked up in the tables, on `event_text` for the text before the caret and on `option_store` for the values of
+//! for what is looked up in the tables, on `file_parts`, which lends the file's parts where they lie, on `event_text` for the text before the caret and on `option_store` for the values of
 //! options. The layer above lends the text before the caret at each call, makes the edit in it, and does the editor's own
 //! default for a key that is passed on. It sees an engine as an `EngineState`: after `start` that is `first_engine` of the
 //! file's tables, `key` answers `press_outcome` and leaves `press_leaves`, `sync` leaves `synced`, and `setting` leaves
@@ -17,8 +17,10 @@ mod engine;
 mod entering;
 mod event;
 mod matching;
+mod naming;
 mod outputs;
+mod store_elements;
 mod store_value;
 
-pub use engine::{Engine, can_run};
+pub use engine::Engine;
 pub use store_value::StoreValue;

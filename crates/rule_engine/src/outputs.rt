@@ -1,4 +1,4 @@
-ghost use Rattle.std.specs.Prelude.{◌≡◌};
+ghost use Rattle.std.specs.Prelude.{◌≡◌, length, nat_eq};
 ghost use Rattle.rule_model.specs.Keyboard.{Numbered};
 ghost use Rattle.rule_model.specs.Match.{element_at};
 ghost use Rattle.rule_model.specs.Act.{put_items, item_list, put_element, items_caught, place_for_index};
@@ -7,7 +7,16 @@ ghost use Rattle.rule_engine.specs.Event.{content_in};
 use crate::caught::Caught;
 use crate::elements::item_of;
 use crate::event::Event;
+use file_parts::Outputs;
 use kmn_base::{Element, Item};
+
+/// Whether an output has no items.
+pub fn is_empty(outputs: Outputs<'_>) -> bool
+    ensures { result ≡ nat_eq (length outputs.entry) 0 }
+{
+    let mut outputs = outputs;
+    outputs.next().is_none()
+}
 
 /// Puts an item that there may be.
 pub fn put_any(item: Option<Item>, event: &mut Event)

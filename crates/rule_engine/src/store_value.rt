@@ -1,91 +1,88 @@
-ghost use Rattle.std.specs.Prelude.{◌≡◌, IfOk, length, slice_get, unwrap_or, position, map};
+ghost use Rattle.std.specs.Prelude.{◌≡◌, IfOk, slice_get, position};
 ghost use Rattle.rule_model.specs.Match.{is_item, same_value, place_of, element_at};
 ghost use Rattle.rule_engine.specs.StoreValues.{elements_in};
 
 use crate::elements::{is_item, same_element};
+use crate::store_elements::StoreElements;
 use kmn_base::{Element, Item, Memory, Seq};
 use std::alloc::Global;
 
-/// What a store has, where it lies: elements of the file, or a text of the host.
-#[derive(Clone, Copy)]
+/// What a store has, read where it lies, element by element: elements of the file, or a text of the host.
+#[derive(Drop)]
 pub enum StoreValue<'c> {
-    Elements(&'c [Element]),
+    Elements(StoreElements<'c>),
     Text(&'c [char]),
 }
 
-impl<'c> StoreValue<'c> {
-    /// How many elements there are.
-    #[tactic(auto, using(std::proofs::lemmas::Grind::common_steps))]
-    fn len(&self) -> usize
-        ensures { result ≡ length (elements_in self.now) }
-    {
-        match *self {
-            StoreValue::Elements(elements) => elements.len(),
-            StoreValue::Text(text) => text.len(),
+impl<'c> Iterator for StoreValue<'c> {
+    ghost use Rattle.std.specs.Iterator.{YieldsFirst, item_count};
+    ghost use Rattle.rule_engine.specs.StoreValues.{elements_in};
+
+    type Item = Element;
+
+    ghost next_gives = { YieldsFirst elements_in };
+
+    ghost remaining = { item_count elements_in };
+
+    fn next(&mut self) -> Option<Element> {
+        match self {
+            StoreValue::Elements(elements) => elements.next(),
+            StoreValue::Text(text) => {
+                let [first, behind @ ..] = *text else {
+                    return None;
+                };
+                *text = behind;
+                Some(Element::Char(*first))
+            }
         }
     }
+}
 
+impl<'c> StoreValue<'c> {
     /// The element at a place.
-    #[tactic(auto, using(crate::proofs::Lying::character_at))]
-    pub fn get(&self, place: usize) -> Option<Element>
-        ensures { result ≡ slice_get (elements_in self.now) place }
+    fn get(mut self, place: usize) -> Option<Element>
+        ensures { result ≡ slice_get (elements_in self.entry) place }
     {
-        match *self {
-            StoreValue::Elements(elements) => elements.get(place).copied(),
-            StoreValue::Text(text) => Some(Element::Char(*text.get(place)?)),
-        }
+        self.nth(place)
     }
 
     /// The element at a place that there may be.
-    pub fn element_at(&self, place: Option<usize>) -> Option<Element>
-        ensures { result ≡ element_at (elements_in self.now) place }
+    pub fn element_at(self, place: Option<usize>) -> Option<Element>
+        ensures { result ≡ element_at (elements_in self.entry) place }
     {
         self.get(place?)
     }
 
     /// The first place of an item.
-    pub fn place_of(&self, item: Item) -> Option<usize>
-        ensures { result ≡ place_of item (elements_in self.now) }
+    pub fn place_of(self, item: Item) -> Option<usize>
+        ensures { result ≡ place_of item (elements_in self.entry) }
     {
-        match *self {
-            StoreValue::Elements(elements) => {
-                elements.iter().position(|element| is_item(item, *element))
-            }
+        match self {
+            StoreValue::Elements(elements) => elements.place_of(item),
             StoreValue::Text(text) => place_in_text(item, text),
         }
     }
 
     /// Whether this is the same as another value, element by element.
-    #[tactic(auto, using(crate::proofs::Lying::same_ended, crate::proofs::Lying::other_length))]
-    pub fn is_same(&self, other: &StoreValue) -> bool
-        ensures { result ≡ same_value (elements_in self.now) (elements_in other.now) }
+    pub fn is_same(self, mut other: StoreValue<'_>) -> bool
+        ensures { result ≡ same_value (elements_in self.entry) (elements_in other.entry) }
     {
-        if self.len() != other.len() {
-            return false;
-        }
-        for place in 0..self.len() {
-            if !same_element(self.at(place), other.at(place)) {
+        for element in self {
+            let Some(wanted) = other.next() else {
+                return false;
+            };
+            if !same_element(element, wanted) {
                 return false;
             }
         }
-        true
+        other.next().is_none()
     }
 
-    /// The element at a place, U+0000 past the end.
-    fn at(&self, place: usize) -> Element
-        ensures { result ≡ unwrap_or (slice_get (elements_in self.now) place) (Element.Char 0) }
+    /// All elements.
+    pub fn copy(self, alloc: Global) -> Result<Seq<Element>, Memory>
+        ensures { IfOk result (λ copy. copy ≡ elements_in self.entry) }
     {
-        self.get(place).unwrap_or(Element::Char('\0'))
-    }
-
-    /// The elements once more.
-    pub fn copy(&self, alloc: Global) -> Result<Seq<Element>, Memory>
-        ensures { IfOk result (λ copy. copy ≡ elements_in self.now) }
-    {
-        match *self {
-            StoreValue::Elements(elements) => Ok(Seq::from_slice(alloc, elements)?),
-            StoreValue::Text(text) => Ok(Seq::from_vec(as_elements(alloc, text)?)),
-        }
+        Ok(Seq::from_vec(self.collect(alloc)?))
     }
 }
 
@@ -94,11 +91,4 @@ fn place_in_text(item: Item, text: &[char]) -> Option<usize>
     ensures { result ≡ position (λ c. is_item item (Element.Char c)) text.now }
 {
     text.iter().position(|c| is_item(item, Element::Char(*c)))
-}
-
-/// Characters as elements.
-fn as_elements(alloc: Global, text: &[char]) -> Result<Vec<Element>, Memory>
-    ensures { IfOk result (λ value. value.items ≡ map Element.Char text.now) }
-{
-    Ok(text.iter().map(|c| Element::Char(*c)).collect(alloc)?)
 }

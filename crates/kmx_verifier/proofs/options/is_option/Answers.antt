@@ -6,5 +6,5 @@ use Rattle.kmx_verifier.proofs.options.is_option.Goals as goal
 
 pub returns : goal.returns
 returns c =
-    let is : c.groups_use.result ≡ list_any (λ group. used_in_group c.args.store group) c.args.tables.now.groups = search rules in
-    is ∙ options_used c.args.tables.now c.args.store
+    let is : c.groups_use.result ≡ list_any (λ group. used_in_group c.args.store group) c.args.file.now.groups = search rules in
+    is ∙ options_used c.args.file.now c.args.store

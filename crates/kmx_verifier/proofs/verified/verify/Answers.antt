@@ -1,11 +1,6 @@
-use Rattle.std.proofs.Common.{sym, subst}
-use Rattle.kmx_format.specs.Playable.{IsPlayable}
 use Rattle.kmx_verifier.proofs.Playing.{valid_playable}
 use Rattle.kmn_base.proofs.SmallBytes.{bytes_small}
 use Rattle.kmx_verifier.proofs.verified.verify.Goals as goal
 
 pub invariant_of-result : goal.invariant_of-result
-invariant_of-result c = (
-  c.in-Ok-tables_of.ensures,
-  subst IsPlayable (sym c.in-Ok-tables_of.ensures) (valid_playable c.args.bytes.now (bytes_small _ c.type_inv.bytes) c.in-Ok.ensures.0),
-)
+invariant_of-result c = (c.in-Ok.ensures.1, valid_playable c.args.bytes.now (bytes_small _ c.type_inv.bytes) c.in-Ok.ensures.0)

@@ -1,4 +1,4 @@
-use Rattle.std.proofs.Common.{◌≡◌, ◌+◌, ◌*◌, drop, map}
+use Rattle.std.proofs.Common.{◌≡◌, ◌+◌, ◌*◌, map}
 use Rattle.rule_model.specs.Act.{act}
 use Rattle.rule_model.specs.Tab.{tab_output}
 use Rattle.rule_engine.specs.Event.{keyboard_of, enters}
@@ -6,8 +6,8 @@ use Rattle.rule_engine.proofs.entering.+acts.Given as goal
 
 abbrev pub invariant-act-loop-output : goal.invariant-act-loop-output
 invariant-act-loop-output l =
-    record l.event { state = act (keyboard_of l.event) (enters l.event l.entering) l.caught (map (tab_output l.event.tables.stores) (drop l.output-index l.outputs)) l.event.state }
-    ≡ record l.fn.event { state = act (keyboard_of l.fn.event) (enters l.fn.event l.entering) l.caught (map (tab_output l.fn.event.tables.stores) l.outputs) l.fn.event.state }
+    record l.event { state = act (keyboard_of l.event) (enters l.event l.entering) l.caught (map (tab_output l.event.tables.stores) l.output-iterator) l.event.state }
+    ≡ record l.fn.event { state = act (keyboard_of l.fn.event) (enters l.fn.event l.entering) l.caught (map (tab_output l.fn.event.tables.stores) l.fn.outputs) l.fn.event.state }
 
 abbrev pub decreases-act : goal.decreases-act
 decreases-act l = 8 * l.entering.depth + 4

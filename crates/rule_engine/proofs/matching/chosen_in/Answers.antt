@@ -1,5 +1,4 @@
 use Rattle.std.proofs.Common.{◌≡◌, List, map, sym, ◌∙◌, ap, subst}
-use Rattle.std.specs.Borrow.{Bor}
 use Rattle.std.specs.Prelude.{option_map}
 use Rattle.kmn_base.specs.declared.items.Item.{Item}
 use Rattle.kmn_base.specs.Lists.{window}
@@ -21,9 +20,8 @@ returns-clause-chosen c =
     let here : EventValue → List Item → _ = λ (v : EventValue) (items : List Item).
     first (holds (content_in v) items c.args.press) (map (tab_rule v.tables.stores using_keys) rules) in
     let last : c.items.result.now ≡ window event.state.left = c.items.ensures.value ∙ c.window-window.ensures.window in
-    subst (λ (v : EventValue). option_map (λ (chosen : Bor Rule × Caught). (tab_rule v.tables.stores using_keys chosen.0.now, chosen.1)) c.first_of.result ≡ here v c.items.result.now)
-    c.window-window.ensures.same (c.first_of.ensures ∙ ap (λ (xs : List Rule). first (holds (content_in c.window-window.new.self) c.items.result.now c.args.press)
-    (map (tab_rule c.window-window.new.self.tables.stores using_keys) xs)) c.as_slice.ensures)
+    subst (λ (v : EventValue). option_map (λ (chosen : Rule × Caught). (tab_rule v.tables.stores using_keys chosen.0, chosen.1)) c.first_of.result ≡ here v c.items.result.now)
+    c.window-window.ensures.same c.first_of.ensures
     ∙ (ap (here event) last
     ∙ (first_in_window (content_in event) event.state.left c.args.press event.tables.stores using_keys rules c.requires.short
     ∙ sym (chosen_first event.tables c.args.press (tab_group event.tables.stores c.args.group.now) event.state)))

@@ -5,10 +5,10 @@ use Rattle.rule_engine.proofs.matching.first_of.Given as goal
 
 abbrev pub invariant-loop-number : goal.invariant-loop-number
 invariant-loop-number l = record {
-  within : l.from ≤ length l.rules;
-  same : first_from (content_in l.event) l.left l.press l.event.tables.stores l.using_keys l.rules l.from
-      ≡ first_from (content_in l.event) l.left l.press l.event.tables.stores l.using_keys l.rules 0;
+  within : l.from ≤ length l.group.rules;
+  same : first_from (content_in l.event) l.left l.press l.event.tables.stores l.group.using_keys l.group.rules l.from
+      ≡ first_from (content_in l.event) l.left l.press l.event.tables.stores l.group.using_keys l.group.rules 0;
 }
 
 abbrev pub decreases-loop-number : goal.decreases-loop-number
-decreases-loop-number l = length l.rules - l.from
+decreases-loop-number l = length l.group.rules - l.from

@@ -1,0 +1,18 @@
+//! How much there is in all groups of a file.
+
+ghost use Rattle.std.specs.Prelude.{◌≡◌, ◌<◌, ◌^◌, length};
+ghost use Rattle.kmx_format.specs.File.{all_rules};
+
+use file_parts::FileTables;
+
+/// How many key records all groups have.
+pub(crate) fn rule_count(file: &FileTables<'_>) -> u32
+    requires { length (all_rules file.now) < 2 ^ 32 }
+    ensures { result ≡ length (all_rules file.now) }
+{
+    let mut count = 0;
+    for group in file.groups() {
+        count += group.rule_count();
+    }
+    count
+}
