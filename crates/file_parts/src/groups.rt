@@ -72,7 +72,12 @@ impl<'a> FileGroup<'a> {
     {
         let using_keys = word_at(self.bytes, self.place + 20) != 0;
         let place = word_at(self.bytes, self.place + 4);
-        Rules::at(self.bytes, using_keys, place, word_at(self.bytes, self.place + 16))
+        Rules::at(
+            self.bytes,
+            using_keys,
+            place,
+            word_at(self.bytes, self.place + 16),
+        )
     }
 
     /// The key record of a number, from 0.

@@ -29,13 +29,15 @@ fn has_numbers(file: &FileTables<'_>) -> bool {
         && file.start_ansi() == 0xFFFF_FFFF
         && file.store_count() == 0
         && file.group_count() == 1
+        && file.group(0).is_some()
         && file.store(0).is_none()
+        && file.stores().next().is_none()
         && file.group(1).is_none()
 }
 
 /// Whether the group has the one rule, and puts nothing else.
 fn has_rule(group: &FileGroup<'_>) -> bool {
-    let Some(rule) = group.rule(0) else {
+    let Some(rule) = group.rules().next() else {
         return false;
     };
     let mut output = rule.output();
@@ -46,6 +48,7 @@ fn has_rule(group: &FileGroup<'_>) -> bool {
         && output.next().is_none()
         && group.using_keys()
         && group.rule_count() == 1
+        && group.rule(0).is_some()
         && group.rule(1).is_none()
         && group.on_match().next().is_none()
         && group.on_nomatch().next().is_none()
@@ -63,7 +66,7 @@ fn has_elements(store: &FileStore<'_>) -> bool {
 
 /// Whether the first group is called `main` and has the one rule.
 fn has_group(alloc: Global, file: &FileTables<'_>) -> Result<bool, Memory> {
-    let Some(group) = file.group(0) else {
+    let Some(group) = file.groups().next() else {
         return Ok(false);
     };
     let name = group.name(alloc)?;

@@ -1,5 +1,5 @@
 -- The names that are read character by character are the words of the text, each once.
-use Rattle.std.proofs.Common.{◌≡◌, ℕ, suc, ◌+◌, ◌<◌, Bool, true, false, not, cond, ltb, List, [], ◌∷◌, ◌++◌, length, get_or, Option, Some, None, refl, sym, ap, ◌∙◌, arith, is_some, if◌then◌else◌, append_assoc, append-nil, inl, inr}
+use Rattle.std.proofs.Common.{◌≡◌, ℕ, suc, ◌+◌, ◌<◌, Bool, true, false, not, cond, ltb, List, [], ◌∷◌, ◌++◌, length, get_or, Option, Some, None, refl, sym, ap, ◌∙◌, arith, is_some, if◌then◌else◌, append_assoc, append-nil}
 use Rattle.std.specs.Prelude.{filter, nat_eq, encode_utf8_all, position, option_map, ◌||◌, All}
 use Rattle.std.specs.Char.{encode_utf8}
 use Rattle.std.specs.List.{position_or_len, list_any, slice_split}
@@ -13,7 +13,7 @@ use Rattle.std.proofs.lemmas.Str.{encode_ascii, inside_one}
 use Rattle.kmn_base.specs.Names.{same_name}
 use Rattle.virtual_keys.specs.Dictionary.{with_name}
 use Rattle.rule_model.specs.Tab.{distinct_onto, words}
-use Rattle.rule_index.specs.OwnNames.{names_with, names_after, word_after, names_read}
+use Rattle.rule_index.specs.OwnNames.{names_with, names_read}
 
 from_zero : (l : ℕ) → cond {A = Option ℕ} (ltb 0 (suc l)) (Some 0) None ≡ Some 0
 from_zero l = grind (arith, nat_tests)

@@ -106,7 +106,7 @@ fn candidates_of_a_press(rt: HostRuntime) -> Result<(), Fail> {
 #[test]
 fn options_of_a_file(rt: HostRuntime) -> Result<(), Fail> {
     let numbers = option_numbers(rt.alloc(), &FileTables::of(&FILE))?;
-    assert!(rt; numbers.as_slice() == &[None, Some(0), Some(1)]);
+    assert!(rt; numbers.as_slice() == [None, Some(0), Some(1)].as_slice());
     Ok(())
 }
 
