@@ -10,8 +10,9 @@ ghost use Rattle.file_names.specs.AllNames.{called_by};
 use crate::called::Called;
 use crate::free_names::free_names;
 use crate::naming::{group_names, store_names};
+use indexed_tables::IndexedTables;
 use kmn_base::{Memory, Text};
-use rule_model::{Group, IndexedTables, Store, Tables};
+use rule_model::{Group, Store, Tables};
 use std::alloc::Global;
 use store_table::NameTable;
 

@@ -6,8 +6,9 @@ ghost use Rattle.virtual_keys.specs.Keys.{key_name};
 ghost use Rattle.rule_model.specs.Tab.{elements_of};
 ghost use Rattle.decompile_laws.specs.Items.{store_called, group_called};
 
+use indexed_tables::IndexedTables;
 use kmn_base::{Element, Text};
-use rule_model::{IndexedTables, Store};
+use rule_model::Store;
 use std::marker::Model;
 use virtual_keys::name_of;
 

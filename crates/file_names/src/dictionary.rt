@@ -3,9 +3,9 @@
 ghost use Rattle.std.specs.Prelude.{◌≡◌, IfOk};
 ghost use Rattle.rule_model.specs.Tab.{tab};
 
+use indexed_tables::IndexedTables;
 use kmn_base::limits::KEY_NAMES;
 use kmn_base::{Memory, Text};
-use rule_model::IndexedTables;
 use std::alloc::Global;
 
 /// The code of the first name.

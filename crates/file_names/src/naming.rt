@@ -5,7 +5,7 @@ ghost use Rattle.std.specs.List.{list_any};
 ghost use Rattle.kmn_items.specs.Words.{is_system_name};
 ghost use Rattle.decompile_laws.specs.Names.{keeps_name, keeps_store_name, is_written, written_ids, store_names, group_names, named_stores};
 ghost use Rattle.file_names.specs.Calling.{store_call, free_left, names_met};
-ghost use Rattle.file_names.specs.Flags.{with_flags};
+ghost use Rattle.indexed_tables.specs.OptionFlags.{with_flags};
 
 use crate::source_names::is_source_name;
 use crate::used::named_flags;
@@ -150,7 +150,7 @@ fn flag_at(flags: &[bool], number: usize) -> bool
 }
 
 /// Whether the store of a number is written, by the flags of the stores that are named.
-#[tactic(auto, using(crate::proofs::FlagLaws::flag_is))]
+#[tactic(auto, using(indexed_tables::proofs::OptionFlags::flag_is))]
 fn is_written(flags: &[bool], number: usize, store: &Store, tables: &Tables) -> bool
     requires flags { flags.now ≡ with_flags (replicate (length tables.now.stores) false) (named_stores tables.now) }
     requires within { number < length tables.now.stores }

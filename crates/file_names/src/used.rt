@@ -2,7 +2,7 @@
 
 ghost use Rattle.std.specs.Prelude.{◌≡◌, IfOk, false, length, replicate, flat_map, option_to_list};
 ghost use Rattle.decompile_laws.specs.Names.{named_by_pattern, named_by_output, named_by_rule, named_by_group, named_stores};
-ghost use Rattle.file_names.specs.Flags.{with_flags};
+ghost use Rattle.indexed_tables.specs.OptionFlags.{with_flags};
 
 use kmn_base::Memory;
 use rule_model::{Group, Out, Pat, Rule, Tables};
@@ -38,15 +38,12 @@ pub fn named_by_output(output: &Out) -> Option<u32>
 fn mark(flags: &mut [bool], store: Option<u32>)
     ensures { flags.new ≡ with_flags flags.old (option_to_list store) }
 {
-    if let Some(number) = store {
-        let place = number as usize;
-        if place < flags.len() {
-            flags[place] = true;
-        }
+    if let Some(store) = store {
+        indexed_tables::mark(flags, store);
     }
 }
 
-#[tactic(auto, using(crate::proofs::FlagLaws::with_flags_append))]
+#[tactic(auto, using(indexed_tables::proofs::OptionFlags::with_flags_append))]
 fn mark_outputs(flags: &mut [bool], outputs: &[Out])
     ensures { flags.new ≡ with_flags flags.old (flat_map named_by_output outputs.now) }
 {
@@ -55,7 +52,7 @@ fn mark_outputs(flags: &mut [bool], outputs: &[Out])
     }
 }
 
-#[tactic(auto, using(crate::proofs::FlagLaws::with_flags_append))]
+#[tactic(auto, using(indexed_tables::proofs::OptionFlags::with_flags_append))]
 fn mark_context(flags: &mut [bool], context: &[Pat])
     ensures { flags.new ≡ with_flags flags.old (flat_map named_by_pattern context.now) }
 {
@@ -64,7 +61,7 @@ fn mark_context(flags: &mut [bool], context: &[Pat])
     }
 }
 
-#[tactic(auto, using(crate::proofs::FlagLaws::with_flags_append))]
+#[tactic(auto, using(indexed_tables::proofs::OptionFlags::with_flags_append))]
 fn mark_rule(flags: &mut [bool], rule: &Rule)
     ensures { flags.new ≡ with_flags flags.old (named_by_rule rule.now) }
 {
@@ -72,7 +69,7 @@ fn mark_rule(flags: &mut [bool], rule: &Rule)
     mark_outputs(flags, rule.output.as_slice());
 }
 
-#[tactic(auto, using(crate::proofs::FlagLaws::with_flags_append))]
+#[tactic(auto, using(indexed_tables::proofs::OptionFlags::with_flags_append))]
 fn mark_rules(flags: &mut [bool], rules: &[Rule])
     ensures { flags.new ≡ with_flags flags.old (flat_map named_by_rule rules.now) }
 {
@@ -81,7 +78,7 @@ fn mark_rules(flags: &mut [bool], rules: &[Rule])
     }
 }
 
-#[tactic(auto, using(crate::proofs::FlagLaws::with_flags_append))]
+#[tactic(auto, using(indexed_tables::proofs::OptionFlags::with_flags_append))]
 fn mark_group(flags: &mut [bool], group: &Group)
     ensures { flags.new ≡ with_flags flags.old (named_by_group group.now) }
 {
@@ -90,7 +87,7 @@ fn mark_group(flags: &mut [bool], group: &Group)
     mark_outputs(flags, group.on_nomatch.as_slice());
 }
 
-#[tactic(auto, using(crate::proofs::FlagLaws::with_flags_append))]
+#[tactic(auto, using(indexed_tables::proofs::OptionFlags::with_flags_append))]
 fn mark_groups(flags: &mut [bool], groups: &[Group])
     ensures { flags.new ≡ with_flags flags.old (flat_map named_by_group groups.now) }
 {

@@ -11,11 +11,12 @@ ghost use Rattle.file_text.specs.LongTexts.{IsTooLong};
 use crate::page::Page;
 use crate::writing::{front_count, front_of, page_of};
 use file_names::{called_by, free_stores};
+use indexed_tables::IndexedTables;
 use kmn_base::limits::TEXT_BYTES;
 use kmn_base::slices::behind;
 use kmn_base::{Memory, Text};
 use kmx_verifier::Verified;
-use rule_model::{IndexedTables, Tables};
+use rule_model::Tables;
 use std::alloc::Global;
 use thiserror::Error;
 

@@ -11,8 +11,9 @@ use crate::front::{put_key_store, put_mark_store, put_version};
 use crate::lines::{put_begins, put_groups, put_stores};
 use crate::page::Page;
 use file_names::{Called, greatest_mark, own_keys};
+use indexed_tables::IndexedTables;
 use kmn_base::{Memory, Text};
-use rule_model::{IndexedTables, Tables};
+use rule_model::Tables;
 use std::alloc::Global;
 
 /// The name at a place, empty where there is none.

@@ -18,11 +18,12 @@ use crate::places::least_cause;
 use crate::refusals::DecompileError;
 use file_names::{Called, called_by, free_stores};
 use file_text::{Front, front_count, front_of, page_of};
+use indexed_tables::IndexedTables;
 use kmn_base::limits::TEXT_BYTES;
 use kmn_base::slices::behind;
 use kmn_base::{Memory, Text};
 use kmx_verifier::Verified;
-use rule_model::{IndexedTables, Tables};
+use rule_model::Tables;
 use spelled_files::NoSpelling;
 use std::alloc::Global;
 

@@ -5,7 +5,7 @@ ghost use Rattle.std.specs.List.{list_any, slice_split};
 ghost use Rattle.std.specs.Str.{is_utf8};
 ghost use Rattle.kmn_base.specs.Names.{same_name};
 ghost use Rattle.kmn_items.specs.Words.{is_own_key};
-ghost use Rattle.rule_model.specs.Plain.{words_behind, bytes_behind};
+ghost use Rattle.indexed_tables.specs.Words.{words_behind, bytes_behind};
 ghost use Rattle.rule_model.specs.Tab.{words};
 ghost use Rattle.spelled_files.specs.Causes.{is_dictionary_name, is_unspelled_dictionary};
 ghost use Rattle.kmx_decompiler.specs.Words.{are_unfit, not_empty};
@@ -25,7 +25,7 @@ fn first_space(text: &[u8]) -> Option<usize>
 }
 
 /// A text up to its first space, and what stands behind that.
-#[tactic(auto, using(rule_model::proofs::PlainWords::words_parted, rule_model::proofs::PlainWords::words_alone))]
+#[tactic(auto, using(indexed_tables::proofs::Words::words_parted, indexed_tables::proofs::Words::words_alone))]
 fn first_word(text: &[u8]) -> (&[u8], Option<&[u8]>)
     ensures parts { slice_split (nat_eq 32) text.now ≡ result.0.now ∷ words_behind (option_copied result.1) }
     ensures sizes { length result.0.now + bytes_behind (option_copied result.1) ≡ length text.now }

@@ -11,10 +11,11 @@ ghost use Rattle.kmx_decompiler.specs.Least.{lesser};
 use crate::causes::{are_unspelled_outputs, is_unspelled_context, is_unspelled_key};
 use crate::store_causes::is_unspelled_store;
 use file_names::Called;
+use indexed_tables::IndexedTables;
 use kmn_base::Memory;
 use kmx_format::sizes::{GROUP_BYTES, RULE_BYTES, STORE_BYTES};
 use kmx_view::word_at;
-use rule_model::{Group, IndexedTables, Rule, Store, Tables};
+use rule_model::{Group, Rule, Store, Tables};
 use std::alloc::Global;
 
 /// The system id of the store that has the key dictionary.

@@ -10,8 +10,9 @@ use crate::causes::has_unspelled_element;
 use crate::dictionary::is_unspelled_dictionary;
 use crate::items::has_no_character;
 use file_names::Called;
+use indexed_tables::IndexedTables;
 use kmn_base::{Element, Memory};
-use rule_model::{IndexedTables, Store};
+use rule_model::Store;
 use std::alloc::Global;
 
 /// Whether the store of a number, which is used as an option, has no spelling.

@@ -1,4 +1,4 @@
-//! The tests of the crates that play keyboards: `meaning` of the plain evaluator of `rule_model`, `pressing` of
+//! The tests of the crates that play keyboards: `meaning` of `plain_event`, `pressing` of
 //! `rule_engine`, `editing` of `editor_model`, `scripts` of `play_script`, and `sessions` of `play_session`.
 //!
 //! They stand here because a crate with tests is proved twice, once with them and once without: so each of those large

@@ -1,11 +1,12 @@
 //! Keyboards that are played by the plain evaluator of their meaning.
 
 ghost use Rattle.std.specs.Prelude.{◌≤◌, ℕ, List, length, IsTrue};
-ghost use Rattle.rule_model.specs.Plain.{IsWithin};
+ghost use Rattle.plain_event.specs.PlainStates.{IsWithin};
 
 use crate::fixtures::{characters, press, sign, tables};
 use kmn_base::{Element, Event, Memory, Outcome, RuleKey, Seq};
-use rule_model::{Out, Pat, PlainState, Rule, Store, Tables, plain_event};
+use plain_event::{PlainState, plain_event};
+use rule_model::{Out, Pat, Rule, Store, Tables};
 use std::alloc::Global;
 use std::test::Fail;
 

@@ -3,7 +3,6 @@ pub mod GroupIndexes
 pub mod Meeting
 pub mod Next
 pub mod Numbering
-pub mod OptionFlags
 pub mod OwnNames
 pub mod Places
 pub mod Skipping

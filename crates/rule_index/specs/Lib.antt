@@ -3,7 +3,6 @@ pub mod Elements
 pub mod Groups
 pub mod Laws
 pub mod Next
-pub mod OptionFlags
 pub mod OwnNames
 pub mod Rows
 pub mod Values

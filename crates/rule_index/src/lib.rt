@@ -3,7 +3,7 @@
 //!
 //! It stands on `kmn_base`, `rule_model`, `virtual_keys` and `file_parts`, which reads a file where it lies. The layer above
 //! makes an `IndexedKeyboard` of `FileTables`, which has once and for all what is looked up: an index of each group's records
-//! (`specs/Groups`), the option number of each store (`specs/OptionFlags`), and the names of own keys (`specs/OwnNames`); it
+//! (`specs/Groups`), the option number of each store (`indexed_tables`), and the names of own keys (`specs/OwnNames`); it
 //! hands out groups and elements as the file has them. The layer above asks `wanted_classes` of a press and the list before
 //! the caret, and tries the records that `next_candidate` of a group's `RuleIndex` answers, in the file's order. A `PlaceIndex`
 //! of a store answers the place that `any` catches, and `value_numbers` numbers values so that conditions compare numbers.

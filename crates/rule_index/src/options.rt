@@ -1,24 +1,15 @@
 //! The option number of each store of a file.
 
-ghost use Rattle.std.specs.Prelude.{◌≡◌, false, [], ◌∷◌, IfOk, length, replicate, flat_map};
+ghost use Rattle.std.specs.Prelude.{◌≡◌, false, IfOk, length, replicate, flat_map};
 ghost use Rattle.rule_model.specs.Tab.{pattern_options, output_options, rule_options, group_options, tab_options, with_options};
 ghost use Rattle.rule_model.specs.Plain.{option_numbers};
-ghost use Rattle.rule_index.specs.OptionFlags.{with_flags, flag_numbers};
+ghost use Rattle.indexed_tables.specs.OptionFlags.{with_flags};
 
 use file_parts::{FileGroup, FileRule, FileTables, Outputs, Patterns};
+use indexed_tables::{flag_numbers, mark};
 use kmn_base::Memory;
 use rule_model::{Out, Pat};
 use std::alloc::Global;
-
-/// Sets the flag of a store, where there is one.
-fn mark(flags: &mut [bool], store: u32)
-    ensures { flags.new ≡ with_flags flags.old (store ∷ []) }
-{
-    let place = store as usize;
-    if place < flags.len() {
-        flags[place] = true;
-    }
-}
 
 fn mark_context(flags: &mut [bool], context: Patterns<'_>)
     ensures { flags.new ≡ with_flags flags.old (flat_map pattern_options context.entry) }
@@ -40,7 +31,7 @@ fn mark_outputs(flags: &mut [bool], outputs: Outputs<'_>)
     }
 }
 
-#[tactic(auto, using(crate::proofs::OptionFlags::with_flags_append))]
+#[tactic(auto, using(indexed_tables::proofs::OptionFlags::with_flags_append))]
 fn mark_rule(flags: &mut [bool], rule: &FileRule<'_>)
     ensures { flags.new ≡ with_flags flags.old (rule_options rule.now) }
 {
@@ -48,7 +39,7 @@ fn mark_rule(flags: &mut [bool], rule: &FileRule<'_>)
     mark_outputs(flags, rule.output());
 }
 
-#[tactic(auto, using(crate::proofs::OptionFlags::with_flags_append))]
+#[tactic(auto, using(indexed_tables::proofs::OptionFlags::with_flags_append))]
 fn mark_rules(flags: &mut [bool], group: &FileGroup<'_>)
     ensures { flags.new ≡ with_flags flags.old (flat_map rule_options group.now.rules) }
 {
@@ -57,7 +48,7 @@ fn mark_rules(flags: &mut [bool], group: &FileGroup<'_>)
     }
 }
 
-#[tactic(auto, using(crate::proofs::OptionFlags::with_flags_append))]
+#[tactic(auto, using(indexed_tables::proofs::OptionFlags::with_flags_append))]
 fn mark_group(flags: &mut [bool], group: &FileGroup<'_>)
     ensures { flags.new ≡ with_flags flags.old (group_options group.now) }
 {
@@ -66,31 +57,13 @@ fn mark_group(flags: &mut [bool], group: &FileGroup<'_>)
     mark_outputs(flags, group.on_nomatch());
 }
 
-#[tactic(auto, using(crate::proofs::OptionFlags::with_flags_append))]
+#[tactic(auto, using(indexed_tables::proofs::OptionFlags::with_flags_append))]
 fn mark_groups(flags: &mut [bool], file: &FileTables<'_>)
     ensures { flags.new ≡ with_flags flags.old (flat_map group_options file.now.groups) }
 {
     for group in file.groups() {
         mark_group(flags, &group);
     }
-}
-
-/// The numbers of the flags that are set, counted in their order.
-#[tactic(auto, using(std::proofs::lemmas::Grind::common_steps, crate::proofs::OptionFlags::numbers_more))]
-fn flag_numbers(alloc: Global, flags: &[bool]) -> Result<Vec<Option<usize>>, Memory>
-    ensures { IfOk result (λ numbers. numbers.items ≡ flag_numbers 0 flags.now) }
-{
-    let mut numbers = Vec::new(alloc);
-    let mut count = 0;
-    for n in 0..flags.len() {
-        if flags[n] {
-            numbers.push(Some(count))?;
-            count += 1;
-        } else {
-            numbers.push(None)?;
-        }
-    }
-    Ok(numbers)
 }
 
 /// A flag for each store: whether some item uses it as an option.

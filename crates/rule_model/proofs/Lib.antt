@@ -6,13 +6,10 @@ pub mod Edits
 pub mod Examples
 pub mod Insertions
 pub mod Kept
-pub mod LeftLists
 pub mod PlainContexts
 pub mod PlainCounts
 pub mod PlainKeyboard
 pub mod PlainLists
 pub mod PlainOptions
-pub mod PlainSteps
-pub mod PlainWords
 pub mod Soundness
 pub mod Steps

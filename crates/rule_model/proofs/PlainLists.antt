@@ -1,37 +1,9 @@
--- Lists of items and of elements.
-use Rattle.std.proofs.Common.{◌≡◌, ◌≢◌, ℕ, zero, suc, ◌+◌, ◌-◌, ◌<◌, ◌≤◌, Bool, true, false, cond, List, [], ◌∷◌, length, drop, get_or, Option, Some, None, refl, sym, ap, ◌∙◌, arith}
-use Rattle.std.proofs.lemmas.Grind.{common_steps}
-use Rattle.std.proofs.lemmas.List.{drop_all, drop_more}
+-- How far two texts are alike, and how many items are caught.
+use Rattle.std.proofs.Common.{◌≡◌, ℕ, suc, ◌+◌, ◌≤◌, true, false, cond, List, [], ◌∷◌, length, drop, Option, Some, None, refl, sym, ap, ◌∙◌, arith}
+use Rattle.std.proofs.lemmas.List.{drop_all}
 use Rattle.std.proofs.lemmas.List.Sums.{sum_by-cons}
-use Rattle.std.specs.Prelude.{◌&&◌, nat_eq, is_some, filter_map}
-use Rattle.std.specs.Cmp.Lexicographic.{pointwise}
+use Rattle.std.specs.Prelude.{nat_eq, is_some, filter_map}
 use Rattle.std.specs.List.{cons_option, count_by, common_prefix_len}
-use Rattle.kmn_base.specs.declared.items.Item.{Item}
-use Rattle.kmn_base.specs.declared.items.Item.TheVariants as item
-use Rattle.kmn_base.specs.declared.items.Element.{Element}
-use Rattle.kmn_base.specs.declared.items.Element.TheVariants as element
-use Rattle.kmn_base.specs.contracts.items.ElementPartialEq.TheImpl as ElementPartialEq
-use Rattle.kmn_base.specs.Lists.{characters}
-use Rattle.rule_model.specs.Match.{same_element, same_value}
-
--- what `==` says of two elements
-equal_elements : (a b : Element) → ElementPartialEq.eq-value.it a b ≡ same_element a b
-equal_elements (element.Char c) (element.Char d) = refl
-equal_elements (element.Char c) (element.Mark n) = refl
-equal_elements (element.Char c) (element.Key flags code) = refl
-equal_elements (element.Mark m) (element.Char d) = refl
-equal_elements (element.Mark m) (element.Mark n) = refl
-equal_elements (element.Mark m) (element.Key flags code) = refl
-equal_elements (element.Key flags code) (element.Char d) = refl
-equal_elements (element.Key flags code) (element.Mark n) = refl
-equal_elements (element.Key flags code) (element.Key other other_code) = refl
-
--- what `==` says of two values
-pub equal_values : (a b : List Element) → pointwise ElementPartialEq.eq-value.it a b ≡ same_value a b
-equal_values [] [] = refl
-equal_values [] (b ∷ others) = refl
-equal_values (a ∷ rest) [] = refl
-equal_values (a ∷ rest) (b ∷ others) = λ j. equal_elements a b j && equal_values rest others j
 
 -- where one text ends, they begin no further alike
 pub common_prefix_ended : (count : ℕ) (old new : List ℕ) → length old ≤ count → common_prefix_len nat_eq (drop count old) (drop count new) ≡ 0
@@ -60,9 +32,3 @@ common_prefix_bound (x ∷ xs) [] = omega arith
 common_prefix_bound (x ∷ xs) (y ∷ ys) =
     let behind = common_prefix_bound xs ys in
     elim (nat_eq x y) as (λ t. cond t (1 + common_prefix_len nat_eq xs ys) 0 ≤ suc (length xs)) [ true ↦ omega arith | false ↦ omega arith ]
-
--- a text has no more characters than items
-pub length_characters : (items : List Item) → length (characters items) ≤ length items
-length_characters [] = omega arith
-length_characters (item.Char c ∷ items) = let h = length_characters items in omega arith
-length_characters (item.Mark m ∷ items) = let h = length_characters items in omega arith

@@ -2,7 +2,6 @@ pub mod Act
 pub mod Choose
 pub mod Content
 pub mod Enter
-pub mod Entering
 pub mod Event
 pub mod Hold
 pub mod KeyEvent

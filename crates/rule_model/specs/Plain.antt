@@ -1,23 +1,13 @@
--- What a plain state means, and what one event makes of it. Values stand by store number there.
-use Rattle.std.specs.Prelude.{◌≡◌, ℕ, ◌+◌, ◌-◌, ◌^◌, ◌<◌, ◌≤◌, Bool, ◌&&◌, not, nat_eq, is_some, if◌then◌else◌, List, [], ◌∷◌, length, take, drop, map, Option, Some, None, unwrap_or, slice_get, slice_set}
-use Rattle.std.specs.List.{slice_split}
+-- What code over tables looks up: values, names and numbers of options, and what a context catches.
+use Rattle.std.specs.Prelude.{ℕ, ◌+◌, ◌-◌, Bool, ◌&&◌, is_some, if◌then◌else◌, List, [], ◌∷◌, length, drop, map, Option, Some, None}
 use Rattle.kmn_base.specs.declared.items.Item.{Item}
-use Rattle.kmn_base.specs.declared.events.Event.{Event}
-use Rattle.kmn_base.specs.declared.events.Event.TheVariants as event
-use Rattle.kmn_base.specs.declared.events.Outcome.{Outcome}
-use Rattle.kmn_base.specs.declared.items.Element.{Element}
-use Rattle.kmn_base.specs.Lists.{read_again}
-use Rattle.rule_model.specs.declared.event_state.EventState.{EventState}
 use Rattle.rule_model.specs.declared.event_state.Catch.{Catch}
-use Rattle.rule_model.specs.declared.state.PlainState.{PlainState}
 use Rattle.rule_model.specs.declared.tables.Store.{Store}
-use Rattle.rule_model.specs.declared.tables.Tables.{Tables}
 use Rattle.rule_model.specs.Keyboard.{Pattern, StoreMeaning}
 use Rattle.rule_model.specs.Match.{Content, catches_from}
 use Rattle.rule_model.specs.Hold.{has_room, pattern_count}
-use Rattle.rule_model.specs.Event.{State, Happening, has_name, no_outcome, happening}
+use Rattle.rule_model.specs.Event.{has_name}
 use Rattle.rule_model.specs.Trace.{options_of}
-use Rattle.rule_model.specs.Tab.{tab}
 
 -- the values of the stores that pass a test, in order
 abbrev pub values_where : {X : Type 0} → (StoreMeaning → Bool) → List StoreMeaning → List X → List X
@@ -26,107 +16,19 @@ values_where test (store ∷ stores) [] = []
 values_where test (store ∷ stores) (value ∷ values) =
     if test store then value ∷ values_where test stores values else values_where test stores values
 
--- the values of the option stores, and those of the others
+-- the values of the option stores
 abbrev pub of_options : {X : Type 0} → List StoreMeaning → List X → List X
 of_options stores values = values_where (λ store. store.is_option) stores values
-
-abbrev pub of_others : {X : Type 0} → List StoreMeaning → List X → List X
-of_others stores values = values_where (λ store. not store.is_option) stores values
 
 -- the names of the option stores
 abbrev pub option_names : List StoreMeaning → List (List ℕ)
 option_names stores = map (λ (store : StoreMeaning). store.name) (options_of stores)
-
--- what a plain state of tables means
-abbrev pub state_of : Tables → PlainState → State
-state_of tables state =
-    record {
-      left = state.left;
-      right = state.right;
-      names = option_names (tab tables).stores;
-      current = of_options (tab tables).stores state.current;
-      saved = of_options (tab tables).stores state.saved;
-    }
-
--- the values of stores that are no option stay, and there are as many values as before
-pub record KeepsOthers {X : Type 0} (stores : List StoreMeaning) (old new : List X) : Type 0 where
-  pub others : of_others stores new ≡ of_others stores old
-  pub count : length new ≡ length old
-
--- a plain state is what something that happened made of another one
-pub record IsMadeBy (tables : Tables) (state : PlainState) (happened : Happening) (result : PlainState) : Type 0 where
-  pub after : state_of tables result ≡ happened.after
-  pub outcome : result.last ≡ happened.outcome
-  pub current : KeepsOthers (tab tables).stores state.current result.current
-  pub saved : KeepsOthers (tab tables).stores state.saved result.saved
-
--- a plain state is what an event made of another one
-abbrev pub IsPlainStep : Tables → PlainState → Event → PlainState → Type 0
-IsPlainStep tables state event result = IsMadeBy tables state (happening (tab tables) (state_of tables state) event) result
-
--- the places of an event stand within a text, in order
-abbrev pub IsWithin : List ℕ → Event → Type 0
-IsWithin text (event.Key press) = Unit {0}
-IsWithin text (event.Setting name value) = Unit {0}
-IsWithin text (event.Caret place) = place ≤ length text
-IsWithin text (event.Edit from to new) = (from ≤ to) × (to ≤ length text)
-
--- a plain state has a current and a saved value for each store, and fewer than 2^32 items before the caret
-pub record IsStateOf (tables : Tables) (state : PlainState) : Type 0 where
-  pub left : length state.left < 2 ^ 32
-  pub current : length state.current ≡ length tables.stores
-  pub saved : length state.saved ≡ length tables.stores
-
--- what a context catches of the last items of a list, where the list has room for it
-abbrev pub caught_last : Content → List Pattern → List Item → Option (List Catch)
-caught_last content context left =
-    if has_room context left then catches_from content [] context (drop (length left - pattern_count context) left) else None
 
 -- the option number of each store, counted from this number on; None for a store that is no option
 abbrev pub option_numbers : ℕ → List StoreMeaning → List (Option ℕ)
 option_numbers number [] = []
 option_numbers number (store ∷ stores) =
     if store.is_option then Some number ∷ option_numbers (number + 1) stores else None ∷ option_numbers number stores
-
--- of values by store number those of the stores that have an option number
-abbrev pub picked : {X : Type 0} → List (Option ℕ) → List X → List X
-picked [] values = []
-picked (number ∷ numbers) [] = []
-picked (number ∷ numbers) (value ∷ values) = if is_some number then value ∷ picked numbers values else picked numbers values
-
--- the value of an option number, else another one
-abbrev pub option_value : {X : Type 0} → List X → Option ℕ → X → X
-option_value options None other = other
-option_value options (Some option) other = unwrap_or (slice_get options option) other
-
--- values by store number, with those of options in the places of the stores that have an option number
-abbrev pub spread : {X : Type 0} → List (Option ℕ) → List X → List X → List X
-spread [] values options = []
-spread (number ∷ numbers) [] options = []
-spread (number ∷ numbers) (value ∷ values) options = option_value options number value ∷ spread numbers values options
-
--- the plain state that an event leaves, with this outcome
-abbrev pub acted : Tables → EventState → Outcome → PlainState → PlainState
-acted tables s outcome state =
-    let numbers = option_numbers 0 (tab tables).stores in
-    record {
-      left = s.left;
-      right = state.right;
-      current = spread numbers state.current s.current;
-      saved = spread numbers state.saved s.saved;
-      last = outcome;
-    }
-
--- the plain state with a whole text and the caret at a place of it
-abbrev pub with_text : List ℕ → ℕ → PlainState → PlainState
-with_text text caret state =
-    record state { left = read_again state.left (take caret text); right = drop caret text; last = no_outcome }
-
--- an option that there may be gets a value, as current and as saved one
-abbrev pub given : Option ℕ → List Element → EventState → EventState
-given None value s = s
-given (Some option) value s =
-    record s { current = slice_set s.current option value; saved = slice_set s.saved option (Some value) }
 
 -- the option number of the first store of a name that has one
 abbrev pub option_named : List ℕ → List (Option ℕ) → List Store → Option ℕ
@@ -135,12 +37,7 @@ option_named name (number ∷ numbers) [] = None
 option_named name (number ∷ numbers) (store ∷ stores) =
     if is_some number && has_name name store.name then number else option_named name numbers stores
 
--- the words of a text that there may be, parted by spaces; none where nothing stands behind the last word
-abbrev pub words_behind : Option (List ℕ) → List (List ℕ)
-words_behind None = []
-words_behind (Some text) = slice_split (nat_eq 32) text
-
--- the bytes of such a text, with the space before it
-abbrev pub bytes_behind : Option (List ℕ) → ℕ
-bytes_behind None = 0
-bytes_behind (Some text) = length text + 1
+-- what a context catches of the last items of a list, where the list has room for it
+abbrev pub caught_last : Content → List Pattern → List Item → Option (List Catch)
+caught_last content context left =
+    if has_room context left then catches_from content [] context (drop (length left - pattern_count context) left) else None

@@ -6,8 +6,9 @@ ghost use Rattle.rule_model.specs.Tab.{tab};
 ghost use Rattle.store_table.specs.Numbering.{with_marks};
 ghost use Rattle.touch_layout.specs.Ids.{recorded_name, recorded_names, rule_names};
 
+use indexed_tables::IndexedTables;
 use kmn_base::{Memory, RuleKey};
-use rule_model::{Group, IndexedTables, Rule};
+use rule_model::{Group, Rule};
 use std::alloc::Global;
 use store_table::NameTable;
 

@@ -1,6 +1,6 @@
 use Rattle.std.proofs.Common.{◌≡◌, drop}
 use Rattle.std.specs.Prelude.{flat_map}
-use Rattle.file_names.specs.Flags.{with_flags}
+use Rattle.indexed_tables.specs.OptionFlags.{with_flags}
 use Rattle.decompile_laws.specs.Names.{named_by_group}
 use Rattle.file_names.proofs.used.mark_groups.Given as goal
 

@@ -1,6 +1,6 @@
 use Rattle.std.proofs.Common.{◌≡◌, []}
 use Rattle.std.specs.Prelude.{option_copied}
-use Rattle.rule_model.specs.Plain.{words_behind, bytes_behind}
+use Rattle.indexed_tables.specs.Words.{words_behind, bytes_behind}
 use Rattle.rule_model.specs.Tab.{words}
 use Rattle.kmx_decompiler.specs.Words.{are_unfit, not_empty}
 use Rattle.kmx_decompiler.proofs.dictionary.are_unfit.Given as goal

@@ -1,7 +1,7 @@
 use Rattle.std.proofs.Common.{◌≡◌}
 use Rattle.std.specs.List.{flat_map}
 use Rattle.rule_model.specs.Tab.{output_options}
-use Rattle.rule_index.specs.OptionFlags.{with_flags}
+use Rattle.indexed_tables.specs.OptionFlags.{with_flags}
 use Rattle.rule_index.proofs.options.mark_outputs.Given as goal
 
 abbrev pub invariant-loop-output : goal.invariant-loop-output

@@ -1,7 +1,7 @@
 use Rattle.std.proofs.Common.{◌≡◌}
 use Rattle.std.specs.List.{flat_map}
 use Rattle.rule_model.specs.Tab.{rule_options}
-use Rattle.rule_index.specs.OptionFlags.{with_flags}
+use Rattle.indexed_tables.specs.OptionFlags.{with_flags}
 use Rattle.rule_index.proofs.options.mark_rules.Given as goal
 
 abbrev pub invariant-loop-rule : goal.invariant-loop-rule

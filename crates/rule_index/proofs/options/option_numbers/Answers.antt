@@ -1,7 +1,7 @@
 use Rattle.std.proofs.Common.{◌≡◌, ◌∙◌, IfOk, List, Option, ap, subst, ℕ}
 use Rattle.rule_model.specs.Tab.{tab_options}
-use Rattle.rule_index.specs.OptionFlags.{flag_numbers}
-use Rattle.rule_index.proofs.OptionFlags.{numbers_by_flags}
+use Rattle.indexed_tables.specs.OptionFlags.{flag_numbers}
+use Rattle.indexed_tables.proofs.OptionFlags.{numbers_by_flags}
 use Rattle.rule_index.proofs.options.option_numbers.Goals as goal
 
 pub returns : goal.returns

@@ -1,0 +1,3 @@
+pub mod Ends
+pub mod OptionFlags
+pub mod Words

@@ -1,0 +1,2 @@
+pub mod OptionFlags
+pub mod Words

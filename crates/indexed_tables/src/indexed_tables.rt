@@ -1,0 +1,150 @@
+ghost use Rattle.std.specs.Prelude.{◌≡◌, IfOk, option_copied, slice_get, position};
+ghost use Rattle.std.specs.Option.{option_flatten};
+ghost use Rattle.virtual_keys.specs.Dictionary.{name_in};
+ghost use Rattle.rule_model.specs.Keyboard.{Numbered};
+ghost use Rattle.rule_model.specs.Content.{option_number};
+ghost use Rattle.rule_model.specs.Event.{has_name};
+ghost use Rattle.rule_model.specs.Plain.{option_numbers, option_names, option_named};
+ghost use Rattle.rule_model.specs.Tab.{elements_of, tab};
+
+use crate::options::option_numbers;
+use crate::own_keys::own_keys;
+use kmn_base::names::same_name;
+use kmn_base::{Element, Memory, Text};
+use rule_model::{Group, Store, Tables};
+use std::alloc::Global;
+use std::marker::Model;
+
+/// Tables with what events look up: the option number of each store, and the names of the key dictionary.
+#[derive(Drop)]
+pub struct IndexedTables<'a> {
+    alloc: Global,
+    tables: &'a Tables,
+    numbers: Vec<Option<usize>>,
+    names: Vec<Text>,
+}
+
+impl<'a> Model for IndexedTables<'a> {
+    ghost use Rattle.std.specs.Prelude.{◌≡◌};
+    ghost use Rattle.rule_model.specs.declared.tables.Tables.{Tables};
+    ghost use Rattle.rule_model.specs.Plain.{option_numbers};
+    ghost use Rattle.rule_model.specs.Tab.{tab};
+
+    ghost Value = { Tables };
+
+    ghost view = { λ indexed. indexed.tables.now };
+
+    ghost invariant = { λ indexed.
+        (indexed.numbers.items ≡ option_numbers 0 (tab indexed.tables.now).stores)
+        × (indexed.names.items ≡ (tab indexed.tables.now).dictionary) };
+}
+
+impl<'a> IndexedTables<'a> {
+    /// Looks up what the events of tables need.
+    #[tactic(auto, unfolding(rule_model::specs::Tab::tab))]
+    pub fn new(alloc: Global, tables: &'a Tables) -> Result<IndexedTables<'a>, Memory>
+        ensures { IfOk result (λ indexed. indexed ≡ tables.now) }
+    {
+        let numbers = option_numbers(alloc, tables)?;
+        let names = own_keys(alloc, tables.stores.as_slice())?;
+        Ok(IndexedTables {
+            alloc,
+            tables,
+            numbers,
+            names,
+        })
+    }
+
+    /// The allocator.
+    pub fn alloc(&self) -> Global {
+        self.alloc
+    }
+
+    /// The number of the Unicode start group.
+    pub fn start(&self) -> u32
+        ensures { result ≡ self.now.start_unicode }
+    {
+        self.tables.start_unicode
+    }
+
+    /// The option number of each store.
+    pub fn numbers(&self) -> &[Option<usize>]
+        ensures { result.now ≡ option_numbers 0 (tab self.now).stores }
+    {
+        self.numbers.as_slice()
+    }
+
+    /// The elements of a store, none where there is no such store.
+    pub fn elements(&self, store: u32) -> &[Element]
+        ensures { result.now ≡ elements_of self.now.stores store }
+    {
+        match self.tables.stores.as_slice().get(store as usize) {
+            Some(store) => store.elements.as_slice(),
+            None => &[],
+        }
+    }
+
+    /// The option number of a store.
+    #[tactic(auto, using(rule_model::proofs::PlainOptions::number_found))]
+    pub fn option_number(&self, store: u32) -> Option<usize>
+        ensures { result ≡ option_number (tab self.now).stores (Numbered store) }
+    {
+        number_at(self.numbers.as_slice(), store)
+    }
+
+    /// The number of the first option of a name; a store without a name is found by none.
+    #[tactic(auto, using(rule_model::proofs::PlainOptions::first_named), unfolding(rule_model::specs::Tab::tab))]
+    pub fn option_named(&self, name: &[u8]) -> Option<usize>
+        ensures { result ≡ position (has_name name.now) (option_names (tab self.now).stores) }
+    {
+        option_named(name, self.numbers.as_slice(), self.tables.stores.as_slice())
+    }
+
+    /// The group of a number.
+    pub fn group(&self, group: u32) -> Option<&Group>
+        ensures { option_copied result ≡ slice_get self.now.groups group }
+    {
+        self.tables.groups.as_slice().get(group as usize)
+    }
+
+    /// The name in the key dictionary that has a code.
+    pub fn own_key(&self, code: u16) -> Option<&[u8]>
+        ensures { option_copied result ≡ name_in (tab self.now).dictionary code }
+    {
+        if code < 256 {
+            return None;
+        }
+        match self.names.as_slice().get(code as usize - 256) {
+            Some(name) => Some(name.as_slice()),
+            None => None,
+        }
+    }
+}
+
+/// The option number in a list of numbers by store.
+fn number_at(numbers: &[Option<usize>], store: u32) -> Option<usize>
+    ensures { result ≡ option_flatten (slice_get numbers.now store) }
+{
+    numbers.get(store as usize).copied().flatten()
+}
+
+/// Whether an option has a name.
+fn has_name(name: &[u8], other: &[u8]) -> bool
+    ensures { result ≡ has_name name.now other.now }
+{
+    !other.is_empty() && same_name(other, name)
+}
+
+/// The option number of the first store of a name that has one.
+#[tactic(auto, using(crate::proofs::Ends::named_ended))]
+fn option_named(name: &[u8], numbers: &[Option<usize>], stores: &[Store]) -> Option<usize>
+    ensures { result ≡ option_named name.now numbers.now stores.now }
+{
+    for n in 0..numbers.len().min(stores.len()) {
+        let store = &stores[n];
+        if numbers[n].is_some() && has_name(name, store.name.as_slice()) {
+            return numbers[n];
+        }
+    }
+    None
+}

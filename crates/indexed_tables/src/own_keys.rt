@@ -1,0 +1,100 @@
+//! The names of own keys, by the words of the store that has the key dictionary.
+
+ghost use Rattle.std.specs.Prelude.{◌≡◌, ◌+◌, [], ◌∷◌, IfOk, OnOk, find, filter_map, encode_utf8_all, length, option_copied, nat_eq, not, filter, position};
+ghost use Rattle.std.specs.List.{slice_split, list_any};
+ghost use Rattle.std.specs.String.{string_bytes};
+ghost use Rattle.kmn_base.specs.Names.{same_name};
+ghost use Rattle.rule_model.specs.Tab.{store_elements, is_dictionary, element_char, words, distinct_onto, tab_dictionary};
+ghost use Rattle.indexed_tables.specs.Words.{words_behind, bytes_behind};
+
+use kmn_base::names::same_name;
+use kmn_base::{Element, Memory, Seq, Text};
+use rule_model::Store;
+use std::alloc::Global;
+
+/// The id of the store that has the key dictionary.
+const DICTIONARY: u32 = 34;
+
+/// The elements of the store that has the key dictionary.
+fn dictionary_elements(stores: &[Store]) -> &[Element]
+    ensures { result.now ≡ store_elements (find is_dictionary stores.now) }
+{
+    for store in stores {
+        if store.system == DICTIONARY {
+            return store.elements.as_slice();
+        }
+    }
+    &[]
+}
+
+/// The characters among elements, as UTF-8.
+fn element_text(alloc: Global, elements: &[Element]) -> Result<String, Memory>
+    ensures { IfOk result (λ text. string_bytes text ≡ encode_utf8_all (filter_map element_char elements.now)) }
+{
+    let mut text = String::new(alloc);
+    for element in elements {
+        if let Element::Char(c) = element {
+            text.push(*c)?;
+        }
+    }
+    Ok(text)
+}
+
+/// The place of the first space of a text.
+fn first_space(text: &[u8]) -> Option<usize>
+    ensures { result ≡ position (nat_eq 32) text.now }
+{
+    text.iter().position(|byte| *byte == b' ')
+}
+
+/// A text up to its first space, and what stands behind that.
+#[tactic(auto, using(crate::proofs::Words::words_parted, crate::proofs::Words::words_alone))]
+fn first_word(text: &[u8]) -> (&[u8], Option<&[u8]>)
+    ensures parts { slice_split (nat_eq 32) text.now ≡ result.0.now ∷ words_behind (option_copied result.1) }
+    ensures sizes { length result.0.now + bytes_behind (option_copied result.1) ≡ length text.now }
+{
+    match first_space(text) {
+        Some(at) => (&text[..at], Some(&text[at + 1..])),
+        None => (text, None),
+    }
+}
+
+/// Whether a name is among names, without ASCII case.
+fn is_among(names: &[Text], name: &[u8]) -> bool
+    ensures { result ≡ list_any (λ known. same_name known name.now) names.now }
+{
+    names.iter().any(|known| same_name(known.as_slice(), name))
+}
+
+/// Appends a word, unless it is empty or the same as a name before it.
+fn add_word(alloc: Global, names: &mut Vec<Text>, word: &[u8]) -> Result<(), Memory>
+    ensures { OnOk result (names.new.items ≡ distinct_onto same_name names.old.items (filter (λ w. not (nat_eq (length w) 0)) (word.now ∷ []))) }
+{
+    if !word.is_empty() && !is_among(names.as_slice(), word) {
+        names.push(Seq::from_slice(alloc, word)?)?;
+    }
+    Ok(())
+}
+
+/// The words of a text, each once.
+fn distinct_words(alloc: Global, text: &[u8]) -> Result<Vec<Text>, Memory>
+    ensures { IfOk result (λ names. names.items ≡ distinct_onto same_name [] (words text.now)) }
+{
+    let mut names = Vec::new(alloc);
+    let mut rest = Some(text);
+    while let Some(text) = rest {
+        let (word, behind) = first_word(text);
+        add_word(alloc, &mut names, word)?;
+        rest = behind;
+    }
+    Ok(names)
+}
+
+/// The names of the key dictionary.
+#[tactic(auto, unfolding(rule_model::specs::Tab::tab_dictionary))]
+pub fn own_keys(alloc: Global, stores: &[Store]) -> Result<Vec<Text>, Memory>
+    ensures { IfOk result (λ names. names.items ≡ tab_dictionary stores.now) }
+{
+    let text = element_text(alloc, dictionary_elements(stores))?;
+    distinct_words(alloc, text.as_bytes())
+}

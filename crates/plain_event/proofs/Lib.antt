@@ -1,0 +1,4 @@
+pub mod ItemTexts
+pub mod Lefts
+pub mod SpreadValues
+pub mod Steps

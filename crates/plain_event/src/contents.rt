@@ -1,0 +1,42 @@
+ghost use Rattle.std.specs.Prelude.{◌≡◌, [], slice_get, unwrap_or};
+ghost use Rattle.rule_model.specs.Keyboard.{Numbered};
+ghost use Rattle.rule_model.specs.Match.{element_at};
+ghost use Rattle.rule_model.specs.Act.{content_now};
+ghost use Rattle.rule_model.specs.Tab.{tab};
+
+use indexed_tables::IndexedTables;
+use kmn_base::Element;
+use rule_model::EventState;
+
+/// The current value of an option, empty where there is no such option.
+pub fn value_at(state: &EventState, option: usize) -> &[Element]
+    ensures { result.now ≡ unwrap_or (slice_get state.now.current option) [] }
+{
+    match state.current.as_slice().get(option) {
+        Some(value) => value.as_slice(),
+        None => &[],
+    }
+}
+
+/// What a store has at a moment: the current value of an option, else its elements.
+#[tactic(auto, using(rule_model::proofs::PlainOptions::content_of_option, rule_model::proofs::PlainOptions::content_of_other, rule_model::proofs::PlainOptions::elements_with_options), unfolding(rule_model::specs::Tab::tab))]
+pub fn content<'a>(indexed: &'a IndexedTables, state: &'a EventState, store: u32) -> &'a [Element]
+    ensures { result.now ≡ content_now (tab indexed.now) state.now (Numbered store) }
+{
+    match indexed.option_number(store) {
+        Some(option) => value_at(state, option),
+        None => indexed.elements(store),
+    }
+}
+
+/// The element at a place of what a store has at a moment, where there is such a place.
+pub fn element(
+    indexed: &IndexedTables,
+    state: &EventState,
+    store: u32,
+    place: Option<usize>,
+) -> Option<Element>
+    ensures { result ≡ element_at (content_now (tab indexed.now) state.now (Numbered store)) place }
+{
+    content(indexed, state, store).get(place?).copied()
+}

@@ -1,0 +1,308 @@
+ghost use Rattle.std.specs.Prelude.{◌≡◌, ◌+◌, ◌-◌, ◌^◌, ◌<◌, ◌≤◌, ◌++◌, IfOk, OnOk, length, map};
+ghost use Rattle.kmn_base.specs.Lists.{characters, read_again};
+ghost use Rattle.rule_model.specs.KeyEvent.{begin_event, outcome_of};
+ghost use Rattle.rule_model.specs.Event.{whole_text, no_outcome, by_editor, key_event, only_state, setting_event, caret_event, moved_caret, edited_text, edit_event};
+ghost use Rattle.rule_model.specs.Tab.{tab};
+ghost use Rattle.rule_model.specs.Plain.{of_options};
+ghost use Rattle.plain_event.specs.PlainStates.{acted, given, with_text, state_of, IsMadeBy, IsPlainStep, IsStateOf, IsWithin};
+
+use crate::editor::{editor_left, editor_right, joined};
+use crate::entering::after_key;
+use crate::state::PlainState;
+use crate::texts::{characters, read_again};
+use crate::values::{copies, picked, set_value, spread};
+use indexed_tables::IndexedTables;
+use kmn_base::{Element, Event, Item, KeyPress, Memory, Outcome, Seq};
+use rule_model::{EventState, Tables, common_prefix};
+use std::alloc::Global;
+use virtual_keys::is_plain;
+
+/// An event begins on a state, with nothing done.
+#[tactic(auto, using(crate::proofs::SpreadValues::picked_options))]
+fn begin_event(indexed: &IndexedTables, state: &PlainState) -> Result<EventState, Memory>
+    ensures { IfOk result (λ event_state. event_state ≡ begin_event state.now.left
+        (of_options (tab indexed.now).stores state.now.current) (of_options (tab indexed.now).stores state.now.saved)) }
+{
+    Ok(EventState {
+        left: state.left.copy(indexed.alloc())?,
+        current: picked(indexed, state.current.as_slice())?,
+        saved: picked(indexed, state.saved.as_slice())?,
+        pass: false,
+        stopped: false,
+        beeps: 0,
+        entered: 0,
+        put: 0,
+        saves: 0,
+    })
+}
+
+/// The outcome of a press, from the list before it and the state that it leaves.
+#[tactic(auto, using(crate::proofs::ItemTexts::length_characters, rule_model::proofs::PlainLists::common_prefix_bound))]
+fn outcome_of(alloc: Global, old: &[Item], event_state: &EventState) -> Result<Outcome, Memory>
+    requires { length old.now < 2 ^ 32 }
+    ensures { IfOk result (λ outcome. outcome ≡ outcome_of old.now event_state.now) }
+{
+    let before = characters(alloc, old)?;
+    let after = characters(alloc, event_state.left.as_slice())?;
+    let deleted = before.len() - common_prefix(before.as_slice(), after.as_slice());
+    Ok(Outcome {
+        delete: deleted as u32,
+        pass: event_state.pass,
+        beeps: event_state.beeps,
+        entered: event_state.entered,
+        put: event_state.put,
+        saved: event_state.saves,
+    })
+}
+
+/// The plain state that an event leaves, with this outcome.
+fn acted(
+    indexed: &IndexedTables,
+    event_state: &EventState,
+    last: Outcome,
+    state: &PlainState,
+) -> Result<PlainState, Memory>
+    ensures { IfOk result (λ after. after ≡ acted indexed.now event_state.now last state.now) }
+{
+    Ok(PlainState {
+        left: Seq::from_slice(indexed.alloc(), event_state.left.as_slice())?,
+        right: state.right.copy(indexed.alloc())?,
+        current: spread(
+            indexed,
+            state.current.as_slice(),
+            event_state.current.as_slice(),
+        )?,
+        saved: spread(
+            indexed,
+            state.saved.as_slice(),
+            event_state.saved.as_slice(),
+        )?,
+        last,
+    })
+}
+
+/// The state with these texts before and after the caret.
+fn text_becomes(
+    alloc: Global,
+    left: &[char],
+    right: &[char],
+    state: &PlainState,
+) -> Result<PlainState, Memory>
+    ensures { IfOk result (λ after. after ≡ record state.now {
+      left = read_again state.now.left left.now;
+      right = right.now;
+    }) }
+{
+    Ok(PlainState {
+        left: Seq::from_vec(read_again(alloc, state.left.as_slice(), left)?),
+        right: Seq::from_slice(alloc, right)?,
+        current: copies(alloc, state.current.as_slice())?,
+        saved: copies(alloc, state.saved.as_slice())?,
+        last: state.last,
+    })
+}
+
+/// The editor's default for a key that was passed on.
+fn by_editor(alloc: Global, press: KeyPress, state: &PlainState) -> Result<PlainState, Memory>
+    ensures after { IfOk result (λ after. (tables : Tables) → state_of tables after ≡ by_editor press (state_of tables state.now)) }
+    ensures others { IfOk result (λ after. after ≡ record state.now { left = after.left; right = after.right }) }
+{
+    let text = characters(alloc, state.left.as_slice())?;
+    let left = text.as_slice();
+    let right = state.right.as_slice();
+    if !is_plain(press) {
+        return text_becomes(alloc, left, right, state);
+    }
+    let before = editor_left(alloc, press.code, left, right)?;
+    let after = editor_right(alloc, press.code, left, right)?;
+    text_becomes(alloc, before.as_slice(), after.as_slice(), state)
+}
+
+/// A key press.
+fn key_event(
+    indexed: &IndexedTables,
+    press: KeyPress,
+    state: &PlainState,
+) -> Result<PlainState, Memory>
+    requires { IsStateOf indexed.now state.now }
+    ensures { IfOk result (IsMadeBy indexed.now state.now (key_event (tab indexed.now) press (state_of indexed.now state.now))) }
+{
+    let begun = begin_event(indexed, state)?;
+    let event_state = after_key(indexed, press, begun)?;
+    let outcome = outcome_of(indexed.alloc(), state.left.as_slice(), &event_state)?;
+    let after = acted(indexed, &event_state, outcome, state)?;
+    if !event_state.pass {
+        return Ok(after);
+    }
+    let edited = by_editor(indexed.alloc(), press, &after)?;
+    Ok(edited)
+}
+
+/// The outcome of an event that is no key.
+fn no_outcome() -> Outcome
+    ensures { result ≡ no_outcome }
+{
+    Outcome {
+        delete: 0,
+        pass: false,
+        beeps: 0,
+        entered: 0,
+        put: 0,
+        saved: 0,
+    }
+}
+
+/// Characters as elements.
+fn as_elements(alloc: Global, text: &[char]) -> Result<Vec<Element>, Memory>
+    ensures { IfOk result (λ value. value.items ≡ map Element.Char text.now) }
+{
+    Ok(text.iter().map(|c| Element::Char(*c)).collect(alloc)?)
+}
+
+/// An option that there may be gets a value, as current and as saved one.
+fn give(
+    alloc: Global,
+    option: Option<usize>,
+    value: &[char],
+    event_state: &mut EventState,
+) -> Result<(), Memory>
+    ensures { OnOk result (event_state.new ≡ given option (map Element.Char value.now) event_state.old) }
+{
+    let Some(option) = option else {
+        return Ok(());
+    };
+    let current = Seq::from_vec(as_elements(alloc, value)?);
+    let saved = Seq::from_vec(as_elements(alloc, value)?);
+    set_value(&mut event_state.current, option, current);
+    set_value(&mut event_state.saved, option, Some(saved));
+    Ok(())
+}
+
+/// The host gives an option a value.
+fn setting_event(
+    indexed: &IndexedTables,
+    name: &[u8],
+    value: &[char],
+    state: &PlainState,
+) -> Result<PlainState, Memory>
+    requires { IsStateOf indexed.now state.now }
+    ensures { IfOk result (IsMadeBy indexed.now state.now (only_state (setting_event name.now value.now (state_of indexed.now state.now)))) }
+{
+    let mut event_state = begin_event(indexed, state)?;
+    give(
+        indexed.alloc(),
+        indexed.option_named(name),
+        value,
+        &mut event_state,
+    )?;
+    let after = acted(indexed, &event_state, no_outcome(), state)?;
+    Ok(after)
+}
+
+/// The whole text, before and after the caret.
+fn whole_text(alloc: Global, state: &PlainState) -> Result<Vec<char>, Memory>
+    ensures { IfOk result (λ text. text.items ≡ characters state.now.left ++ state.now.right) }
+{
+    let left = characters(alloc, state.left.as_slice())?;
+    joined(alloc, left.as_slice(), state.right.as_slice())
+}
+
+/// The state with a whole text and the caret at a place of it.
+fn with_text(
+    alloc: Global,
+    text: &[char],
+    caret: usize,
+    state: &PlainState,
+) -> Result<PlainState, Memory>
+    requires { caret ≤ length text.now }
+    ensures { IfOk result (λ after. after ≡ with_text text.now caret state.now) }
+{
+    let (left, right) = text.split_at(caret);
+    let mut after = text_becomes(alloc, left, right, state)?;
+    after.last = no_outcome();
+    Ok(after)
+}
+
+/// The caret moves to a place.
+fn caret_event(alloc: Global, place: u32, state: &PlainState) -> Result<PlainState, Memory>
+    requires { place ≤ length (characters state.now.left ++ state.now.right) }
+    ensures { IfOk result (λ after. (tables : Tables) → IsMadeBy tables state.now (only_state (caret_event place (state_of tables state.now))) after) }
+{
+    let whole = whole_text(alloc, state)?;
+    let after = with_text(alloc, whole.as_slice(), place as usize, state)?;
+    Ok(after)
+}
+
+/// Where the caret is after characters were replaced by so many.
+fn moved_caret(from: usize, to: usize, count: usize, caret: usize) -> usize
+    requires { from + count + (caret - to) < 2 ^ 64 }
+    ensures { result ≡ moved_caret from to count caret }
+{
+    if caret <= from {
+        caret
+    } else if caret < to {
+        from + count
+    } else {
+        caret - to + from + count
+    }
+}
+
+/// The whole text after an edit.
+fn edited_text(
+    alloc: Global,
+    from: usize,
+    to: usize,
+    text: &[char],
+    whole: &[char],
+) -> Result<Vec<char>, Memory>
+    requires { (from ≤ to) × (to ≤ length whole.now) }
+    ensures { IfOk result (λ edited. edited.items ≡ edited_text from to text.now whole.now) }
+{
+    let before = joined(alloc, &whole[..from], text)?;
+    joined(alloc, before.as_slice(), &whole[to..])
+}
+
+/// The application replaces characters.
+fn edit_event(
+    alloc: Global,
+    from: u32,
+    to: u32,
+    text: &[char],
+    state: &PlainState,
+) -> Result<PlainState, Memory>
+    requires { (from ≤ to) × (to ≤ length (characters state.now.left ++ state.now.right)) }
+    ensures { IfOk result (λ after. (tables : Tables) → IsMadeBy tables state.now (only_state (edit_event from to text.now (state_of tables state.now))) after) }
+{
+    let before = characters(alloc, state.left.as_slice())?;
+    let whole = joined(alloc, before.as_slice(), state.right.as_slice())?;
+    let edited = edited_text(alloc, from as usize, to as usize, text, whole.as_slice())?;
+    let caret = moved_caret(from as usize, to as usize, text.len(), before.len());
+    let after = with_text(alloc, edited.as_slice(), caret, state)?;
+    Ok(after)
+}
+
+/// What an event does to a state, by the meaning of tables. The limits of an event's text are not looked at.
+#[tactic(auto, unfolding(rule_model::specs::Event::happening))]
+pub fn plain_event(
+    alloc: Global,
+    tables: &Tables,
+    state: &PlainState,
+    event: &Event,
+) -> Result<PlainState, Memory>
+    requires state { IsStateOf tables.now state.now }
+    requires places { IsWithin (whole_text (state_of tables.now state.now)) event.now }
+    ensures { IfOk result (IsPlainStep tables.now state.now event.now) }
+{
+    let indexed = IndexedTables::new(alloc, tables)?;
+    match event {
+        Event::Key(press) => key_event(&indexed, *press, state),
+        Event::Setting { name, value } => setting_event(
+            &indexed,
+            name.as_slice(),
+            value.as_slice(),
+            state,
+        ),
+        Event::Caret(place) => caret_event(alloc, *place, state),
+        Event::Edit { from, to, text } => edit_event(alloc, *from, *to, text.as_slice(), state),
+    }
+}

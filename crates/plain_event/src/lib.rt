@@ -1,0 +1,23 @@
+//! What the tables of a compiled file do with an event, computed as their meaning says it.
+//!
+//! It stands on `kmn_base`, `virtual_keys`, `rule_model`, whose meaning of an event it computes, and `indexed_tables`, which
+//! have what events look up. It is clear and not fast: the first record that holds goes first, found by trying each, and a
+//! list is made anew where an item is put. `plain_event` does an event on a `PlainState`, whose values stand by store
+//! number; `specs/PlainStates` says what such a state means. The layer above are tests of the meaning.
+#![tactic(auto)]
+
+mod contents;
+mod defaults;
+mod editor;
+mod elements;
+mod entering;
+mod events;
+mod left;
+mod matching;
+mod outputs;
+mod state;
+mod texts;
+mod values;
+
+pub use events::plain_event;
+pub use state::PlainState;

@@ -1,0 +1,156 @@
+ghost use Rattle.std.specs.Prelude.{◌≡◌, OnOk, Some, slice_get, map};
+ghost use Rattle.rule_model.specs.Keyboard.{Numbered};
+ghost use Rattle.rule_model.specs.Content.{option_number, elements_at};
+ghost use Rattle.rule_model.specs.Match.{element_at};
+ghost use Rattle.rule_model.specs.Act.{put_item, put_items, item_list, put_element, items_caught, content_now, place_for_index, set_current, save_current, value_to_reset, reset_current};
+ghost use Rattle.rule_model.specs.Tab.{tab, elements_of};
+
+use crate::contents::{element, value_at};
+use crate::elements::{item_of, place_caught};
+use crate::left::with_item;
+use crate::values::set_value;
+use indexed_tables::IndexedTables;
+use kmn_base::limits::EVENT_PUTS;
+use kmn_base::{Element, Item, Memory, Seq};
+use rule_model::{Caught, EventState};
+use std::alloc::Global;
+
+/// Puts an item, or ends the event where no more may be put.
+pub fn put_item(alloc: Global, item: Item, state: &mut EventState) -> Result<(), Memory>
+    ensures { OnOk result (state.new ≡ put_item item state.old) }
+{
+    if state.stopped {
+        return Ok(());
+    }
+    if state.put >= EVENT_PUTS {
+        state.stopped = true;
+        return Ok(());
+    }
+    state.left = Seq::from_vec(with_item(alloc, state.left.as_slice(), item)?);
+    state.put += 1;
+    Ok(())
+}
+
+/// Puts an item that there may be.
+pub fn put_any(alloc: Global, item: Option<Item>, state: &mut EventState) -> Result<(), Memory>
+    ensures { OnOk result (state.new ≡ put_items (item_list item) state.old) }
+{
+    match item {
+        Some(item) => put_item(alloc, item, state),
+        None => Ok(()),
+    }
+}
+
+/// Puts an element that there may be; a virtual key puts nothing.
+fn put_element(
+    alloc: Global,
+    element: Option<Element>,
+    state: &mut EventState,
+) -> Result<(), Memory>
+    ensures { OnOk result (state.new ≡ put_element element state.old) }
+{
+    match element {
+        Some(element) => put_any(alloc, item_of(element), state),
+        None => Ok(()),
+    }
+}
+
+/// The place that an `index` takes: of the key where it stands one place after the context, else what was caught.
+fn place_for_index(caught: &Caught, offset: u32) -> Option<usize>
+    ensures { result ≡ place_for_index caught.now offset }
+{
+    if offset > 0 && offset as usize - 1 == caught.catches.len() {
+        caught.key_place
+    } else {
+        place_caught(caught.catches.as_slice(), offset)
+    }
+}
+
+/// What `index` does.
+pub fn put_index(
+    indexed: &IndexedTables,
+    caught: &Caught,
+    store: u32,
+    offset: u32,
+    state: &mut EventState,
+) -> Result<(), Memory>
+    ensures { OnOk result (state.new ≡ put_element
+        (element_at (content_now (tab indexed.now) state.old (Numbered store)) (place_for_index caught.now offset)) state.old) }
+{
+    let element = element(indexed, state, store, place_for_index(caught, offset));
+    put_element(indexed.alloc(), element, state)
+}
+
+/// What `context` does: puts all that was matched.
+pub fn put_context(alloc: Global, caught: &Caught, state: &mut EventState) -> Result<(), Memory>
+    ensures { OnOk result (state.new ≡ put_items (items_caught caught.now) state.old) }
+{
+    for catch in caught.catches.as_slice() {
+        put_any(alloc, catch.item, state)?;
+    }
+    Ok(())
+}
+
+/// What `set` does.
+pub fn set_current(
+    indexed: &IndexedTables,
+    store: u32,
+    value: u32,
+    state: &mut EventState,
+) -> Result<(), Memory>
+    ensures { OnOk result (state.new ≡ set_current
+        (option_number (tab indexed.now).stores (Numbered store)) (elements_of indexed.now.stores value) state.old) }
+{
+    let value = Seq::from_slice(indexed.alloc(), indexed.elements(value))?;
+    if let Some(option) = indexed.option_number(store) {
+        set_value(&mut state.current, option, value);
+    }
+    Ok(())
+}
+
+/// What `save` does.
+pub fn save_current(
+    indexed: &IndexedTables,
+    store: u32,
+    state: &mut EventState,
+) -> Result<(), Memory>
+    ensures { OnOk result (state.new ≡ save_current
+        (option_number (tab indexed.now).stores (Numbered store)) state.old) }
+{
+    let Some(option) = indexed.option_number(store) else {
+        return Ok(());
+    };
+    let value = Seq::from_slice(indexed.alloc(), value_at(state, option))?;
+    set_value(&mut state.saved, option, Some(value));
+    state.saves = state.saves.saturating_add(1);
+    Ok(())
+}
+
+/// The saved value of an option, else what the keyboard states.
+fn value_to_reset<'a>(state: &'a EventState, option: usize, stated: &'a [Element]) -> &'a [Element]
+    ensures { result.now ≡ value_to_reset (slice_get state.now.saved option) stated.now }
+{
+    match state.saved.as_slice().get(option) {
+        Some(Some(value)) => value.as_slice(),
+        _ => stated,
+    }
+}
+
+/// What `reset` does.
+#[tactic(auto, using(rule_model::proofs::PlainOptions::elements_with_options), unfolding(rule_model::specs::Tab::tab))]
+pub fn reset_current(
+    indexed: &IndexedTables,
+    store: u32,
+    state: &mut EventState,
+) -> Result<(), Memory>
+    ensures { OnOk result (state.new ≡ reset_current
+        (option_number (tab indexed.now).stores (Numbered store)) (elements_at (tab indexed.now).stores (Some store)) state.old) }
+{
+    let Some(option) = indexed.option_number(store) else {
+        return Ok(());
+    };
+    let value = value_to_reset(state, option, indexed.elements(store));
+    let value = Seq::from_slice(indexed.alloc(), value)?;
+    set_value(&mut state.current, option, value);
+    Ok(())
+}

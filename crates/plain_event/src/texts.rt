@@ -1,0 +1,85 @@
+ghost use Rattle.std.specs.Prelude.{◌≡◌, IfOk, map};
+ghost use Rattle.std.specs.List.{suffix_len};
+ghost use Rattle.kmn_base.specs.Lists.{characters, is_mark, without_last, window, still_stands, read_again};
+
+use kmn_base::limits::WINDOW_ITEMS;
+use kmn_base::slices::{before, behind};
+use kmn_base::{Item, Memory};
+use std::alloc::Global;
+
+/// The characters of items, without the marks.
+pub fn characters(alloc: Global, items: &[Item]) -> Result<Vec<char>, Memory>
+    ensures { IfOk result (λ text. text.items ≡ characters items.now) }
+{
+    let mut text = Vec::new(alloc);
+    for item in items {
+        if let Item::Char(c) = item {
+            text.push(*c)?;
+        }
+    }
+    Ok(text)
+}
+
+/// Characters as items.
+pub fn as_items(alloc: Global, text: &[char]) -> Result<Vec<Item>, Memory>
+    ensures { IfOk result (λ items. items.items ≡ map Item.Char text.now) }
+{
+    Ok(text.iter().map(|c| Item::Char(*c)).collect(alloc)?)
+}
+
+/// All but the last items.
+pub fn without_last(count: usize, items: &[Item]) -> &[Item]
+    ensures { result.now ≡ without_last count items.now }
+{
+    before(items, items.len().saturating_sub(count))
+}
+
+/// The last items, to which marks are confined.
+pub fn window(items: &[Item]) -> &[Item]
+    ensures { result.now ≡ window items.now }
+{
+    behind(items, items.len().saturating_sub(WINDOW_ITEMS))
+}
+
+/// Whether an item is a mark.
+pub fn is_mark(item: Item) -> bool
+    ensures { result ≡ is_mark item }
+{
+    match item {
+        Item::Char(_) => false,
+        Item::Mark(_) => true,
+    }
+}
+
+/// How many marks stand at the end of items.
+pub fn end_marks(items: &[Item]) -> usize
+    ensures { result ≡ suffix_len is_mark items.now }
+{
+    let mut count = items.len();
+    while count > 0 && is_mark(items[count - 1]) {
+        count -= 1;
+    }
+    items.len() - count
+}
+
+/// Whether the last items still stand at the end of a text, and it is known what stands before them.
+fn still_stands(kept: &[Item], last: &[char], text: &[char]) -> bool
+    requires { last.now ≡ characters kept.now }
+    ensures { result ≡ still_stands kept.now text.now }
+{
+    text.ends_with(last) && (kept.len() == WINDOW_ITEMS || text.len() == last.len())
+}
+
+/// The text read again, with the marks that keep their places.
+pub fn read_again(alloc: Global, items: &[Item], text: &[char]) -> Result<Vec<Item>, Memory>
+    ensures { IfOk result (λ left. left.items ≡ read_again items.now text.now) }
+{
+    let kept = window(items);
+    let last = characters(alloc, kept)?;
+    if !still_stands(kept, last.as_slice(), text) {
+        return as_items(alloc, text);
+    }
+    let mut left = as_items(alloc, &text[..text.len() - last.len()])?;
+    left.extend_from_slice(kept)?;
+    Ok(left)
+}

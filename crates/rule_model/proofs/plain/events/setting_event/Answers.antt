@@ -1,7 +1,0 @@
-use Rattle.rule_model.proofs.PlainSteps.{option_given}
-use Rattle.rule_model.proofs.plain.events.setting_event.Goals as goal
-
-pub returns : goal.returns
-returns c =
-    option_given c.args.indexed.now c.args.state.now c.requires c.args.name.now c.args.value.now _ _ _ _ c.in_ok-after.after
-    c.in_ok-event_state.ensures c.option_named.ensures c.in_ok-give.ensures c.no_outcome.ensures c.in_ok-after.ensures

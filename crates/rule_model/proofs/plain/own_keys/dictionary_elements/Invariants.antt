@@ -1,7 +1,0 @@
-use Rattle.std.proofs.Common.{◌≡◌, drop}
-use Rattle.std.specs.List.{find}
-use Rattle.rule_model.specs.Tab.{is_dictionary}
-use Rattle.rule_model.proofs.plain.own_keys.dictionary_elements.Given as goal
-
-abbrev pub invariant-loop-store : goal.invariant-loop-store
-invariant-loop-store l = find is_dictionary (drop l.store-index l.stores) ≡ find is_dictionary l.stores
