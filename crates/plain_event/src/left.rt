@@ -29,7 +29,7 @@ pub fn with_item(alloc: Global, items: &[Item], item: Item) -> Result<Vec<Item>,
 }
 
 /// Takes the last items.
-#[tactic(auto, using(std::proofs::lemmas::List::take_all))]
+#[tactic(auto, using(std::proofs::lemmas::List::take_all, crate::proofs::Lefts::kept_when_taken))]
 pub fn take(left: &mut Seq<Item>, count: usize)
     ensures { left.new ≡ without_last count left.old }
 {
