@@ -7,3 +7,4 @@ pub mod OptionFlags
 pub mod OwnNames
 pub mod Places
 pub mod Skipping
+pub mod Walk

@@ -7,3 +7,4 @@ pub mod OptionFlags
 pub mod OwnNames
 pub mod Rows
 pub mod Values
+pub mod Walk

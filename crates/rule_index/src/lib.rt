@@ -11,9 +11,11 @@
 //! `laws`: a record that holds is among the wanted ones, so the first record that holds is the first candidate that does.
 #![tactic(auto)]
 
+mod candidates;
 mod class;
 mod classes;
 mod elements;
+mod head;
 mod indexed_keyboard;
 pub mod laws;
 mod options;
@@ -26,6 +28,7 @@ mod rule_index;
 mod tests;
 mod values;
 
+pub use candidates::Candidates;
 pub use class::Class;
 pub use classes::wanted_classes;
 pub use indexed_keyboard::IndexedKeyboard;
