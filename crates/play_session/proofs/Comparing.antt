@@ -8,7 +8,7 @@ use Rattle.rule_model.specs.Content.{content, option_number, options_before}
 use Rattle.rule_model.specs.Keyboard.{Numbered, StoreMeaning}
 use Rattle.rule_model.specs.Plain.{option_numbers}
 use Rattle.rule_model.proofs.PlainOptions.{number_found, content_of_option}
-use Rattle.rule_engine.specs.Engine.{saved_of}
+use Rattle.rule_matching.specs.Moment.{saved_of}
 
 -- the option number of a store is the one that the list of numbers has for it
 pub number_at_store : (stores : List StoreMeaning) (n : ℕ) (d : Option ℕ) → n < length (option_numbers 0 stores)

@@ -3,7 +3,7 @@ ghost use Rattle.rule_model.specs.Content.{option_number};
 ghost use Rattle.rule_model.specs.Keyboard.{Numbered};
 ghost use Rattle.rule_model.specs.Plain.{option_numbers};
 ghost use Rattle.rule_model.specs.Tab.{tab};
-ghost use Rattle.rule_engine.specs.StoreValues.{elements_in};
+ghost use Rattle.rule_matching.specs.StoreValues.{elements_in};
 ghost use Rattle.play_session.specs.Changes.{is_newly_saved, current_change, saved_change, store_changes, changes_between, values_in, values_now};
 
 use option_store::Options;

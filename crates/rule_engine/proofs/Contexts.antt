@@ -20,7 +20,8 @@ use Rattle.rule_model.specs.Choose.{first, first_with}
 use Rattle.rule_model.specs.Match.{Content, takes_item, catches_from}
 use Rattle.rule_model.specs.Hold.{is_true, is_at_start, pattern_count, has_room, caught_by, fitting_place, holds}
 use Rattle.rule_model.specs.Tab.{tab_pattern, tab_rule}
-use Rattle.rule_engine.specs.Event.{AreShort, HasShortContexts}
+use Rattle.rule_matching.specs.Moment.{AreShort}
+use Rattle.rule_engine.specs.Event.{HasShortContexts}
 
 same_eq : (len n : ℕ) → n ≤ 63 → eqb len n ≡ eqb (min 64 len) n
 same_eq len n few = elim (cases_lt len 64) [
@@ -30,15 +31,6 @@ same_eq len n few = elim (cases_lt len 64) [
 
 same_le : (len n : ℕ) → n ≤ 63 → leb n len ≡ leb n (min 64 len)
 same_le len n few = grind (arith, nat_tests)
-
--- a pattern that looks at an item counts, another doesn't
-pub counted : (pattern : Pattern) (context : List Pattern) → takes_item pattern ≡ true → pattern_count (pattern ∷ context) ≡ 1 + pattern_count context
-counted pattern context is = sum_by-cons (λ (p : Pattern). cond (takes_item p) 1 0) pattern context ∙ ap (λ (takes : Bool). cond takes 1 0 + pattern_count context) is
-
-pub uncounted : (pattern : Pattern) (context : List Pattern) → takes_item pattern ≡ false → pattern_count (pattern ∷ context) ≡ pattern_count context
-uncounted pattern context is =
-    let same : 0 + pattern_count context ≡ pattern_count context = omega arith in
-    sum_by-cons (λ (p : Pattern). cond (takes_item p) 1 0) pattern context ∙ ap (λ (takes : Bool). cond takes 1 0 + pattern_count context) is ∙ same
 
 few_patterns : (context : List Pattern) → pattern_count context ≤ length context
 few_patterns context = count_by-le-length takes_item context
@@ -78,14 +70,6 @@ first_in_window content left press stores using_keys (rule ∷ rules) short =
     let here = sym (holds_in_window content left press (tab_rule stores using_keys rule) count) in
     let behind = first_in_window content left press stores using_keys rules (All-tail (λ (r : Rule). length r.context ≤ 60) rule rules short) in
     λ i. first_with (tab_rule stores using_keys rule) (here i) (behind i)
-
--- a record of a group with short contexts has one
-pub short_in_rules : (rules : List Rule) (n : ℕ) (rule : Rule) → AreShort rules → slice_get rules n ≡ Some rule → length rule.context ≤ 60
-short_in_rules [] n rule short is = absurd (cc)
-short_in_rules (r ∷ rules) zero rule short is =
-    let same : r ≡ rule = cc in
-    subst (λ (x : Rule). length x.context ≤ 60) same (All-head (λ (x : Rule). length x.context ≤ 60) r rules short)
-short_in_rules (r ∷ rules) (suc n) rule short is = short_in_rules rules n rule (All-tail (λ (x : Rule). length x.context ≤ 60) r rules short) is
 
 -- a group of tables has short contexts
 short_at : (groups : List Group) (n : ℕ) (group : Group) → All (λ (g : Group). AreShort g.rules) groups → slice_get groups n ≡ Some group → AreShort group.rules

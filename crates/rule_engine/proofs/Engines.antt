@@ -23,7 +23,7 @@ use Rattle.option_store.proofs.FirstCells.{first_cells_count}
 use Rattle.option_store.proofs.Meaning.{calls_follow, first_option_values, first_option_saves}
 use Rattle.event_text.specs.Texts.{InsertedValue}
 use Rattle.rule_engine.specs.Engine.{EngineState, IsEngine, IsRunnable, IsAtWork, engine_with, first_engine, option_named, with_option, set_by_host}
-use Rattle.rule_engine.proofs.StoreContents.{stores_meant}
+use Rattle.rule_matching.proofs.StoreContents.{stores_meant}
 
 -- there are as many values of options as options
 module _ {X : Type 0} where

@@ -1,10 +1,6 @@
-pub mod Candidates
-pub mod Catches
 pub mod Contexts
 pub mod Engines
-pub mod Lying
 pub mod OptionNames
 pub mod OptionSteps
 pub mod Runnable
-pub mod StoreContents
 pub mod Windows

@@ -11,7 +11,7 @@ use Rattle.rule_model.specs.Plain.{option_numbers, option_named}
 use Rattle.rule_model.specs.Tab.{tab}
 use Rattle.rule_model.proofs.PlainOptions.{length-option_numbers, number_found}
 use Rattle.rule_engine.proofs.Engines.{number_there}
-use Rattle.rule_engine.proofs.StoreContents.{stores_meant}
+use Rattle.rule_matching.proofs.StoreContents.{stores_meant}
 
 -- the store of a number below their count
 there : (stores : List Store) (n : ℕ) → n < length stores → (store : Store) × (slice_get stores n ≡ Some store) × (store ≡ get_or stores n store)

@@ -12,7 +12,7 @@ use Rattle.option_store.specs.Cells.{changed, set_cell, save_cell, reset_cell}
 use Rattle.option_store.specs.Meaning.{with_values}
 use Rattle.option_store.proofs.Meaning.{calls_follow}
 use Rattle.rule_engine.specs.Event.{EventValue, keyboard_of}
-use Rattle.rule_engine.proofs.StoreContents.{elements_meant}
+use Rattle.rule_matching.proofs.StoreContents.{elements_meant}
 
 module _ (tables : Tables) (cells : List Cell) (n : ℕ) (s : EventState) where
   abbrev stores : List StoreMeaning

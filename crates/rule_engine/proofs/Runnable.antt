@@ -9,7 +9,7 @@ use Rattle.rule_model.specs.declared.tables.Tables.{Tables}
 use Rattle.kmx_format.specs.File.{rules_of}
 use Rattle.kmx_format.specs.Playable.{IsPlayable, IsPlayableGroup}
 use Rattle.kmx_format.specs.Writable.{IsWritableRule}
-use Rattle.rule_engine.specs.Event.{AreShort}
+use Rattle.rule_matching.specs.Moment.{AreShort}
 use Rattle.rule_engine.specs.Engine.{IsRunnable}
 
 -- what follows for each element

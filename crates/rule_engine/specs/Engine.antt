@@ -1,6 +1,5 @@
 -- What an engine is, and what a press and a new text make of it.
-use Rattle.std.specs.Prelude.{◌≡◌, ◌≤◌, ◌<◌, ◌^◌, ℕ, List, [], length, map, Option, Some, None, position, slice_get, slice_set, option_and_then}
-use Rattle.std.specs.Option.{option_flatten}
+use Rattle.std.specs.Prelude.{◌≡◌, ◌≤◌, ◌<◌, ◌^◌, ℕ, List, [], length, map, Option, Some, None, position, slice_set}
 use Rattle.kmn_base.specs.declared.items.Item.{Item}
 use Rattle.kmn_base.specs.declared.items.Element.{Element}
 use Rattle.kmn_base.specs.declared.items.Element.TheVariants.{Char}
@@ -10,9 +9,7 @@ use Rattle.kmn_base.specs.declared.limits.TheConstants.{EVENT_PUTS, WINDOW_ITEMS
 use Rattle.kmn_base.specs.Lists.{read_again, window}
 use Rattle.rule_model.specs.declared.event_state.EventState.{EventState}
 use Rattle.rule_model.specs.declared.tables.Tables.{Tables}
-use Rattle.rule_model.specs.Content.{option_number}
 use Rattle.rule_model.specs.Event.{has_name}
-use Rattle.rule_model.specs.Keyboard.{StoreMeaning, Numbered}
 use Rattle.rule_model.specs.KeyEvent.{begin_event, after_key, outcome_of, inserted}
 use Rattle.rule_model.specs.Tab.{tab}
 use Rattle.rule_model.specs.Trace.{options_of, first_state}
@@ -112,7 +109,3 @@ with_option (Some option) value engine =
 -- the engine after the host set the option of a name
 abbrev pub set_by_host : List ℕ → List ℕ → EngineState → EngineState
 set_by_host name value engine = with_option (option_named name engine) (map Char value) engine
-
--- the saved value of a store, None where nothing is saved or the store is no option
-abbrev pub saved_of : List StoreMeaning → List (Option (List Element)) → ℕ → Option (List Element)
-saved_of stores saved store = option_and_then (λ option. option_flatten (slice_get saved option)) (option_number stores (Numbered store))

@@ -1,3 +1,2 @@
 pub mod Engine
 pub mod Event
-pub mod StoreValues

@@ -7,13 +7,11 @@ ghost use Rattle.rule_model.specs.Keyboard.{Numbered};
 ghost use Rattle.rule_model.specs.Plain.{option_numbers};
 ghost use Rattle.rule_model.specs.Tab.{tab};
 ghost use Rattle.rule_engine.specs.Engine.{IsAtWork, IsRunnable, engine_with, press_outcome, press_leaves};
-ghost use Rattle.rule_engine.specs.StoreValues.{elements_in};
+ghost use Rattle.rule_matching.specs.StoreValues.{elements_in};
 
-use crate::contents;
 use crate::entering::press;
 use crate::event::{Event, Pressed};
 use crate::naming::store_named;
-use crate::store_value::StoreValue;
 use context_cache::Cache;
 use event_text::Inserted;
 use file_parts::FileTables;
@@ -21,6 +19,7 @@ use kmn_base::{Item, KeyPress, Memory, Outcome};
 use kmx_verifier::Verified;
 use option_store::Options;
 use rule_index::IndexedKeyboard;
+use rule_matching::StoreValue;
 use std::alloc::Global;
 use std::marker::Model;
 use std::mem;
@@ -46,7 +45,8 @@ impl<'a> Model for Engine<'a> {
 }
 
 impl<'a> Engine<'a> {
-    ghost use Rattle.rule_engine.specs.Engine.{IsEngine, first_engine, option_named, saved_of, set_by_host, synced};
+    ghost use Rattle.rule_engine.specs.Engine.{IsEngine, first_engine, option_named, set_by_host, synced};
+    ghost use Rattle.rule_matching.specs.Moment.{saved_of};
 
     /// The engine of a file: an empty text, each option with its elements, and none saved.
     #[tactic(auto, using(crate::proofs::Runnable::playable_is_runnable, crate::proofs::Engines::first_is_at_work, crate::proofs::Engines::first_values))]
@@ -182,14 +182,14 @@ impl<'a> Engine<'a> {
     pub fn content(&self, store: u32) -> StoreValue<'_>
         ensures { elements_in result ≡ content (tab self.now.tables).stores self.now.current (Numbered store) }
     {
-        contents::content(&self.indexed, &self.options, store)
+        rule_matching::content(&self.indexed, &self.options, store)
     }
 
     /// The saved value of a store, None where nothing is saved or the store is no option.
     pub fn saved_of(&self, store: u32) -> Option<StoreValue<'_>>
         ensures { option_map elements_in result ≡ saved_of (tab self.now.tables).stores self.now.saved store }
     {
-        contents::saved_of(&self.indexed, &self.options, store)
+        rule_matching::saved_of(&self.indexed, &self.options, store)
     }
 
     /// What a store has where the stores hold this.
@@ -197,7 +197,7 @@ impl<'a> Engine<'a> {
         requires { length options.now ≡ length self.now.tables.stores }
         ensures { elements_in result ≡ content (tab self.now.tables).stores (option_values (tab self.now.tables).stores options.now) (Numbered store) }
     {
-        contents::content(&self.indexed, options, store)
+        rule_matching::content(&self.indexed, options, store)
     }
 
     /// The saved value of a store where the stores hold this.
@@ -205,7 +205,7 @@ impl<'a> Engine<'a> {
         requires { length options.now ≡ length self.now.tables.stores }
         ensures { option_map elements_in result ≡ saved_of (tab self.now.tables).stores (option_saves (tab self.now.tables).stores options.now) store }
     {
-        contents::saved_of(&self.indexed, options, store)
+        rule_matching::saved_of(&self.indexed, options, store)
     }
 }
 

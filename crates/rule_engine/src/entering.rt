@@ -7,18 +7,17 @@ ghost use Rattle.rule_model.specs.KeyEvent.{after_key};
 ghost use Rattle.rule_model.specs.Tab.{tab_output, tab_rule, tab_group};
 ghost use Rattle.rule_index.specs.Groups.{record_classes};
 ghost use Rattle.rule_index.specs.Rows.{IsIndexOf};
-ghost use Rattle.rule_engine.specs.Event.{keyboard_of, enters, AreShort};
+ghost use Rattle.rule_matching.specs.Moment.{AreShort};
+ghost use Rattle.rule_engine.specs.Event.{keyboard_of, enters};
 
-use crate::caught::Caught;
 use crate::defaults::by_default;
-use crate::elements::item_caught;
 use crate::event::Event;
-use crate::matching::chosen_in;
 use crate::outputs::{is_empty, put_any, put_context, put_index};
 use file_parts::{FileGroup, FileRule, Outputs};
 use kmn_base::limits::EVENT_ENTRIES;
 use kmn_base::{Item, KeyPress};
 use rule_index::RuleIndex;
+use rule_matching::{Caught, item_caught};
 use rule_model::Out;
 
 /// A press that enters groups, with so many entries inside one another that may still come.
@@ -145,7 +144,7 @@ fn do_group(entering: Entering, group: &FileGroup<'_>, records: &RuleIndex, even
           (chosen_in (keyboard_of event.old) entering.press (tab_group event.old.tables.stores group.now) event.old.state) event.old.state;
     } }
 {
-    match chosen_in(entering.press, event, group, records) {
+    match event.chosen_in(entering.press, group, records) {
         Some((rule, caught)) => do_chosen(entering, group, &rule, &caught, event),
         None => do_unmatched(entering, group, event),
     }

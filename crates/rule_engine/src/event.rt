@@ -1,24 +1,26 @@
-ghost use Rattle.std.specs.Prelude.{◌≡◌, ◌≤◌, ◌<◌, ◌+◌, ◌^◌, length, Some, true};
+ghost use Rattle.std.specs.Prelude.{◌≡◌, ◌≤◌, ◌<◌, ◌+◌, ◌^◌, length, option_map, Some, true};
 ghost use Rattle.kmn_base.specs.declared.limits.TheConstants.{EVENT_PUTS};
 ghost use Rattle.kmn_base.specs.Lists.{characters, window, without_last, read_again};
 ghost use Rattle.option_store.specs.Meaning.{option_values, option_saves};
 ghost use Rattle.rule_model.specs.Act.{one_more, put_item, set_current, save_current, reset_current};
 ghost use Rattle.rule_model.specs.Content.{option_number, elements_at};
-ghost use Rattle.rule_model.specs.Enter.{delete_or_pass};
+ghost use Rattle.rule_model.specs.Enter.{chosen_in, delete_or_pass};
 ghost use Rattle.rule_model.specs.Keyboard.{Numbered};
 ghost use Rattle.rule_model.specs.KeyEvent.{begin_event, deleted, inserted, outcome_of};
-ghost use Rattle.rule_model.specs.Tab.{tab, elements_of};
-ghost use Rattle.rule_engine.specs.Event.{HasShortContexts, content_in, keyboard_of};
-ghost use Rattle.rule_engine.specs.StoreValues.{elements_in};
+ghost use Rattle.rule_model.specs.Tab.{tab, elements_of, tab_group, tab_rule};
+ghost use Rattle.rule_index.specs.Groups.{record_classes};
+ghost use Rattle.rule_index.specs.Rows.{IsIndexOf};
+ghost use Rattle.rule_matching.specs.Moment.{AreShort};
+ghost use Rattle.rule_engine.specs.Event.{HasShortContexts, keyboard_of, moment_of};
 
-use crate::contents::content;
-use crate::store_value::StoreValue;
 use context_cache::Cache;
 use event_text::{Inserted, Left};
+use file_parts::{FileGroup, FileRule};
 use kmn_base::limits::EVENT_PUTS;
 use kmn_base::{Item, KeyPress, Outcome};
 use option_store::Options;
-use rule_index::IndexedKeyboard;
+use rule_index::{IndexedKeyboard, RuleIndex};
+use rule_matching::{Caught, Moment, first_held};
 use std::marker::Model;
 use virtual_keys::codes::K_BKSP;
 use virtual_keys::is_plain;
@@ -142,11 +144,11 @@ impl<'a> Event<'a> {
         self.indexed
     }
 
-    /// What a store has at this moment.
-    pub fn content(&self, store: u32) -> StoreValue<'_>
-        ensures { elements_in result ≡ content_in self.now (Numbered store) }
+    /// The keyboard at this moment.
+    pub fn moment(&self) -> Moment<'_>
+        ensures { result ≡ moment_of self.now }
     {
-        content(self.indexed, &self.options, store)
+        Moment::of(self.indexed, &self.options)
     }
 
     /// Whether the event's remaining effects are ended.
@@ -194,6 +196,25 @@ impl<'a> Event<'a> {
         self.left.copy_cache()
     }
 
+    /// The record of a group that goes first at this moment, and what it has caught. It is seen in the last 64 items, which
+    /// are filled in before.
+    #[tactic(auto, using(crate::proofs::Contexts::first_in_window), unfolding(rule_model::specs::Tab::tab))]
+    pub fn chosen_in<'g>(
+        &mut self,
+        press: KeyPress,
+        group: &FileGroup<'g>,
+        records: &RuleIndex,
+    ) -> Option<(FileRule<'g>, Caught)>
+        requires short { AreShort group.now.rules }
+        requires index { IsIndexOf (record_classes group.now) records.now }
+        ensures chosen { option_map (λ c. (tab_rule self.old.tables.stores group.now.using_keys c.0, c.1)) result ≡ chosen_in
+            (keyboard_of self.old) press (tab_group self.old.tables.stores group.now) self.old.state }
+        ensures same { self.new ≡ self.old }
+    {
+        let window = self.window();
+        first_held(&self.moment(), press, group, records, window.items())
+    }
+
     /// Takes the last items, at most as many as a window has.
     #[tactic(auto, using(crate::proofs::Windows::taken_from_window))]
     pub fn take(&mut self, count: usize)
@@ -231,7 +252,7 @@ impl<'a> Event<'a> {
     }
 
     /// What `set` does.
-    #[tactic(auto, using(crate::proofs::StoreContents::option_within, crate::proofs::OptionSteps::set_follows, crate::proofs::OptionSteps::nothing_set))]
+    #[tactic(auto, using(rule_matching::proofs::StoreContents::option_within, crate::proofs::OptionSteps::set_follows, crate::proofs::OptionSteps::nothing_set))]
     pub fn set_current(&mut self, store: u32, value: u32)
         ensures { self.new ≡ record self.old {
           state = set_current
@@ -244,7 +265,7 @@ impl<'a> Event<'a> {
     }
 
     /// What `save` does.
-    #[tactic(auto, using(crate::proofs::StoreContents::option_within, crate::proofs::OptionSteps::save_follows, crate::proofs::OptionSteps::nothing_saved))]
+    #[tactic(auto, using(rule_matching::proofs::StoreContents::option_within, crate::proofs::OptionSteps::save_follows, crate::proofs::OptionSteps::nothing_saved))]
     pub fn save_current(&mut self, store: u32)
         ensures { self.new ≡ record self.old {
           state = save_current
@@ -258,7 +279,7 @@ impl<'a> Event<'a> {
     }
 
     /// What `reset` does.
-    #[tactic(auto, using(crate::proofs::StoreContents::option_within, crate::proofs::OptionSteps::reset_follows, crate::proofs::OptionSteps::nothing_reset))]
+    #[tactic(auto, using(rule_matching::proofs::StoreContents::option_within, crate::proofs::OptionSteps::reset_follows, crate::proofs::OptionSteps::nothing_reset))]
     pub fn reset_current(&mut self, store: u32)
         ensures { self.new ≡ record self.old {
           state = reset_current

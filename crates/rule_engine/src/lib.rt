@@ -1,26 +1,21 @@
 //! The engine: presses keys on the tables of a compiled file, and tells the edit that each press makes in the text before
 //! the caret.
 //!
-//! It stands on `kmx_verifier`, which opens the file, on `rule_model`, whose `specs` say what a press does, on `rule_index`
-//! for what is looked up in the tables, on `file_parts`, which lends the file's parts where they lie, on `event_text` for the text before the caret and on `option_store` for the values of
-//! options. The layer above lends the text before the caret at each call, makes the edit in it, and does the editor's own
-//! default for a key that is passed on. It sees an engine as an `EngineState`: after `start` that is `first_engine` of the
-//! file's tables, `key` answers `press_outcome` and leaves `press_leaves`, `sync` leaves `synced`, and `setting` leaves
-//! `set_by_host`. All memory that a press needs is taken by `start`: `key` and `sync` take none and refuse nothing.
+//! It stands on `kmx_verifier`, which opens the file, on `rule_model`, whose `specs` say what a press does, on `rule_matching`
+//! for the record that goes first, on `rule_index` for what is looked up in the tables, on `file_parts`, which lends the file's
+//! parts where they lie, on `event_text` for the text before the caret and on `option_store` for the values of options. The
+//! layer above lends the text before the caret at each call, makes the edit in it, and does the editor's own default for a key
+//! that is passed on. It sees an engine as an `EngineState`: after `start` that is `first_engine` of the file's tables, `key`
+//! answers `press_outcome` and leaves `press_leaves`, `sync` leaves `synced`, and `setting` leaves `set_by_host`. All memory
+//! that a press needs is taken by `start`: `key` and `sync` take none and refuse nothing.
 #![tactic(auto)]
 
-mod caught;
-mod contents;
 mod defaults;
-mod elements;
 mod engine;
 mod entering;
 mod event;
-mod matching;
 mod naming;
 mod outputs;
-mod store_elements;
-mod store_value;
 
 pub use engine::Engine;
-pub use store_value::StoreValue;
+pub use rule_matching::StoreValue;

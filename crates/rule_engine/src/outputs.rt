@@ -4,11 +4,10 @@ ghost use Rattle.rule_model.specs.Match.{element_at};
 ghost use Rattle.rule_model.specs.Act.{put_items, item_list, put_element, items_caught, place_for_index};
 ghost use Rattle.rule_engine.specs.Event.{content_in};
 
-use crate::caught::Caught;
-use crate::elements::item_of;
 use crate::event::Event;
 use file_parts::Outputs;
 use kmn_base::{Element, Item};
+use rule_matching::{Caught, item_of};
 
 /// Whether an output has no items.
 pub fn is_empty(outputs: Outputs<'_>) -> bool
@@ -44,7 +43,7 @@ pub fn put_index(caught: &Caught, store: u32, offset: u32, event: &mut Event)
     } }
 {
     let place = caught.place_for_index(offset);
-    let element = event.content(store).element_at(place);
+    let element = event.moment().element_at(store, place);
     put_element(element, event);
 }
 

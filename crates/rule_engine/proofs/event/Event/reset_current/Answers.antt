@@ -5,7 +5,7 @@ use Rattle.rule_model.specs.Content.{option_number}
 use Rattle.rule_model.specs.Keyboard.{Numbered}
 use Rattle.rule_model.specs.Tab.{tab}
 use Rattle.rule_engine.proofs.OptionSteps.{event_after_reset}
-use Rattle.rule_engine.proofs.StoreContents.{is_option_within}
+use Rattle.rule_matching.proofs.StoreContents.{is_option_within}
 use Rattle.rule_engine.proofs.event.Event.reset_current.Goals as goal
 
 pub returns-then-is_some : goal.returns-then-is_some

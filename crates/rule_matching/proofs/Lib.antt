@@ -1,0 +1,5 @@
+pub mod Candidates
+pub mod Catches
+pub mod Contexts
+pub mod Lying
+pub mod StoreContents

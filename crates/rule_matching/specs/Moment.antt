@@ -1,0 +1,37 @@
+-- A keyboard at a moment, and which of its records hold then.
+use Rattle.std.specs.Prelude.{◌≤◌, ℕ, List, length, All, Option, Some, None, option_map, option_and_then, slice_get}
+use Rattle.std.specs.Option.{option_flatten}
+use Rattle.kmn_base.specs.declared.limits.TheConstants.{CONTEXT_ITEMS}
+use Rattle.kmn_base.specs.declared.items.Item.{Item}
+use Rattle.kmn_base.specs.declared.items.Element.{Element}
+use Rattle.kmn_base.specs.declared.keys.KeyPress.{KeyPress}
+use Rattle.rule_model.specs.declared.tables.Rule.{Rule}
+use Rattle.rule_model.specs.declared.tables.Tables.{Tables}
+use Rattle.rule_model.specs.Content.{content, option_number}
+use Rattle.rule_model.specs.Keyboard.{Numbered, RuleMeaning, StoreMeaning}
+use Rattle.rule_model.specs.Match.{Content}
+use Rattle.rule_model.specs.Hold.{holds}
+use Rattle.rule_model.specs.Choose.{Chosen}
+use Rattle.rule_model.specs.Tab.{tab}
+
+-- tables, and the current value of each option at this moment
+pub record MomentValue : Type 0 where
+  pub tables : Tables
+  pub current : List (List Element)
+
+-- what each store has at this moment
+abbrev pub content_at : MomentValue → Content
+content_at moment = content (tab moment.tables).stores moment.current
+
+-- the saved value of a store, None where nothing is saved or the store is no option
+abbrev pub saved_of : List StoreMeaning → List (Option (List Element)) → ℕ → Option (List Element)
+saved_of stores saved store = option_and_then (λ option. option_flatten (slice_get saved option)) (option_number stores (Numbered store))
+
+-- a record that there may be, with what it catches, where it holds on a list
+abbrev pub held_record : Content → List Item → KeyPress → Option RuleMeaning → Option Chosen
+held_record content left press None = None
+held_record content left press (Some rule) = option_map (λ caught. (rule, caught)) (holds content left press rule)
+
+-- no context has more items than are caught
+abbrev pub AreShort : List Rule → Type 0
+AreShort rules = All (λ rule. length rule.context ≤ CONTEXT_ITEMS) rules

@@ -1,0 +1,11 @@
+-- What a store has, where it lies.
+use Rattle.std.specs.Prelude.{List, map}
+use Rattle.kmn_base.specs.declared.items.Element.{Element}
+use Rattle.kmn_base.specs.declared.items.Element.TheVariants.{Char}
+use Rattle.rule_matching.specs.declared.store_value.StoreValue.{StoreValue}
+use Rattle.rule_matching.specs.declared.store_value.StoreValue.TheVariants.{Elements, Text}
+
+-- the elements, or the characters of a text as elements
+abbrev pub elements_in : StoreValue → List Element
+elements_in (Elements elements) = elements
+elements_in (Text text) = map Char text.now

@@ -1,0 +1,79 @@
+ghost use Rattle.std.specs.Prelude.{◌≡◌, ◌<◌, length, option_map};
+ghost use Rattle.option_store.specs.Cells.{held_value, cell_at};
+ghost use Rattle.option_store.specs.Meaning.{stated, option_values, option_saves};
+ghost use Rattle.option_store.specs.declared.options.Held.TheVariants.{Host};
+ghost use Rattle.rule_model.specs.Content.{content};
+ghost use Rattle.rule_model.specs.Keyboard.{Numbered};
+ghost use Rattle.rule_model.specs.Tab.{elements_of, tab};
+ghost use Rattle.rule_matching.specs.Moment.{saved_of};
+ghost use Rattle.rule_matching.specs.StoreValues.{elements_in};
+
+use crate::store_elements::StoreElements;
+use crate::store_value::StoreValue;
+use option_store::{Held, Options};
+use rule_index::IndexedKeyboard;
+
+/// The elements of a store, none where there is no such store.
+pub fn elements_of<'c>(indexed: &IndexedKeyboard<'c>, store: u32) -> StoreValue<'c>
+    ensures { elements_in result ≡ elements_of indexed.now.stores store }
+{
+    StoreValue::Elements(StoreElements::of(indexed.elements(store)))
+}
+
+/// What is held for a store: the elements of a store of the tables, or the host's text.
+#[tactic(auto, using(crate::proofs::StoreContents::elements_held))]
+fn held<'c>(
+    indexed: &'c IndexedKeyboard,
+    options: &'c Options,
+    store: u32,
+    held: Held,
+) -> StoreValue<'c>
+    requires { held ≡ Host → store < length options.now }
+    ensures { elements_in result ≡ held_value (stated (tab indexed.now).stores) (cell_at options.now store).text held }
+{
+    match held {
+        Held::Store(value) => elements_of(indexed, value),
+        Held::Host => StoreValue::Text(options.host_text(store)),
+    }
+}
+
+/// What a store holds at a moment: the current value of an option, else itself.
+#[tactic(auto, using(crate::proofs::StoreContents::option_within, crate::proofs::StoreContents::current_is_content, crate::proofs::StoreContents::itself_is_content))]
+pub fn held_now(indexed: &IndexedKeyboard, options: &Options, store: u32) -> Held
+    requires { length options.now ≡ length indexed.now.stores }
+    ensures value { held_value (stated (tab indexed.now).stores) (cell_at options.now store).text result
+        ≡ content (tab indexed.now).stores (option_values (tab indexed.now).stores options.now) (Numbered store) }
+    ensures option { result ≡ Host → store < length options.now }
+{
+    match indexed.option_number(store) {
+        Some(_) => options.current(store),
+        None => Held::Store(store),
+    }
+}
+
+/// What a store has at a moment: the current value of an option, else its elements; nothing where there is no such store.
+pub fn content<'c>(indexed: &'c IndexedKeyboard, options: &'c Options, store: u32) -> StoreValue<'c>
+    requires { length options.now ≡ length indexed.now.stores }
+    ensures { elements_in result ≡ content (tab indexed.now).stores (option_values (tab indexed.now).stores options.now) (Numbered store) }
+{
+    held(indexed, options, store, held_now(indexed, options, store))
+}
+
+/// The saved value of a store, None where nothing is saved or the store is no option.
+#[tactic(auto, using(crate::proofs::StoreContents::option_within, crate::proofs::StoreContents::saved_is_of, crate::proofs::StoreContents::unsaved_is_of))]
+pub fn saved_of<'c>(
+    indexed: &'c IndexedKeyboard,
+    options: &'c Options,
+    store: u32,
+) -> Option<StoreValue<'c>>
+    requires { length options.now ≡ length indexed.now.stores }
+    ensures { option_map elements_in result ≡ saved_of (tab indexed.now).stores (option_saves (tab indexed.now).stores options.now) store }
+{
+    if indexed.option_number(store).is_none() {
+        return None;
+    }
+    match options.saved(store) {
+        Some(saved) => Some(held(indexed, options, store, saved)),
+        None => None,
+    }
+}

@@ -1,0 +1,241 @@
+ghost use Rattle.std.specs.Prelude.{◌≡◌, ◌≤◌, [], Some, None, IsTrue, length, map, option_map, slice_get, if◌then◌else◌};
+ghost use Rattle.std.specs.List.{list_all, list_any};
+ghost use Rattle.kmn_base.specs.declared.limits.TheConstants.{CONTEXT_ITEMS};
+ghost use Rattle.rule_model.specs.Match.{takes_item, matches, place_for, catches_from};
+ghost use Rattle.rule_model.specs.Hold.{is_true, is_at_start, pattern_count, has_room, caught_by, holds};
+ghost use Rattle.rule_model.specs.Choose.{first};
+ghost use Rattle.rule_model.specs.Tab.{tab_pattern, tab_rule};
+ghost use Rattle.rule_model.specs.Plain.{caught_last};
+ghost use Rattle.rule_index.specs.Groups.{record_classes};
+ghost use Rattle.rule_index.specs.Rows.{IsIndexOf};
+ghost use Rattle.rule_matching.specs.Moment.{content_at, held_record, AreShort};
+
+use crate::caught::{Caught, Found};
+use crate::elements::{is_element, is_item, is_same, item_caught, place_caught};
+use crate::moment::Moment;
+use arrayvec::ArrayVec;
+use file_parts::{FileGroup, FileRule, Patterns};
+use kmn_base::{Element, Item, KeyPress, RuleKey};
+use rule_index::{RuleIndex, wanted_classes};
+use rule_model::Pat;
+use virtual_keys::fits;
+
+/// Whether a pattern looks at an item of the text, whatever the stores are.
+fn takes_item(pattern: Pat) -> bool
+    ensures { result ≡ takes_item (tab_pattern [] pattern) }
+{
+    !matches!(&pattern, Pat::Equal(..) | Pat::Unequal(..) | Pat::Nul)
+}
+
+/// Whether an item stands to a pattern as the pattern asks, behind what was caught so far.
+fn matches(moment: &Moment<'_>, seen: &[Found], pattern: Pat, item: Item) -> bool
+    ensures { result ≡ matches (content_at moment.now) seen.now (tab_pattern moment.now.tables.stores pattern) item }
+{
+    match pattern {
+        Pat::Char(c) => is_item(item, Element::Char(c)),
+        Pat::Mark(m) => is_item(item, Element::Mark(m)),
+        Pat::Any(store) => moment.place_of(store, item).is_some(),
+        Pat::NotAny(store) => moment.place_of(store, item).is_none(),
+        Pat::Index(store, offset) => {
+            let place = place_caught(seen, offset);
+            is_element(item, moment.element_at(store, place))
+        }
+        Pat::ContextAt(offset) => is_same(item, item_caught(seen, offset)),
+        Pat::Equal(..) | Pat::Unequal(..) | Pat::Nul => true,
+    }
+}
+
+/// The place that a pattern catches of an item that it matches.
+fn place_for(moment: &Moment<'_>, pattern: Pat, item: Item) -> Option<usize>
+    ensures { result ≡ place_for (content_at moment.now) (tab_pattern moment.now.tables.stores pattern) item }
+{
+    match pattern {
+        Pat::Any(store) => moment.place_of(store, item),
+        _ => None,
+    }
+}
+
+/// What the patterns of a record's context catch of a text.
+fn caught_of(moment: &Moment<'_>, rule: &FileRule<'_>, text: &[Item]) -> Option<ArrayVec<Found, 60>>
+    requires { length rule.now.context ≤ CONTEXT_ITEMS }
+    ensures { option_map (λ seen. seen.items) result ≡ catches_from
+        (content_at moment.now) [] (map (tab_pattern moment.now.tables.stores) rule.now.context) text.now }
+{
+    let mut seen = ArrayVec::new();
+    let mut rest = text;
+    for pattern in rule.context() {
+        if !takes_item(pattern) {
+            seen.push(Found {
+                item: None,
+                place: None,
+            });
+            continue;
+        }
+        let [item, behind @ ..] = rest else {
+            return None;
+        };
+        if !matches(moment, seen.as_slice(), pattern, *item) {
+            return None;
+        }
+        seen.push(Found {
+            item: Some(*item),
+            place: place_for(moment, pattern, *item),
+        });
+        rest = behind;
+    }
+    if rest.is_empty() { Some(seen) } else { None }
+}
+
+/// Whether a condition is true at a moment; any other item of a context is none.
+fn is_true(moment: &Moment<'_>, pattern: Pat) -> bool
+    ensures { result ≡ is_true (content_at moment.now) (tab_pattern moment.now.tables.stores pattern) }
+{
+    match pattern {
+        Pat::Equal(store, value) => moment.is_same(store, value),
+        Pat::Unequal(store, value) => !moment.is_same(store, value),
+        _ => true,
+    }
+}
+
+/// Whether the conditions of a context are true at a moment.
+fn conditions_hold(moment: &Moment<'_>, context: Patterns<'_>) -> bool
+    ensures { result ≡ list_all (is_true (content_at moment.now)) (map (tab_pattern moment.now.tables.stores) context.entry) }
+{
+    for pattern in context {
+        if !is_true(moment, pattern) {
+            return false;
+        }
+    }
+    true
+}
+
+/// How many items of the text the context of a record looks at, whatever its stores are.
+#[tactic(auto, using(crate::proofs::Contexts::counted, crate::proofs::Contexts::uncounted))]
+fn pattern_count(rule: &FileRule<'_>) -> usize
+    requires { length rule.now.context ≤ CONTEXT_ITEMS }
+    ensures { result ≡ pattern_count (map (tab_pattern []) rule.now.context) }
+{
+    let mut count = 0;
+    for pattern in rule.context() {
+        if takes_item(pattern) {
+            count += 1;
+        }
+    }
+    count
+}
+
+/// Whether a context has a `nul`.
+fn has_nul(context: Patterns<'_>) -> bool
+    ensures { result ≡ list_any is_at_start (map (tab_pattern []) context.entry) }
+{
+    for pattern in context {
+        if pattern == Pat::Nul {
+            return true;
+        }
+    }
+    false
+}
+
+/// Whether a list has room for the context of a record, and with a `nul` nothing more.
+fn has_room(rule: &FileRule<'_>, left: &[Item]) -> bool
+    requires { length rule.now.context ≤ CONTEXT_ITEMS }
+    ensures value { result ≡ has_room (map (tab_pattern []) rule.now.context) left.now }
+    ensures enough { IsTrue result → pattern_count (map (tab_pattern []) rule.now.context) ≤ length left.now }
+{
+    let count = pattern_count(rule);
+    if has_nul(rule.context()) {
+        left.len() == count
+    } else {
+        count <= left.len()
+    }
+}
+
+/// What the context of a record catches of the last items of a list, where it has room.
+fn caught_last(
+    moment: &Moment<'_>,
+    rule: &FileRule<'_>,
+    left: &[Item],
+) -> Option<ArrayVec<Found, 60>>
+    requires { length rule.now.context ≤ CONTEXT_ITEMS }
+    ensures { option_map (λ seen. seen.items) result ≡ caught_last
+        (content_at moment.now) (map (tab_pattern moment.now.tables.stores) rule.now.context) left.now }
+{
+    if !has_room(rule, left) {
+        return None;
+    }
+    caught_of(moment, rule, &left[left.len() - pattern_count(rule)..])
+}
+
+/// The key of a record; in a group without keys each press fits.
+fn key_of(using_keys: bool, rule: &FileRule<'_>) -> RuleKey
+    ensures { result ≡ (if using_keys then rule.now.key else RuleKey.Any) }
+{
+    if using_keys { rule.key() } else { RuleKey::Any }
+}
+
+/// What was caught with a key that is no store.
+fn with_key(found: Option<ArrayVec<Found, 60>>) -> Option<Caught>
+    ensures { result ≡ caught_by (option_map (λ seen. seen.items) found) (Some None) }
+{
+    Some(Caught::of(found?))
+}
+
+/// What a record has caught where it holds on a list at a moment.
+fn holds(
+    moment: &Moment<'_>,
+    press: KeyPress,
+    using_keys: bool,
+    rule: &FileRule<'_>,
+    left: &[Item],
+) -> Option<Caught>
+    requires { length rule.now.context ≤ CONTEXT_ITEMS }
+    ensures { result ≡ holds (content_at moment.now) left.now press (tab_rule moment.now.tables.stores using_keys rule.now) }
+{
+    if !conditions_hold(moment, rule.context()) || !fits(key_of(using_keys, rule), press) {
+        return None;
+    }
+    with_key(caught_last(moment, rule, left))
+}
+
+/// The record of a number with what it has caught, where there is one that holds on a list at a moment.
+#[tactic(auto, using(crate::proofs::Contexts::short_in_rules))]
+fn held_record<'g>(
+    moment: &Moment<'_>,
+    press: KeyPress,
+    group: &FileGroup<'g>,
+    number: u32,
+    left: &[Item],
+) -> Option<(FileRule<'g>, Caught)>
+    requires { AreShort group.now.rules }
+    ensures { option_map (λ c. (tab_rule moment.now.tables.stores group.now.using_keys c.0, c.1)) result ≡ held_record
+        (content_at moment.now) left.now press (option_map (tab_rule moment.now.tables.stores group.now.using_keys) (slice_get group.now.rules number)) }
+{
+    let rule = group.rule(number)?;
+    let caught = holds(moment, press, group.using_keys(), &rule, left)?;
+    Some((rule, caught))
+}
+
+/// The first record of a group that holds on a list at a moment, and what it has caught. Only those are tried that their
+/// index names for the press and the last item: no other can hold.
+pub fn first_held<'g>(
+    moment: &Moment<'_>,
+    press: KeyPress,
+    group: &FileGroup<'g>,
+    records: &RuleIndex,
+    left: &[Item],
+) -> Option<(FileRule<'g>, Caught)>
+    requires short { AreShort group.now.rules }
+    requires index { IsIndexOf (record_classes group.now) records.now }
+    ensures { option_map (λ c. (tab_rule moment.now.tables.stores group.now.using_keys c.0, c.1)) result ≡ first
+        (holds (content_at moment.now) left.now press) (map (tab_rule moment.now.tables.stores group.now.using_keys) group.now.rules) }
+{
+    let wanted = wanted_classes(press, left);
+    let mut from = 0;
+    while let Some(number) = records.next_candidate(&wanted, from) {
+        if let Some(chosen) = held_record(moment, press, group, number, left) {
+            return Some(chosen);
+        }
+        from = number + 1;
+    }
+    None
+}
