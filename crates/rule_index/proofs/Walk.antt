@@ -57,7 +57,7 @@ module _ (rows : List Row) (from k : ℕ) (olds heads : List Head) (d moved : He
     (same : map class_of_head heads ≡ map class_of_head olds) (stand : HeadsStand rows from olds → HeadsStand rows from heads)
     (class : moved.class ≡ (slice_index_or heads k d).class)
     (starts : (classes : List ℕ) → IsIndexOf classes rows → HeadStands rows from (slice_index_or heads k d)
-        → StartsAt (ranked (slice_index_or heads k d).class from) rows moved.place) where
+    → StartsAt (ranked (slice_index_or heads k d).class from) rows moved.place) where
   pub wanted_after : map class_of_head (slice_set heads k moved) ≡ map class_of_head olds
   wanted_after = map-set_same class_of_head heads k moved d class ∙ same
 

@@ -1,4 +1,4 @@
-use Rattle.std.proofs.Common.{sym, ◌∙◌, arith}
+use Rattle.std.proofs.Common.{sym, arith}
 use Rattle.std.proofs.lemmas.Bool.Decides.{nat_tests}
 use Rattle.rule_index.proofs.Walk.{starts_at_row, starts_at_end}
 use Rattle.rule_index.proofs.rows.place_behind.Goals as goal
