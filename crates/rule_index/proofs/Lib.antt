@@ -6,3 +6,4 @@ pub mod Numbering
 pub mod OwnNames
 pub mod Places
 pub mod Skipping
+pub mod Walk

@@ -6,3 +6,4 @@ pub mod Next
 pub mod OwnNames
 pub mod Rows
 pub mod Values
+pub mod Walk

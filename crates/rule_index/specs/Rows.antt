@@ -32,9 +32,13 @@ pub record IsIndexOf (classes : List ℕ) (rows : List Row) : Type 0 where
   pub right : All (λ row. row.class ≡ slice_index_or classes row.number 0) rows
   pub complete : (n : ℕ) → n < length classes → HasRow classes rows n
 
+-- the rows before a place have ranks less than a start
+abbrev pub AreBefore : ℕ → List Row → ℕ → Type 0
+AreBefore start rows place = (k : ℕ) (d : Row) → k < place → k < length rows → rank (slice_index_or rows k d) < start
+
 -- the rows whose rank is less than a start end at a place
 pub record StartsAt (start : ℕ) (rows : List Row) (place : ℕ) : Type 0 where
-  pub before : (k : ℕ) (d : Row) → k < place → k < length rows → rank (slice_index_or rows k d) < start
+  pub before : AreBefore start rows place
   pub behind : (k : ℕ) (d : Row) → place ≤ k → k < length rows → start ≤ rank (slice_index_or rows k d)
 
 -- the number of a row that there may be, where it has a class

@@ -5,15 +5,18 @@
 //! makes an `IndexedKeyboard` of `FileTables`, which has once and for all what is looked up: an index of each group's records
 //! (`specs/Groups`), the option number of each store (`indexed_tables`), and the names of own keys (`specs/OwnNames`); it
 //! hands out groups and elements as the file has them. The layer above asks `wanted_classes` of a press and the list before
-//! the caret, and tries the records that `next_candidate` of a group's `RuleIndex` answers, in the file's order. A `PlaceIndex`
-//! of a store answers the place that `any` catches, and `value_numbers` numbers values so that conditions compare numbers.
-//! `specs/Classes` says by what a record can be met, `specs/Next` which record is the next candidate. The laws stand in
-//! `laws`: a record that holds is among the wanted ones, so the first record that holds is the first candidate that does.
+//! the caret, and tries the records that the `Candidates` of a group's `RuleIndex` answer, in the file's order: the rows are
+//! searched when the walk begins, and from then on passed one by one. A `PlaceIndex` of a store answers the place that `any`
+//! catches, and `value_numbers` numbers values so that conditions compare numbers. `specs/Classes` says by what a record can be
+//! met, `specs/Next` which record is the next candidate, `specs/Walk` from where a walk goes on. The laws stand in `laws`: a
+//! record that holds is among the wanted ones, so the first record that holds is the first candidate that does.
 #![tactic(auto)]
 
+mod candidates;
 mod class;
 mod classes;
 mod elements;
+mod head;
 mod indexed_keyboard;
 pub mod laws;
 mod options;
@@ -26,6 +29,7 @@ mod rule_index;
 mod tests;
 mod values;
 
+pub use candidates::Candidates;
 pub use class::Class;
 pub use classes::wanted_classes;
 pub use indexed_keyboard::IndexedKeyboard;

@@ -1,7 +1,7 @@
-ghost use Rattle.std.specs.Prelude.{◌≡◌, ◌<◌, ◌≤◌, ◌+◌, ◌*◌, ℕ, List, IfOk, length, slice_get, nat_lt};
+ghost use Rattle.std.specs.Prelude.{◌≡◌, ◌≤◌, ◌+◌, ◌*◌, ℕ, List, IfOk, length, slice_get, nat_lt};
 ghost use Rattle.std.specs.List.Sorted.{IsNonDecreasingBy};
 ghost use Rattle.kmn_base.specs.declared.limits.TheConstants.{RECORDS};
-ghost use Rattle.rule_index.specs.Rows.{rank, ranked, AreNumbered, IsIndexOf, StartsAt, number_if};
+ghost use Rattle.rule_index.specs.Rows.{rank, ranked, AreNumbered, AreBefore, IsIndexOf, StartsAt, number_if};
 ghost use Rattle.rule_index.specs.Next.{IsFirstOf};
 
 use crate::class::Class;
@@ -10,8 +10,8 @@ use kmn_base::Memory;
 use std::alloc::Global;
 
 /// A class and a number as one number, by which rows are sorted.
-fn rank_of(class: Class, number: u32) -> u64
-    requires { number < 131072 }
+pub fn rank_of(class: Class, number: u32) -> u64
+    requires { number ≤ 131072 }
     ensures { result ≡ ranked class number }
 {
     class.number() * 131_072 + u64::from(number)
@@ -54,7 +54,7 @@ pub fn rows_of(alloc: Global, classes: &[Class]) -> Result<Vec<Row>, Memory>
 }
 
 /// The number of a row that there may be, where it has a class.
-fn number_if(row: Option<Row>, class: Class) -> Option<u32>
+pub fn number_if(row: Option<Row>, class: Class) -> Option<u32>
     ensures { result ≡ number_if class row }
 {
     match row {
@@ -64,14 +64,14 @@ fn number_if(row: Option<Row>, class: Class) -> Option<u32>
 }
 
 /// The row at a place, None where there is none.
-fn row_at(rows: &[Row], place: usize) -> Option<Row>
+pub fn row_at(rows: &[Row], place: usize) -> Option<Row>
     ensures { result ≡ slice_get rows.now place }
 {
     rows.get(place).copied()
 }
 
 /// The place of the first row whose rank is no less.
-fn place_from(rows: &[Row], start: u64) -> usize
+pub fn place_from(rows: &[Row], start: u64) -> usize
     ensures { (sorted : IsNonDecreasingBy rank rows.now) → StartsAt start rows.now result }
 {
     rows.partition_point(
@@ -79,6 +79,20 @@ fn place_from(rows: &[Row], start: u64) -> usize
             ensures { result ≡ nat_lt (rank row.now) start }
         { rank(row) < start },
     )
+}
+
+/// The place of the first row whose rank is no less, gone to step by step from a place before which all are less.
+pub fn place_behind(rows: &[Row], passed: usize, start: u64) -> usize
+    ensures { (sorted : IsNonDecreasingBy rank rows.now) → AreBefore start rows.now passed → StartsAt start rows.now result }
+{
+    let mut place = passed;
+    while let Some(row) = row_at(rows, place) {
+        if start <= rank(&row) {
+            break;
+        }
+        place += 1;
+    }
+    place
 }
 
 /// The first number from one on that has a class.

@@ -33,26 +33,17 @@ const FILE: [u8; 360] = [
     0xFF, 0xFF, 0x15, 0, 3, 0, 0, 0,
 ];
 
-/// Whether the group has keys, a press by code and modifiers, the list before the caret, a number, and the first
-/// candidate from it on.
-type Asked = (bool, u16, u16, &'static [Item], u32, Option<u32>);
+/// Whether the group has keys, a press by code and modifiers, the list before the caret, and all candidates.
+type Asked = (bool, u16, u16, &'static [Item], &'static [u32]);
 
-const CANDIDATES: [Asked; 15] = [
-    (true, 65, 0, &[Char('x')], 0, Some(0)),
-    (true, 65, 0, &[Char('x')], 1, Some(1)),
-    (true, 65, 0, &[Char('x')], 2, Some(4)),
-    (true, 65, 0, &[Char('x')], 5, Some(5)),
-    (true, 65, 0, &[Char('x')], 6, None),
-    (true, 65, 0, &[], 1, Some(4)),
-    (true, 65, 0, &[], 5, None),
-    (true, 65, 16, &[Char('x'), Mark(1)], 0, Some(2)),
-    (true, 65, 16, &[Char('x'), Mark(1)], 3, Some(3)),
-    (true, 65, 16, &[Char('x'), Mark(1)], 4, Some(4)),
-    (true, 65, 16, &[Mark(2)], 0, Some(3)),
-    (true, 65, 1, &[Char('x')], 0, Some(4)),
-    (true, 66, 0, &[Char('x')], 0, None),
-    (false, 112, 0, &[Char('x')], 1, Some(1)),
-    (false, 112, 0, &[Char('x')], 2, Some(3)),
+const CANDIDATES: [Asked; 7] = [
+    (true, 65, 0, &[Char('x')], &[0, 1, 4, 5]),
+    (true, 65, 0, &[], &[0, 4]),
+    (true, 65, 16, &[Char('x'), Mark(1)], &[2, 3, 4]),
+    (true, 65, 16, &[Mark(2)], &[3, 4]),
+    (true, 65, 1, &[Char('x')], &[4]),
+    (true, 66, 0, &[Char('x')], &[]),
+    (false, 112, 0, &[Char('x')], &[0, 1, 3, 4, 5]),
 ];
 
 /// Items and their first places among `ab`, mark 1, a virtual key, and `ab` again.
@@ -74,12 +65,17 @@ fn index_of(alloc: Global, file: &FileTables<'_>, number: u32) -> Result<RuleInd
     }
 }
 
-/// Whether the answer to a row of the table is the one that it has.
+/// Whether the candidates of a row of the table are those that it has.
 fn answers(with_keys: &RuleIndex, without_keys: &RuleIndex, asked: Asked) -> bool {
-    let (using_keys, code, mods, left, from, candidate) = asked;
-    let wanted = wanted_classes(KeyPress { code, mods }, left);
+    let (using_keys, code, mods, left, numbers) = asked;
     let index = if using_keys { with_keys } else { without_keys };
-    index.next_candidate(&wanted, from.min(6)) == candidate
+    let mut candidates = index.candidates(&wanted_classes(KeyPress { code, mods }, left));
+    for number in numbers {
+        if candidates.next() != Some(*number) {
+            return false;
+        }
+    }
+    candidates.next().is_none()
 }
 
 /// Whether values have these numbers.

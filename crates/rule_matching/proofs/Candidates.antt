@@ -1,5 +1,5 @@
 -- The records that are tried: the next candidate is the first that can hold, and behind the last one none holds.
-use Rattle.std.proofs.Common.{◌≡◌, ℕ, zero, suc, ◌+◌, ◌<◌, ◌≤◌, Bool, List, [], ◌∷◌, length, drop, map, get_or, Some, None, Option, refl, sym, ◌∙◌, ap, arith}
+use Rattle.std.proofs.Common.{◌≡◌, ℕ, zero, suc, ◌+◌, ◌<◌, ◌≤◌, Bool, List, [], ◌∷◌, length, drop, map, get_or, Some, None, Option, refl, sym, ◌∙◌, ap, subst, arith}
 use Rattle.std.specs.Prelude.{option_map, slice_get}
 use Rattle.std.proofs.lemmas.List.{drop_all, drop_more, get_or-map, length-map}
 use Rattle.kmn_base.specs.declared.items.Item.{Item}
@@ -12,14 +12,26 @@ use Rattle.rule_model.specs.Choose.{Chosen, first, first_with}
 use Rattle.rule_model.specs.Match.{Content}
 use Rattle.rule_model.specs.Hold.{holds}
 use Rattle.rule_model.specs.Tab.{tab_rule}
+use Rattle.rule_index.specs.declared.row.Row.{Row}
 use Rattle.rule_index.specs.Classes.{rule_class, wanted_classes}
 use Rattle.rule_index.specs.Next.{IsNext, IsTheNext, NoneIsLeft}
+use Rattle.rule_index.specs.Rows.{IsIndexOf}
+use Rattle.rule_index.specs.Walk.{CandidatesValue}
 use Rattle.rule_index.proofs.Skipping.{first_is_candidate}
 use Rattle.rule_matching.specs.Moment.{held_record}
 
 -- what each record can be met by
 abbrev pub classes_of : Bool → List Rule → List ℕ
 classes_of using_keys rules = map (λ (rule : Rule). rule_class (tab_rule [] using_keys rule)) rules
+
+-- a walk over the records that are wanted answers the next candidate
+pub walked : (walk : CandidatesValue) (records : List Row) (press : KeyPress) (left : List Item) (using_keys : Bool) (rules : List Rule) (result : Option ℕ)
+    → walk.rows ≡ records → walk.wanted ≡ wanted_classes press left → IsIndexOf (classes_of using_keys rules) records
+    → ((classes : List ℕ) → IsIndexOf classes walk.rows → IsNext walk.wanted (length walk.wanted) classes walk.from result)
+    → IsNext (wanted_classes press left) 6 (classes_of using_keys rules) walk.from result
+walked walk records press left using_keys rules result rows wanted index next =
+    subst (λ (classes : List ℕ). IsNext classes (length classes) (classes_of using_keys rules) walk.from result) wanted
+    (next (classes_of using_keys rules) (subst (IsIndexOf (classes_of using_keys rules)) (sym rows) index))
 
 -- the first that holds of the records from a number on
 abbrev pub first_from : Content → List Item → KeyPress → List Store → Bool → List Rule → ℕ → Option Chosen

@@ -229,13 +229,11 @@ pub fn first_held<'g>(
     ensures { option_map (λ c. (tab_rule moment.now.tables.stores group.now.using_keys c.0, c.1)) result ≡ first
         (holds (content_at moment.now) left.now press) (map (tab_rule moment.now.tables.stores group.now.using_keys) group.now.rules) }
 {
-    let wanted = wanted_classes(press, left);
-    let mut from = 0;
-    while let Some(number) = records.next_candidate(&wanted, from) {
+    let mut candidates = records.candidates(&wanted_classes(press, left));
+    while let Some(number) = candidates.next() {
         if let Some(chosen) = held_record(moment, press, group, number, left) {
             return Some(chosen);
         }
-        from = number + 1;
     }
     None
 }

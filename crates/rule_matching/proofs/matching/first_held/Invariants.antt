@@ -1,14 +1,17 @@
 use Rattle.std.proofs.Common.{◌≡◌, ◌≤◌, ◌-◌, length}
+use Rattle.rule_index.specs.Classes.{wanted_classes}
 use Rattle.rule_matching.specs.Moment.{content_at}
 use Rattle.rule_matching.proofs.Candidates.{first_from}
 use Rattle.rule_matching.proofs.matching.first_held.Given as goal
 
 abbrev pub invariant-loop-number : goal.invariant-loop-number
 invariant-loop-number l = record {
-  within : l.from ≤ length l.group.rules;
-  same : first_from (content_at l.moment) l.left l.press l.moment.tables.stores l.group.using_keys l.group.rules l.from
+  rows : l.candidates.rows ≡ l.records;
+  wanted : l.candidates.wanted ≡ wanted_classes l.press l.left;
+  within : l.candidates.from ≤ length l.group.rules;
+  same : first_from (content_at l.moment) l.left l.press l.moment.tables.stores l.group.using_keys l.group.rules l.candidates.from
       ≡ first_from (content_at l.moment) l.left l.press l.moment.tables.stores l.group.using_keys l.group.rules 0;
 }
 
 abbrev pub decreases-loop-number : goal.decreases-loop-number
-decreases-loop-number l = length l.group.rules - l.from
+decreases-loop-number l = length l.group.rules - l.candidates.from

@@ -1,0 +1,48 @@
+ghost use Rattle.std.specs.Prelude.{◌≡◌, ◌<◌, ◌≤◌, ℕ, List, IfSome, slice_get};
+ghost use Rattle.rule_index.specs.Rows.{ranked, number_if, IsIndexOf, StartsAt};
+ghost use Rattle.rule_index.specs.Walk.{HeadStands};
+
+use crate::class::Class;
+use crate::row::Row;
+use crate::rows::{number_if, place_behind, place_from, rank_of, row_at};
+
+/// A wanted class, and a place before which no row is left of it.
+#[derive(Clone, Copy, Drop)]
+pub struct Head {
+    pub class: Class,
+    pub place: usize,
+}
+
+impl Head {
+    /// The head of a class, at its first row.
+    pub fn of(rows: &[Row], class: Class) -> Head
+        ensures class { result.class ≡ class }
+        ensures stands { HeadStands rows.now 0 result }
+    {
+        Head {
+            class,
+            place: place_from(rows, rank_of(class, 0)),
+        }
+    }
+
+    /// The head at the first row whose number is no less than one.
+    pub fn behind(&self, rows: &[Row], from: u32) -> Head
+        requires { from ≤ 131072 }
+        ensures class { result.class ≡ self.now.class }
+        ensures starts { (classes : List ℕ) → IsIndexOf classes rows.now → HeadStands rows.now from self.now
+            → StartsAt (ranked self.now.class from) rows.now result.place }
+    {
+        Head {
+            class: self.class,
+            place: place_behind(rows, self.place, rank_of(self.class, from)),
+        }
+    }
+
+    /// The number of the row where the head is, where it has the class.
+    pub fn number(&self, rows: &[Row]) -> Option<u32>
+        ensures value { result ≡ number_if self.now.class (slice_get rows.now self.now.place) }
+        ensures small { IfSome result (λ number. number < 131072) }
+    {
+        number_if(row_at(rows, self.place), self.class)
+    }
+}
