@@ -6,4 +6,6 @@ pub mod Numbering
 pub mod OwnNames
 pub mod Places
 pub mod Skipping
+pub mod StoreIndexes
+pub mod StoreValues
 pub mod Walk

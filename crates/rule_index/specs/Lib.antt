@@ -5,5 +5,6 @@ pub mod Laws
 pub mod Next
 pub mod OwnNames
 pub mod Rows
+pub mod Stores
 pub mod Values
 pub mod Walk

@@ -1,15 +1,16 @@
 //! Finds, of a group's records, those that can hold for a press and the last item before the caret, and the first place of
-//! an item in a store, both by search.
+//! an item in a store, both by search; the element at a place of a store, and whether two stores have the same elements, at once.
 //!
 //! It stands on `kmn_base`, `rule_model`, `virtual_keys` and `file_parts`, which reads a file where it lies. The layer above
 //! makes an `IndexedKeyboard` of `FileTables`, which has once and for all what is looked up: an index of each group's records
-//! (`specs/Groups`), the option number of each store (`indexed_tables`), and the names of own keys (`specs/OwnNames`); it
-//! hands out groups and elements as the file has them. The layer above asks `wanted_classes` of a press and the list before
-//! the caret, and tries the records that the `Candidates` of a group's `RuleIndex` answer, in the file's order: the rows are
-//! searched when the walk begins, and from then on passed one by one. A `PlaceIndex` of a store answers the place that `any`
-//! catches, and `value_numbers` numbers values so that conditions compare numbers. `specs/Classes` says by what a record can be
-//! met, `specs/Next` which record is the next candidate, `specs/Walk` from where a walk goes on. The laws stand in `laws`: a
-//! record that holds is among the wanted ones, so the first record that holds is the first candidate that does.
+//! (`specs/Groups`), each store by place and by element (`specs/Stores`), a number that stores with the same elements have
+//! (`specs/Values`), the option number of each store (`indexed_tables`), and the names of own keys (`specs/OwnNames`); it
+//! hands out groups as the file has them. The layer above asks `wanted_classes` of a press and the list before the caret, and
+//! tries the records that the `Candidates` of a group's `RuleIndex` answer, in the file's order: the rows are searched when
+//! the walk begins, and from then on passed one by one. It asks `place_of` for what `any` catches, `element_at` for what
+//! `index` takes, and `same_elements` in conditions. `specs/Classes` says by what a record can be met, `specs/Next` which
+//! record is the next candidate, `specs/Walk` from where a walk goes on. The laws stand in `laws`: a record that holds is
+//! among the wanted ones, so the first record that holds is the first candidate that does.
 #![tactic(auto)]
 
 mod candidates;
@@ -18,6 +19,7 @@ mod classes;
 mod elements;
 mod head;
 mod indexed_keyboard;
+mod indexed_store;
 pub mod laws;
 mod options;
 mod own_names;
@@ -33,6 +35,4 @@ pub use candidates::Candidates;
 pub use class::Class;
 pub use classes::wanted_classes;
 pub use indexed_keyboard::IndexedKeyboard;
-pub use place_index::PlaceIndex;
 pub use rule_index::RuleIndex;
-pub use values::value_numbers;
