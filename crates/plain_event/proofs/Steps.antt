@@ -1,12 +1,11 @@
 -- What a plain state means after a step.
-use Rattle.std.proofs.Common.{◌≡◌, ℕ, Bool, true, false, List, ◌++◌, length, map, take, drop, Option, Some, None, refl, sym, ap, subst, ◌∙◌, length-set}
-use Rattle.std.specs.Prelude.{if◌then◌else◌, position, slice_set}
+use Rattle.std.proofs.Common.{◌≡◌, ℕ, true, false, List, length, map, take, drop, Option, Some, None, refl, sym, ap, subst, ◌∙◌, length-set}
+use Rattle.std.specs.Prelude.{if◌then◌else◌, position}
 use Rattle.kmn_base.specs.declared.items.Item.{Item}
 use Rattle.kmn_base.specs.declared.items.Element.{Element}
 use Rattle.kmn_base.specs.declared.items.Element.TheVariants as element
 use Rattle.kmn_base.specs.declared.keys.KeyPress.{KeyPress}
 use Rattle.kmn_base.specs.declared.events.Outcome.{Outcome}
-use Rattle.kmn_base.specs.Lists.{characters, read_again}
 use Rattle.rule_model.specs.declared.event_state.EventState.{EventState}
 use Rattle.plain_event.specs.declared.state.PlainState.{PlainState}
 use Rattle.rule_model.specs.declared.tables.Tables.{Tables}
@@ -17,7 +16,7 @@ use Rattle.rule_model.specs.Tab.{tab, tab_options}
 use Rattle.rule_model.specs.Plain.{option_numbers, of_options, option_names}
 use Rattle.rule_model.proofs.PlainOptions.{length-option_numbers, length-with_options}
 use Rattle.rule_model.proofs.PlainCounts.{SameCounts, after_key-counts}
-use Rattle.plain_event.specs.PlainStates.{spread, of_others, state_of, acted, given, with_text, KeepsOthers, IsMadeBy, IsStateOf}
+use Rattle.plain_event.specs.PlainStates.{of_others, state_of, acted, given, with_text, KeepsOthers, IsMadeBy, IsStateOf}
 use Rattle.plain_event.proofs.SpreadValues.{spread_options, spread_others, length-spread}
 
 count_of_numbers : (tables : Tables) → length (option_numbers 0 (tab tables).stores) ≡ length tables.stores
