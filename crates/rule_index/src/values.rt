@@ -1,4 +1,4 @@
-ghost use Rattle.std.specs.Prelude.{◌≡◌, ◌++◌, ◌<◌, [], ◌∷◌, IfOk, OnOk, flat_map, length, map};
+ghost use Rattle.std.specs.Prelude.{◌≡◌, ◌++◌, ◌<◌, [], ◌∷◌, IfOk, OnOk, length, map};
 ghost use Rattle.rule_index.specs.Values.{element_code, number_for, value_code, AreNumbersOf, known_in, IsNumbered};
 
 use crate::indexed_store::IndexedStore;
