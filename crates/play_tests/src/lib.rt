@@ -1,19 +1,15 @@
-//! The tests of the crates that play keyboards: `meaning` of `plain_event`, `pressing` of
-//! `rule_engine`, `editing` of `editor_model`, `scripts` of `play_script`, and `sessions` of `play_session`.
+//! The tests of the crates that play keyboards: `meaning` of `plain_event`, `pressing` of `rule_engine`, and `sessions` of
+//! `play_session`.
 //!
 //! They stand here because a crate with tests is proved twice, once with them and once without: so each of those large
-//! crates is proved once, and the tests are proved over them. `fixtures` has what several of them take. No layer stands
-//! above.
+//! crates is proved once, and the tests are proved over them, beside those of `script_tests`. `fixtures` has what several
+//! of them take. No layer stands above.
 #![tactic(auto)]
 
-#[cfg(test)]
-mod editing;
 pub mod fixtures;
 #[cfg(test)]
 mod meaning;
 #[cfg(test)]
 mod pressing;
-#[cfg(test)]
-mod scripts;
 #[cfg(test)]
 mod sessions;

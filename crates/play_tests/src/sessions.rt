@@ -4,12 +4,13 @@ use crate::fixtures::{press, sign};
 use kmn_base::{Element, Event, Item, KeyPress, Memory, Seq};
 use kmn_compiler::compile;
 use kmx_verifier::{Verified, verify};
-use play_session::{Session, StepError};
+use play_session::{Change, Session, StepError};
 use std::alloc::Global;
+use std::str;
 use std::test::Fail;
 
 /// The file of one rule, `+ 'a' > 'b'` in line 3, in a group `main` that uses keys.
-const ONE_RULE: [u8; 122] = [
+const ONE_RULE: &[u8] = &[
     0x4B, 0x58, 0x54, 0x53, 0x00, 0x0A, 0x00, 0x00, 0, 0, 0, 0, 0, 0, 0, 0, 0, 0, 0, 0, 0, 0, 0, 0,
     0, 0, 0, 0, 1, 0, 0, 0, 0, 0, 0, 0, 0x40, 0, 0, 0, 0xFF, 0xFF, 0xFF, 0xFF, 0, 0, 0, 0, 0, 0, 0,
     0, 0, 0, 0, 0, 0, 0, 0, 0, 0, 0, 0, 0, 0x6C, 0, 0, 0, 0x58, 0, 0, 0, 0, 0, 0, 0, 0, 0, 0, 0, 1,
@@ -62,22 +63,38 @@ fn event(alloc: Global, word: &str) -> Result<Event, Memory> {
     Ok(Event::Key(press(word.as_bytes())))
 }
 
+/// Appends the characters of a value.
+fn show_value(text: &mut String, value: &[Element]) -> Result<(), Memory> {
+    for element in value {
+        if let Element::Char(c) = element {
+            text.push(*c)?;
+        }
+    }
+    Ok(())
+}
+
+/// Appends the name and the new value of a store, `!` before a saved one.
+fn show_change(
+    alloc: Global,
+    text: &mut String,
+    session: &Session,
+    change: Change,
+) -> Result<(), Memory> {
+    if change.saved {
+        text.push('!')?;
+    }
+    let name = session.name(alloc, change.store)?;
+    text.push_str(str::from_utf8(name.as_slice()).unwrap_or("?"))?;
+    match session.value(alloc, change.store, change.saved)? {
+        Some(value) => show_value(text, value.as_slice()),
+        None => Ok(()),
+    }
+}
+
 /// Appends the names and the new values of what the last step changed.
 fn show_changes(alloc: Global, text: &mut String, session: &Session) -> Result<(), Memory> {
     for change in session.changes() {
-        if change.saved {
-            text.push('!')?;
-        }
-        for byte in session.name(alloc, change.store)?.as_slice() {
-            text.push(*byte as char)?;
-        }
-        if let Some(value) = session.value(alloc, change.store, change.saved)? {
-            for element in value.as_slice() {
-                if let Element::Char(c) = element {
-                    text.push(*c)?;
-                }
-            }
-        }
+        show_change(alloc, text, session, *change)?;
     }
     Ok(())
 }
@@ -138,7 +155,7 @@ fn events_of_every_kind(rt: HostRuntime) -> Result<(), Fail> {
 
 /// Whether a press in the first session of a file puts a b into the text.
 fn puts_b(alloc: Global) -> Result<bool, Fail> {
-    let file = verify(alloc, &ONE_RULE)?;
+    let file = verify(alloc, ONE_RULE)?;
     let mut session = Session::start(alloc, &file)?;
     let step = session.step(alloc, &Event::Key(KeyPress { code: 65, mods: 0 }))?;
     Ok(
@@ -173,7 +190,7 @@ fn far_along<'f>(alloc: Global, file: &'f Verified<'f>) -> Result<Session<'f>, F
 
 /// Whether so many presses there look at no more than the last items.
 fn stays_far_along(alloc: Global, presses: u32) -> Result<bool, Fail> {
-    let file = verify(alloc, &ONE_RULE)?;
+    let file = verify(alloc, ONE_RULE)?;
     let mut session = far_along(alloc, &file)?;
     let press = Event::Key(press(b"K_F5"));
     for _ in 0..presses {

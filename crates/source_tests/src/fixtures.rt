@@ -1,18 +1,13 @@
-//! What several tests take: the first lines of a keyboard, and a text that gets a line more.
+//! What tests of names take.
 
-ghost use Rattle.std.specs.Prelude.{◌≡◌, ◌∷◌, ◌++◌, [], IfOk};
+ghost use Rattle.std.specs.Prelude.{◌≡◌, IfOk};
 
-use std::alloc::{AllocError, Global};
+use kmn_base::{Memory, Seq, Text};
+use std::alloc::Global;
 
-/// The two lines of a keyboard with the group `main`, which uses keys.
-pub const KEYBOARD: &str = "begin Unicode > use(main)\ngroup(main) using keys\n";
-
-/// A text with a line behind it.
-pub fn with_line(alloc: Global, text: &[u8], line: &[u8]) -> Result<Vec<u8>, AllocError>
-    ensures { IfOk result (λ longer. longer.items ≡ text.now ++ line.now ++ 10 ∷ []) }
+/// The name that a text spells.
+pub fn name_of(alloc: Global, text: &str) -> Result<Text, Memory>
+    ensures { IfOk result (λ name. name ≡ text.now) }
 {
-    let mut longer = Vec::from_slice(alloc, text)?;
-    longer.extend_from_slice(line)?;
-    longer.push(b'\n')?;
-    Ok(longer)
+    Seq::from_slice(alloc, text.as_bytes())
 }

@@ -6,7 +6,7 @@ use kmn_lines::{Token, TokenKind};
 use std::alloc::Global;
 use std::test::Fail;
 
-const SECTIONS: [(Where, &str, Result<usize, Fault>); 10] = [
+const SECTIONS: &[(Where, &str, Result<usize, Fault>)] = &[
     (Where::Store, "dk ( a ) 'xy' [ SHIFT K_A ]", Ok(4)),
     (
         Where::Store,
@@ -120,7 +120,7 @@ fn is_read(
 
 #[test]
 fn sections(rt: HostRuntime) -> Result<(), Fail> {
-    for (place, source, wanted) in SECTIONS {
+    for &(place, source, wanted) in SECTIONS {
         assert!(rt; is_read(rt.alloc(), place, source, wanted)?, "{source}");
     }
     Ok(())

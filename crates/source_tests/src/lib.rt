@@ -1,17 +1,11 @@
-//! The tests of the crates that read and compile sources: `items` of `kmn_items`, `statements` of `kmn_parser`, `names` of
-//! `store_table`, `checks` of `rule_checker`, `expanding` of `rule_expand`, and `compiling` of `kmn_compiler`.
+//! The tests of the crates that read sources: `items` of `kmn_items`, `statements` of `kmn_parser`, and `names` of
+//! `store_table`.
 //!
 //! They stand here because a crate with tests is proved twice, once with them and once without: so each of those large
-//! crates is proved once, and the tests are proved over them. `fixtures` has what several of them take. No layer stands
-//! above.
+//! crates is proved once, and the tests are proved over them, beside those of `compile_tests`. `fixtures` has the texts of
+//! names. No layer stands above.
 #![tactic(auto)]
 
-#[cfg(test)]
-mod checks;
-#[cfg(test)]
-mod compiling;
-#[cfg(test)]
-mod expanding;
 pub mod fixtures;
 #[cfg(test)]
 mod items;

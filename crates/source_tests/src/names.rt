@@ -4,19 +4,16 @@
 //! items of its context and output. Items are parted by commas: `?a` any(a), `$a` outs(a), `@a` use(a), `*a` dk(a),
 //! `^a` a key by its name, and anything else a character.
 
-use kmn_base::{Code, CompileError, Memory, Seq, Text};
+use crate::fixtures::name_of;
+use kmn_base::{Code, CompileError, Memory, Seq};
 use rule_model::{BeginDef, GroupDef, KeyName, Program, RuleDef, RuleKind, SrcItem, StoreDef};
 use std::alloc::Global;
 use std::test::Fail;
 use store_table::{Names, number};
 
-fn text(alloc: Global, text: &str) -> Result<Text, Memory> {
-    Seq::from_slice(alloc, text.as_bytes())
-}
-
 fn item(alloc: Global, word: &str) -> Result<SrcItem, Memory> {
     let (sign, name) = word.split_at_checked(1).unwrap_or(("", ""));
-    let name = text(alloc, name)?;
+    let name = name_of(alloc, name)?;
     Ok(match sign {
         "?" => SrcItem::Any(name),
         "$" => SrcItem::Outs(name),
@@ -44,7 +41,7 @@ fn store(alloc: Global, line: u32, system: u32, words: &str) -> Result<StoreDef,
     Ok(StoreDef {
         line,
         system,
-        name: text(alloc, name)?,
+        name: name_of(alloc, name)?,
         items: items(alloc, stored)?,
     })
 }
@@ -86,7 +83,7 @@ fn add_begin(
     unicode: bool,
     name: &str,
 ) -> Result<(), Memory> {
-    let group = text(alloc, name)?;
+    let group = name_of(alloc, name)?;
     all.begins.push(BeginDef {
         line,
         unicode,
@@ -99,7 +96,7 @@ fn add_group(alloc: Global, all: &mut Statements, line: u32, name: &str) -> Resu
     close(all)?;
     all.open = Some(GroupDef {
         line,
-        name: text(alloc, name)?,
+        name: name_of(alloc, name)?,
         using_keys: true,
         rules: Seq::new(alloc),
     });
@@ -156,7 +153,7 @@ fn program(alloc: Global, source: &str) -> Result<Program, Memory> {
 }
 
 /// Programs, each with its first refusal for names, and its line.
-const REFUSALS: [(&str, Option<(Code, u32)>); 22] = [
+const REFUSALS: &[(&str, Option<(Code, u32)>)] = &[
     ("g:m u:m a:m u:m", Some((Code::C02, 4))),
     ("g:m u:m u:x", Some((Code::C02, 3))),
     ("u:x u:x g:m", Some((Code::C06, 1))),
@@ -193,7 +190,7 @@ type NumberRow = (
     Option<u16>,
 );
 
-const NUMBERS: [NumberRow; 9] = [
+const NUMBERS: &[NumberRow] = &[
     ("A", Some(1), None, None, None),
     ("b", Some(2), None, None, None),
     ("m", None, Some(0), None, None),
@@ -234,7 +231,7 @@ fn are_numbered(alloc: Global) -> Result<bool, Fail> {
 
 #[test]
 fn names_of_programs(rt: HostRuntime) -> Result<(), Fail> {
-    for (source, wanted) in REFUSALS {
+    for &(source, wanted) in REFUSALS {
         assert!(rt; is_refused(rt.alloc(), source, wanted)?, "{source}");
     }
     assert!(rt; are_numbered(rt.alloc())?);

@@ -4,7 +4,6 @@
 //! return, `␉` a tab, `␀` U+0000, `␡` U+FFFF, and `⌖` U+FEFF. What a source states is told without its opening,
 //! statement by statement with its line; characters are hexadecimal.
 
-use crate::fixtures::KEYBOARD;
 use kmn_base::{Code, CompileError, Refusal, Seq};
 use kmn_parser::parse;
 use rule_model::{BeginDef, GroupDef, KeyName, Program, RuleDef, RuleKind, SrcItem, StoreDef};
@@ -12,6 +11,9 @@ use std::alloc::{AllocError, Global};
 use std::fmt::Write;
 use std::str;
 use std::test::Fail;
+
+/// The two lines of a keyboard with the group `main`, which uses keys.
+const KEYBOARD: &str = "begin Unicode > use(main)\ngroup(main) using keys\n";
 
 const WITHOUT_KEYS: &str = "group(g)\n";
 
@@ -711,7 +713,7 @@ fn has_parsed_sample(alloc: Global) -> Result<bool, Fail> {
 /// A name of so many of one character between two texts, and how many stores are stated or the refusal.
 type LimitRow = (&'static str, char, u32, &'static str, &'static str);
 
-const LIMITS: [LimitRow; 22] = [
+const LIMITS: &[LimitRow] = &[
     ("store(", 'a', 80, ")", "1"),
     ("store(", 'a', 81, ")", "S02 2"),
     ("store(", 'é', 80, ")", "1"),
@@ -764,7 +766,7 @@ fn is_refused(alloc: Global, source: &[u8], code: Code) -> bool {
 
 #[test]
 fn worked_rows(rt: HostRuntime) -> Result<(), Fail> {
-    for table in [TOKENS, LINES, STATEMENTS, ITEMS] {
+    for table in &[TOKENS, LINES, STATEMENTS, ITEMS] {
         for row in table.lines() {
             assert!(rt; is_answered(rt.alloc(), row)?, "{row}");
         }
@@ -776,7 +778,7 @@ fn worked_rows(rt: HostRuntime) -> Result<(), Fail> {
 #[test]
 fn limits(rt: HostRuntime) -> Result<(), Fail> {
     for row in LIMITS {
-        assert!(rt; is_limited(rt.alloc(), row)?, "{} {}", row.0, row.2);
+        assert!(rt; is_limited(rt.alloc(), *row)?, "{} {}", row.0, row.2);
     }
     assert!(rt; is_refused(rt.alloc(), &[b'\n', 0xFF, b'\''], Code::L01));
     let long = vec![in rt.alloc(); 0xFFu8; 4_194_305]?;

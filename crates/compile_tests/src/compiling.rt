@@ -7,7 +7,7 @@ use std::alloc::{AllocError, Global};
 use std::test::Fail;
 
 /// The file of one rule, `+ 'a' > 'b'` in line 3, in a group `main` that uses keys.
-const ONE_RULE: [u8; 122] = [
+const ONE_RULE: &[u8] = &[
     0x4B, 0x58, 0x54, 0x53, 0x00, 0x0A, 0x00, 0x00, 0, 0, 0, 0, 0, 0, 0, 0, 0, 0, 0, 0, 0, 0, 0, 0,
     0, 0, 0, 0, 1, 0, 0, 0, 0, 0, 0, 0, 0x40, 0, 0, 0, 0xFF, 0xFF, 0xFF, 0xFF, 0, 0, 0, 0, 0, 0, 0,
     0, 0, 0, 0, 0, 0, 0, 0, 0, 0, 0, 0, 0, 0x6C, 0, 0, 0, 0x58, 0, 0, 0, 0, 0, 0, 0, 0, 0, 0, 0, 1,
@@ -25,7 +25,7 @@ enum Answer {
 }
 
 /// Sources, and what they compile to without a picture.
-const SOURCES: [(&str, Answer); 9] = [
+const SOURCES: &[(&str, Answer)] = &[
     (
         "store(v) 'a' \\\n'e' \\\n'i' c vowels \\\nbegin Unicode > use(main)\ngroup(main) using keys\n+ any(v) > 'x'",
         Answer::File(666, 194),
@@ -62,7 +62,7 @@ const SOURCES: [(&str, Answer); 9] = [
 ];
 
 /// The statements before a source of one rule, its picture's name, and what it compiles to with a picture of four bytes.
-const PICTURES: [(&str, Option<&str>, Answer); 4] = [
+const PICTURES: &[(&str, Option<&str>, Answer)] = &[
     (
         "store(&bitmap) 'p.ico'",
         Some("p.ico"),
@@ -151,7 +151,7 @@ fn long_file(alloc: Global, records: u32) -> Result<Result<usize, (Code, u64)>, 
 
 /// The first row of `SOURCES` that isn't right.
 fn wrong_source(alloc: Global) -> Result<Option<&'static str>, Fail> {
-    for (source, wanted) in SOURCES {
+    for &(source, wanted) in SOURCES {
         if !compiles_to(alloc, source, wanted)? {
             return Ok(Some(source));
         }
@@ -161,7 +161,7 @@ fn wrong_source(alloc: Global) -> Result<Option<&'static str>, Fail> {
 
 /// The first row of `PICTURES` that isn't right, by its statements.
 fn wrong_picture(alloc: Global) -> Result<Option<&'static str>, Fail> {
-    for (statements, name, wanted) in PICTURES {
+    for &(statements, name, wanted) in PICTURES {
         if !is_pictured(alloc, statements, name, wanted)? {
             return Ok(Some(statements));
         }
@@ -173,7 +173,7 @@ fn wrong_picture(alloc: Global) -> Result<Option<&'static str>, Fail> {
 fn is_one_rule(alloc: Global) -> Result<bool, Fail> {
     let source = with_line(alloc, KEYBOARD.as_bytes(), b"+ 'a' > 'b'")?;
     let compiled = compile(alloc, source.as_slice(), &[])?;
-    Ok(compiled.bytes.as_slice() == ONE_RULE.as_slice())
+    Ok(compiled.bytes.as_slice() == ONE_RULE)
 }
 
 #[test]

@@ -1,5 +1,6 @@
 //! Scripts with the entries that they give or the rule that they break, and the lines of a transcript.
 
+use crate::fixtures::with_copies;
 use kmn_base::{Code, Element, Event, Item, Outcome, Refusal, Text};
 use play_script::{
     ScriptError, end_line, expect_line, line_of, read_script, refused_event_line, text_line,
@@ -187,18 +188,8 @@ fn is_right(alloc: Global, names: &KeyDictionary, row: &str) -> Result<bool, Fai
     gives(alloc, script_of(alloc, text)?.as_slice(), names, wanted)
 }
 
-/// A word, and a text as often as that, and then another.
-fn many(alloc: Global, word: &str, text: &str, count: usize, last: &str) -> Result<Vec<u8>, Fail> {
-    let mut script = Vec::from_slice(alloc, word.as_bytes())?;
-    for _ in 0..count {
-        script.extend_from_slice(text.as_bytes())?;
-    }
-    script.extend_from_slice(last.as_bytes())?;
-    Ok(script)
-}
-
 /// A line, how often it stands in a script, what stands behind it, and what the script gives.
-const LIMITS: [(&str, usize, &str, &str); 7] = [
+const LIMITS: &[(&str, usize, &str, &str)] = &[
     ("#", 4_194_304, "", ""),
     ("#", 4_194_305, "", "P06 1"),
     ("[K_A]\n", 100_000, "#\nexpect ''x", "P04 100002"),
@@ -210,7 +201,7 @@ const LIMITS: [(&str, usize, &str, &str); 7] = [
 
 /// A word, what stands so many times behind it, and the end of the line: a string of so many characters, or a name; and
 /// whether it is read.
-const LENGTHS: [(&str, &str, usize, &str, bool); 4] = [
+const LENGTHS: &[(&str, &str, usize, &str, bool)] = &[
     ("expect ", "'é'", 4_096, "", true),
     ("expect ", "'é'", 4_097, "", false),
     ("option ", "é", 80, " 'a'", true),
@@ -247,8 +238,8 @@ fn wrong_row(alloc: Global) -> Result<Option<&'static str>, Fail> {
 /// The first row of `LIMITS` that isn't right, by what it wants.
 fn wrong_limit(alloc: Global) -> Result<Option<&'static str>, Fail> {
     let names = names(alloc)?;
-    for (line, count, last, wanted) in LIMITS {
-        let script = many(alloc, "", line, count, last)?;
+    for &(line, count, last, wanted) in LIMITS {
+        let script = with_copies(alloc, "", line, count, last)?;
         if !gives(alloc, script.as_slice(), &names, wanted)? {
             return Ok(Some(wanted));
         }
@@ -259,8 +250,8 @@ fn wrong_limit(alloc: Global) -> Result<Option<&'static str>, Fail> {
 /// The first row of `LENGTHS` that isn't right, by its word.
 fn wrong_length(alloc: Global) -> Result<Option<&'static str>, Fail> {
     let names = names(alloc)?;
-    for (word, token, count, end, read) in LENGTHS {
-        let script = many(alloc, word, token, count, end)?;
+    for &(word, token, count, end, read) in LENGTHS {
+        let script = with_copies(alloc, word, token, count, end)?;
         if is_read(alloc, &names, script.as_slice()) != read {
             return Ok(Some(word));
         }

@@ -15,7 +15,7 @@ type StoreRow = (u32, &'static [Element]);
 type RuleRow = (u32, u32, RuleKey, &'static [Pat], &'static [Out]);
 
 /// The statements of a source behind the two lines, and the stores and records that it has.
-const SOURCES: [(&str, &[StoreRow], &[RuleRow]); 6] = [
+const SOURCES: &[(&str, &[StoreRow], &[RuleRow])] = &[
     (
         "+ 'a' > 'b'",
         &[],
@@ -232,7 +232,7 @@ fn expands_to(
 
 #[test]
 fn expands_sources(rt: HostRuntime) -> Result<(), Fail> {
-    for (statements, stores, records) in SOURCES {
+    for &(statements, stores, records) in SOURCES {
         assert!(rt;
             expands_to(rt.alloc(), statements, stores, records)?,
             "{statements}"

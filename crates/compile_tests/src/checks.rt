@@ -463,7 +463,7 @@ fn is_right(alloc: Global, row: &str) -> Result<bool, Fail> {
 
 #[test]
 fn refusals(rt: HostRuntime) -> Result<(), Fail> {
-    for table in [NAMES, PLACES, PROFILE, LIMITS, SAMPLE] {
+    for table in &[NAMES, PLACES, PROFILE, LIMITS, SAMPLE] {
         for row in table.lines() {
             assert!(rt; is_right(rt.alloc(), row)?, "{row}");
         }

@@ -1,0 +1,15 @@
+//! The tests of the crates that check and compile sources: `checks` of `rule_checker`, `expanding` of `rule_expand`, and
+//! `compiling` of `kmn_compiler`.
+//!
+//! They stand here because a crate with tests is proved twice, once with them and once without: so each of those large
+//! crates is proved once, and the tests are proved over them, beside those of `source_tests`. `fixtures` has what several
+//! of them take. No layer stands above.
+#![tactic(auto)]
+
+#[cfg(test)]
+mod checks;
+#[cfg(test)]
+mod compiling;
+#[cfg(test)]
+mod expanding;
+pub mod fixtures;

@@ -1,0 +1,190 @@
+//! Changes of a text with a caret.
+
+use editor_model::{EditError, Editor};
+use kmn_base::{KeyPress, Memory};
+use std::alloc::Global;
+use std::test::Fail;
+
+/// What is done to a text with a caret.
+enum Change {
+    /// A key that was passed on: its code, and the modifiers held.
+    Key(u16, u16),
+    /// A caret move to a place.
+    Caret(u32),
+    /// An edit: its places and its text.
+    Edit(u32, u32, &'static str),
+}
+
+/// The text before a caret and the text after it, a change, and what it makes of them.
+type ChangeRow = (&'static str, &'static str, Change, &'static str);
+
+/// In what a change makes the caret is `|`, a line feed `/` and a tab `~`; behind a refusal stands the text as it is then.
+const CHANGES: &[ChangeRow] = &[
+    ("ab", "cd", Change::Key(13, 0), "ab/|cd"),
+    ("", "", Change::Key(13, 0), "/|"),
+    ("ab", "cd", Change::Key(9, 16), "ab~|cd"),
+    ("ab", "cd", Change::Key(37, 0), "a|bcd"),
+    ("", "cd", Change::Key(37, 0), "|cd"),
+    ("ab", "", Change::Key(37, 256), "a|b"),
+    ("ab", "cd", Change::Key(39, 0), "abc|d"),
+    ("ab", "", Change::Key(39, 0), "ab|"),
+    ("", "cd", Change::Key(39, 0), "c|d"),
+    ("ab", "cd", Change::Key(36, 0), "|abcd"),
+    ("", "cd", Change::Key(36, 0), "|cd"),
+    ("ab", "cd", Change::Key(35, 0), "abcd|"),
+    ("ab", "", Change::Key(35, 0), "ab|"),
+    ("ab", "cd", Change::Key(46, 0), "ab|d"),
+    ("ab", "", Change::Key(46, 0), "ab|"),
+    ("", "c", Change::Key(46, 0), "|"),
+    ("ab", "cd", Change::Key(8, 0), "ab|cd"),
+    ("ab", "cd", Change::Key(112, 0), "ab|cd"),
+    ("ab", "cd", Change::Key(13, 1), "ab|cd"),
+    ("ab", "cd", Change::Key(37, 2), "ab|cd"),
+    ("ab", "cd", Change::Key(36, 4), "ab|cd"),
+    ("ab", "cd", Change::Key(46, 8), "ab|cd"),
+    ("ab", "cd", Change::Key(9, 18), "ab|cd"),
+    ("ab", "cd", Change::Key(35, 64), "abcd|"),
+    ("ab", "cd", Change::Caret(0), "|abcd"),
+    ("ab", "cd", Change::Caret(2), "ab|cd"),
+    ("ab", "cd", Change::Caret(3), "abc|d"),
+    ("ab", "cd", Change::Caret(4), "abcd|"),
+    ("ab", "cd", Change::Caret(5), "E1 ab|cd"),
+    ("", "", Change::Caret(0), "|"),
+    ("ab", "cd", Change::Edit(2, 2, "xy"), "ab|xycd"),
+    ("ab", "cd", Change::Edit(3, 4, ""), "ab|c"),
+    ("ab", "cd", Change::Edit(0, 1, "xyz"), "xyzb|cd"),
+    ("ab", "cd", Change::Edit(0, 2, "x"), "x|cd"),
+    ("ab", "cd", Change::Edit(1, 3, "xyz"), "axyz|d"),
+    ("ab", "cd", Change::Edit(1, 3, ""), "a|d"),
+    ("ab", "cd", Change::Edit(0, 4, "xyz"), "xyz|"),
+    ("", "ab", Change::Edit(0, 0, "xy"), "|xyab"),
+    ("", "ab", Change::Edit(0, 2, "xy"), "|xy"),
+    ("ab", "cd", Change::Edit(4, 5, "x"), "E1 ab|cd"),
+    ("ab", "cd", Change::Edit(3, 2, "x"), "E1 ab|cd"),
+    ("ab", "cd", Change::Edit(4, 4, "\t"), "ab|cd~"),
+];
+
+/// A text with a caret in it.
+fn editor_of(alloc: Global, left: &str, right: &str) -> Result<Editor, Memory> {
+    let mut editor = Editor::new(alloc);
+    for c in left.chars().chain(right.chars()) {
+        editor.reserve(alloc, 1)?;
+        editor.apply(0, &[c]);
+    }
+    for _ in right.chars() {
+        editor.reserve(alloc, 1)?;
+        editor.passed(KeyPress { code: 37, mods: 0 });
+    }
+    Ok(editor)
+}
+
+/// A character as the table writes it.
+fn written(c: char) -> char {
+    match c {
+        '\n' => '/',
+        '\t' => '~',
+        other => other,
+    }
+}
+
+/// A text with its caret as the table writes it.
+fn shown(alloc: Global, editor: &Editor) -> Result<String, Memory> {
+    let mut text = String::new(alloc);
+    for c in editor.left() {
+        text.push(written(*c))?;
+    }
+    text.push('|')?;
+    for c in editor.right() {
+        text.push(written(*c))?;
+    }
+    Ok(text)
+}
+
+/// What a change made of an editor, as the table writes it.
+fn answered(
+    alloc: Global,
+    editor: &Editor,
+    answer: Result<(), EditError>,
+) -> Result<String, Memory> {
+    let mut text = match answer {
+        Ok(()) => String::new(alloc),
+        Err(EditError::Place) => String::from_str(alloc, "E1 ")?,
+        Err(EditError::Length) => String::from_str(alloc, "E2 ")?,
+        Err(EditError::Memory) => return Err(Memory),
+    };
+    text.push_str(shown(alloc, editor)?.as_str())?;
+    Ok(text)
+}
+
+/// Makes a change.
+fn make(
+    alloc: Global,
+    editor: &mut Editor,
+    change: &Change,
+) -> Result<Result<(), EditError>, Memory> {
+    match change {
+        Change::Key(code, mods) => {
+            editor.reserve(alloc, 1)?;
+            editor.passed(KeyPress {
+                code: *code,
+                mods: *mods,
+            });
+            Ok(Ok(()))
+        }
+        Change::Caret(place) => Ok(editor.caret(*place)),
+        Change::Edit(from, to, text) => {
+            let text: Vec<char> = text.chars().collect(alloc)?;
+            Ok(editor.edit(alloc, *from, *to, text.as_slice()))
+        }
+    }
+}
+
+/// Whether a row is right.
+fn is_right(alloc: Global, row: &ChangeRow) -> Result<bool, Memory> {
+    let (left, right, change, wanted) = row;
+    let mut editor = editor_of(alloc, left, right)?;
+    let answer = make(alloc, &mut editor, change)?;
+    Ok(answered(alloc, &editor, answer)?.as_str() == *wanted)
+}
+
+#[test]
+fn changes(rt: HostRuntime) -> Result<(), Fail> {
+    for row in CHANGES {
+        assert!(rt; is_right(rt.alloc(), row)?, "{}", row.3);
+    }
+    Ok(())
+}
+
+/// Whether a text of a million characters takes no more, and one in the place of another.
+fn keeps_its_length(alloc: Global) -> Result<bool, Fail> {
+    let text = vec![in alloc; 'x'; 1_000_000]?;
+    let mut editor = Editor::new(alloc);
+    editor.edit(alloc, 0, 0, text.as_slice())?;
+    let longer = editor.edit(alloc, 7, 7, &['y']);
+    let tried = editor.try_edit(7, 8, 1);
+    editor.edit(alloc, 7, 8, &['y'])?;
+    Ok(
+        matches!(longer, Err(EditError::Length))
+            && tried.is_ok()
+            && editor.left().len() == 0
+            && editor.right().len() == 1_000_000,
+    )
+}
+
+/// Whether a text is put in the place of two characters before the caret, and a copy made before stays as it was.
+fn replaces_two(alloc: Global) -> Result<bool, Fail> {
+    let mut editor = editor_of(alloc, "abc", "de")?;
+    editor.reserve(alloc, 4_097)?;
+    let kept = editor.copy(alloc)?;
+    if editor.left().len() >= 2 {
+        editor.apply(2, &['x', 'y', 'z']);
+    }
+    Ok(shown(alloc, &editor)?.as_str() == "axyz|de" && shown(alloc, &kept)?.as_str() == "abc|de")
+}
+
+#[test]
+fn long_texts_and_copies(rt: HostRuntime) -> Result<(), Fail> {
+    assert!(rt; keeps_its_length(rt.alloc())?);
+    assert!(rt; replaces_two(rt.alloc())?);
+    Ok(())
+}
