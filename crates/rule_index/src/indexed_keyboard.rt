@@ -6,8 +6,7 @@ ghost use Rattle.rule_model.specs.Content.{option_number};
 ghost use Rattle.rule_model.specs.Keyboard.{Numbered};
 ghost use Rattle.rule_model.specs.Plain.{option_numbers};
 ghost use Rattle.rule_model.specs.Tab.{elements_of, tab};
-ghost use Rattle.rule_index.specs.Groups.{record_classes, AreIndexesOf};
-ghost use Rattle.rule_index.specs.Rows.{IsIndexOf};
+ghost use Rattle.rule_index.specs.Groups.{AreIndexesOf, IsRuleIndexOf};
 
 use crate::options::option_numbers;
 use crate::own_names::own_keys;
@@ -122,7 +121,7 @@ impl<'a> IndexedKeyboard<'a> {
     #[tactic(auto, using(crate::proofs::GroupIndexes::index_within))]
     pub fn group(&self, number: u32) -> Option<(FileGroup<'a>, &RuleIndex)>
         ensures group { option_map (λ found. found.0) result ≡ slice_get self.now.groups number }
-        ensures index { IfSome result (λ found. IsIndexOf (record_classes found.0) found.1.now) }
+        ensures index { IfSome result (λ found. IsRuleIndexOf found.0 found.1.now) }
     {
         match self.file.group(number) {
             Some(group) => Some((group, &self.indexes[number as usize])),
