@@ -20,6 +20,7 @@ use Rattle.rule_model.specs.Choose.{first, first_with}
 use Rattle.rule_model.specs.Match.{Content, takes_item, catches_from}
 use Rattle.rule_model.specs.Hold.{is_true, is_at_start, pattern_count, has_room, caught_by, fitting_place, holds}
 use Rattle.rule_model.specs.Tab.{tab_pattern, tab_rule}
+use Rattle.rule_index.proofs.ContextCounts.{few_patterns}
 use Rattle.rule_matching.specs.Moment.{AreShort}
 use Rattle.rule_engine.specs.Event.{HasShortContexts}
 
@@ -31,9 +32,6 @@ same_eq len n few = elim (cases_lt len 64) [
 
 same_le : (len n : ℕ) → n ≤ 63 → leb n len ≡ leb n (min 64 len)
 same_le len n few = grind (arith, nat_tests)
-
-few_patterns : (context : List Pattern) → pattern_count context ≤ length context
-few_patterns context = count_by-le-length takes_item context
 
 same_room : (context : List Pattern) (left : List Item) → length context ≤ 63 → has_room context left ≡ has_room context (window left)
 same_room context left few =

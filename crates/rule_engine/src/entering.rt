@@ -5,8 +5,7 @@ ghost use Rattle.rule_model.specs.Act.{act_one, act, enter_if_allowed, items_cau
 ghost use Rattle.rule_model.specs.Enter.{do_chosen, do_unmatched, do_group, chosen_in, in_group};
 ghost use Rattle.rule_model.specs.KeyEvent.{after_key};
 ghost use Rattle.rule_model.specs.Tab.{tab_output, tab_rule, tab_group};
-ghost use Rattle.rule_index.specs.Groups.{record_classes};
-ghost use Rattle.rule_index.specs.Rows.{IsIndexOf};
+ghost use Rattle.rule_index.specs.Groups.{IsRuleIndexOf};
 ghost use Rattle.rule_matching.specs.Moment.{AreShort};
 ghost use Rattle.rule_engine.specs.Event.{keyboard_of, enters};
 
@@ -138,7 +137,7 @@ fn do_unmatched(entering: Entering, group: &FileGroup<'_>, event: &mut Event)
 #[cycle(acts)]
 fn do_group(entering: Entering, group: &FileGroup<'_>, records: &RuleIndex, event: &mut Event)
     requires short { AreShort group.now.rules }
-    requires index { IsIndexOf (record_classes group.now) records.now }
+    requires index { IsRuleIndexOf group.now records.now }
     ensures { event.new ≡ record event.old {
       state = do_group (keyboard_of event.old) (enters event.old entering) entering.press (tab_group event.old.tables.stores group.now)
           (chosen_in (keyboard_of event.old) entering.press (tab_group event.old.tables.stores group.now) event.old.state) event.old.state;

@@ -8,8 +8,7 @@ ghost use Rattle.rule_model.specs.Enter.{chosen_in, delete_or_pass};
 ghost use Rattle.rule_model.specs.Keyboard.{Numbered};
 ghost use Rattle.rule_model.specs.KeyEvent.{begin_event, deleted, inserted, outcome_of};
 ghost use Rattle.rule_model.specs.Tab.{tab, elements_of, tab_group, tab_rule};
-ghost use Rattle.rule_index.specs.Groups.{record_classes};
-ghost use Rattle.rule_index.specs.Rows.{IsIndexOf};
+ghost use Rattle.rule_index.specs.Groups.{IsRuleIndexOf};
 ghost use Rattle.rule_matching.specs.Moment.{AreShort};
 ghost use Rattle.rule_engine.specs.Event.{HasShortContexts, keyboard_of, moment_of};
 
@@ -206,7 +205,7 @@ impl<'a> Event<'a> {
         records: &RuleIndex,
     ) -> Option<(FileRule<'g>, Caught)>
         requires short { AreShort group.now.rules }
-        requires index { IsIndexOf (record_classes group.now) records.now }
+        requires index { IsRuleIndexOf group.now records.now }
         ensures chosen { option_map (λ c. (tab_rule self.old.tables.stores group.now.using_keys c.0, c.1)) result ≡ chosen_in
             (keyboard_of self.old) press (tab_group self.old.tables.stores group.now) self.old.state }
         ensures same { self.new ≡ self.old }

@@ -2,20 +2,18 @@
 use Rattle.std.proofs.Common.{◌≡◌, ℕ, zero, suc, ◌+◌, ◌<◌, ◌≤◌, List, [], ◌∷◌, ◌++◌, length, drop, slice_index_or, Some, refl, sym, ◌∙◌, ap, subst, inl, inr, arith, length-append}
 use Rattle.std.specs.Prelude.{All, slice_get}
 use Rattle.std.proofs.lemmas.Bool.{cases_lt}
-use Rattle.std.proofs.lemmas.List.{get_or_append_left, get_or_default}
+use Rattle.std.proofs.lemmas.List.{get_or_append_left}
 use Rattle.std.proofs.lemmas.Option.{slice_get_within, get_or_from_slice_get}
 use Rattle.std.proofs.Math.Seq.{get_or-append_seam}
 use Rattle.kmn_base.specs.declared.limits.TheConstants.{RECORDS}
 use Rattle.rule_model.specs.declared.tables.Group.{Group}
-use Rattle.rule_index.specs.declared.row.Row.{Row}
-use Rattle.rule_index.specs.Groups.{record_classes, AreIndexesOf}
-use Rattle.rule_index.specs.Rows.{IsIndexOf}
+use Rattle.rule_index.specs.Groups.{RuleIndexValue, AreIndexesOf, IsRuleIndexOf}
 
 -- the groups before those that are left have their indexes
-pub record AreIndexed (groups : List Group) (indexes : List (List Row)) (left : List Group) : Type 0 where
+pub record AreIndexed (groups : List Group) (indexes : List RuleIndexValue) (left : List Group) : Type 0 where
   pub behind : drop (length indexes) groups ≡ left
   pub count : length indexes + length left ≡ length groups
-  pub right : (k : ℕ) (group : Group) → k < length indexes → slice_get groups k ≡ Some group → IsIndexOf (record_classes group) (slice_index_or indexes k [])
+  pub right : (k : ℕ) (group : Group) (d : RuleIndexValue) → k < length indexes → slice_get groups k ≡ Some group → IsRuleIndexOf group (slice_index_or indexes k d)
 
 all_left : (groups : List Group) → drop 0 groups ≡ groups
 all_left [] = refl
@@ -25,7 +23,7 @@ pub none_indexed : (groups : List Group) → AreIndexed groups [] groups
 none_indexed groups = record {
   behind = all_left groups;
   count = omega arith;
-  right = λ k group below got. absurd (omega arith);
+  right = λ k group d below got. absurd (omega arith);
 }
 
 -- the first group that is left is the next one, and the others are left behind it
@@ -44,36 +42,36 @@ groups_behind (group ∷ groups) zero here left e =
 groups_behind (group ∷ groups) (suc n) here left e = groups_behind groups n here left e
 
 -- one group more
-pub one_indexed : (groups : List Group) (indexes : List (List Row)) (here : Group) (left : List Group) (rows : List Row)
-    → AreIndexed groups indexes (here ∷ left) → IsIndexOf (record_classes here) rows → AreIndexed groups (indexes ++ rows ∷ []) left
-one_indexed groups indexes here left rows h is =
-    let more : length (indexes ++ rows ∷ []) ≡ length indexes + 1 = length-append indexes (rows ∷ []) in
-    let next : length (indexes ++ rows ∷ []) ≡ suc (length indexes) = omega (arith, more) in
+pub one_indexed : (groups : List Group) (indexes : List RuleIndexValue) (here : Group) (left : List Group) (index : RuleIndexValue)
+    → AreIndexed groups indexes (here ∷ left) → IsRuleIndexOf here index → AreIndexed groups (indexes ++ index ∷ []) left
+one_indexed groups indexes here left index h is =
+    let more : length (indexes ++ index ∷ []) ≡ length indexes + 1 = length-append indexes (index ∷ []) in
+    let next : length (indexes ++ index ∷ []) ≡ suc (length indexes) = omega (arith, more) in
     let at : slice_get groups (length indexes) ≡ Some here = group_here groups (length indexes) here left h.behind in
     record {
       behind = ap (λ (n : ℕ). drop n groups) next ∙ groups_behind groups (length indexes) here left h.behind;
       count = omega (arith, more, h.count);
-      right = λ k group below got. elim (cases_lt k (length indexes)) [
-        | inl old ↦ subst (IsIndexOf (record_classes group)) (sym (get_or_append_left indexes (rows ∷ []) [] k old)) (h.right k group old got)
+      right = λ k group d below got. elim (cases_lt k (length indexes)) [
+        | inl old ↦ subst (IsRuleIndexOf group) (sym (get_or_append_left indexes (index ∷ []) d k old)) (h.right k group d old got)
         | inr new ↦
             let place : k ≡ length indexes = omega (arith, more) in
-            let last : slice_index_or (indexes ++ rows ∷ []) k [] ≡ rows
-            = ap (λ (j : ℕ). slice_index_or (indexes ++ rows ∷ []) j []) place ∙ get_or-append_seam indexes rows [] [] in
+            let last : slice_index_or (indexes ++ index ∷ []) k d ≡ index
+            = ap (λ (j : ℕ). slice_index_or (indexes ++ index ∷ []) j d) place ∙ get_or-append_seam indexes index [] d in
             let both : Some here ≡ Some group = sym at ∙ (ap (slice_get groups) (sym place) ∙ got) in
             let same : here ≡ group = cc in
-            subst (IsIndexOf (record_classes group)) (sym last) (subst (λ (g : Group). IsIndexOf (record_classes g) rows) same is)
+            subst (IsRuleIndexOf group) (sym last) (subst (λ (g : Group). IsRuleIndexOf g index) same is)
       ];
     }
 
 -- all groups have theirs
-pub all_indexed : (groups : List Group) (indexes : List (List Row)) → AreIndexed groups indexes [] → AreIndexesOf groups indexes
+pub all_indexed : (groups : List Group) (indexes : List RuleIndexValue) → AreIndexed groups indexes [] → AreIndexesOf groups indexes
 all_indexed groups indexes h = record {
   count = omega (arith, h.count);
-  right = λ k group got. h.right k group (omega (arith, h.count, slice_get_within groups k group got)) got;
+  right = λ k group d got. h.right k group d (omega (arith, h.count, slice_get_within groups k group got)) got;
 }
 
 -- the next group has few records where all have
-pub group_few : (groups : List Group) (indexes : List (List Row)) (here : Group) (left : List Group)
+pub group_few : (groups : List Group) (indexes : List RuleIndexValue) (here : Group) (left : List Group)
     → All (λ group. length group.rules ≤ RECORDS) groups → AreIndexed groups indexes (here ∷ left) → length here.rules ≤ RECORDS
 group_few groups indexes here left few h =
     let at : slice_get groups (length indexes) ≡ Some here = group_here groups (length indexes) here left h.behind in
@@ -81,10 +79,9 @@ group_few groups indexes here left few h =
     (few (length indexes) here (slice_get_within groups (length indexes) here at))
 
 -- the index that is found at a group's number is the group's
-pub index_within : (groups : List Group) (indexes : List (List Row)) (n : ℕ) (group : Group) → AreIndexesOf groups indexes → slice_get groups n ≡ Some group → n < length indexes
+pub index_within : (groups : List Group) (indexes : List RuleIndexValue) (n : ℕ) (group : Group) → AreIndexesOf groups indexes → slice_get groups n ≡ Some group → n < length indexes
 index_within groups indexes n group h at = omega (arith, h.count, slice_get_within groups n group at)
 
-pub index_found : (groups : List Group) (indexes : List (List Row)) (n : ℕ) (group : Group) (rows : List Row) → AreIndexesOf groups indexes
-    → slice_get groups n ≡ Some group → rows ≡ slice_index_or indexes n rows → IsIndexOf (record_classes group) rows
-index_found groups indexes n group rows h at is =
-    subst (IsIndexOf (record_classes group)) (get_or_default indexes n [] rows (index_within groups indexes n group h at) ∙ sym is) (h.right n group at)
+pub index_found : (groups : List Group) (indexes : List RuleIndexValue) (n : ℕ) (group : Group) (index : RuleIndexValue) → AreIndexesOf groups indexes
+    → slice_get groups n ≡ Some group → index ≡ slice_index_or indexes n index → IsRuleIndexOf group index
+index_found groups indexes n group index h at is = subst (IsRuleIndexOf group) (sym is) (h.right n group index at)

@@ -1,3 +1,4 @@
+pub mod ContextCounts
 pub mod Finding
 pub mod GroupIndexes
 pub mod Meeting

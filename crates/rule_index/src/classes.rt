@@ -37,7 +37,7 @@ fn pattern_class(pattern: Pat) -> u64
 }
 
 /// Whether a pattern looks at an item of the text.
-fn takes_item(pattern: Pat) -> bool
+pub fn takes_item(pattern: Pat) -> bool
     ensures { result ≡ takes_item (tab_pattern [] pattern) }
 {
     !matches!(&pattern, Pat::Equal(..) | Pat::Unequal(..) | Pat::Nul)

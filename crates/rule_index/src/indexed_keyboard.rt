@@ -7,8 +7,7 @@ ghost use Rattle.rule_model.specs.Keyboard.{Numbered};
 ghost use Rattle.rule_model.specs.Match.{place_of, same_value};
 ghost use Rattle.rule_model.specs.Plain.{option_numbers};
 ghost use Rattle.rule_model.specs.Tab.{elements_of, tab};
-ghost use Rattle.rule_index.specs.Groups.{record_classes, AreIndexesOf};
-ghost use Rattle.rule_index.specs.Rows.{IsIndexOf};
+ghost use Rattle.rule_index.specs.Groups.{AreIndexesOf, IsRuleIndexOf};
 ghost use Rattle.rule_index.specs.Stores.{store_contents, HaveFewElements};
 
 use crate::indexed_store::{IndexedStore, copied};
@@ -151,7 +150,7 @@ impl<'a> IndexedKeyboard<'a> {
     #[tactic(auto, using(crate::proofs::GroupIndexes::index_within))]
     pub fn group(&self, number: u32) -> Option<(FileGroup<'a>, &RuleIndex)>
         ensures group { option_map (λ found. found.0) result ≡ slice_get self.now.groups number }
-        ensures index { IfSome result (λ found. IsIndexOf (record_classes found.0) found.1.now) }
+        ensures index { IfSome result (λ found. IsRuleIndexOf found.0 found.1.now) }
     {
         match self.file.group(number) {
             Some(group) => Some((group, &self.indexes[number as usize])),

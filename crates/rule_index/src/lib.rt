@@ -16,6 +16,7 @@
 mod candidates;
 mod class;
 mod classes;
+mod counts;
 mod elements;
 mod head;
 mod indexed_keyboard;

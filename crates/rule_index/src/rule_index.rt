@@ -1,11 +1,11 @@
-ghost use Rattle.std.specs.Prelude.{◌≡◌, ◌≤◌, length, IfOk};
+ghost use Rattle.std.specs.Prelude.{◌≡◌, ◌≤◌, length, slice_index_or, IfOk};
 ghost use Rattle.kmn_base.specs.declared.limits.TheConstants.{RECORDS};
-ghost use Rattle.rule_index.specs.Groups.{record_classes};
-ghost use Rattle.rule_index.specs.Rows.{IsIndexOf};
+ghost use Rattle.rule_index.specs.Groups.{IsRuleIndexOf};
 
 use crate::candidates::Candidates;
 use crate::class::Class;
 use crate::classes::record_classes;
+use crate::counts::record_counts;
 use crate::row::Row;
 use crate::rows::rows_of;
 use file_parts::FileGroup;
@@ -13,37 +13,48 @@ use kmn_base::Memory;
 use std::alloc::Global;
 use std::marker::Model;
 
-/// The records of a group by what they can be met by. Contracts see it as its rows.
+/// The records of a group by what they can be met by, and how many items of the text each takes.
 #[derive(Drop)]
 pub struct RuleIndex {
     rows: Vec<Row>,
+    counts: Vec<u8>,
 }
 
 impl Model for RuleIndex {
-    ghost use Rattle.std.specs.Prelude.{List};
-    ghost use Rattle.rule_index.specs.declared.row.Row.{Row};
+    ghost use Rattle.rule_index.specs.Groups.{RuleIndexValue};
 
-    ghost Value = { List Row };
+    ghost Value = { RuleIndexValue };
 
-    ghost view = { λ index. index.rows.items };
+    ghost view = { λ index. record { rows = index.rows.items; counts = index.counts.items } };
 }
 
 impl RuleIndex {
     /// The index of a group's records.
     pub fn new(alloc: Global, group: &FileGroup<'_>) -> Result<RuleIndex, Memory>
         requires { length group.now.rules ≤ RECORDS }
-        ensures { IfOk result (λ index. IsIndexOf (record_classes group.now) index) }
+        ensures { IfOk result (λ index. IsRuleIndexOf group.now index) }
     {
         let classes = record_classes(alloc, group)?;
         Ok(RuleIndex {
             rows: rows_of(alloc, classes.as_slice())?,
+            counts: record_counts(alloc, group)?,
         })
     }
 
     /// The records that have one of some classes, one after the other.
     pub fn candidates(&self, wanted: &[Class; 6]) -> Candidates<'_>
-        ensures { result ≡ record { rows = self.now; wanted = wanted.now; from = 0 } }
+        ensures { result ≡ record { rows = self.now.rows; wanted = wanted.now; from = 0 } }
     {
         Candidates::of(self.rows.as_slice(), wanted)
+    }
+
+    /// How many items of the text the context of a record takes; none where there is no such record.
+    pub fn pattern_count(&self, number: u32) -> usize
+        ensures { result ≡ slice_index_or self.now.counts number 0 }
+    {
+        match self.counts.get(number as usize) {
+            Some(count) => usize::from(*count),
+            None => 0,
+        }
     }
 }

@@ -48,6 +48,9 @@ const CANDIDATES: [Asked; 7] = [
     (false, 112, 0, &[Char('x')], &[0, 1, 3, 4, 5]),
 ];
 
+/// How many items of the text each record takes, and one behind them none.
+const COUNTS: [usize; 7] = [0, 1, 1, 2, 1, 1, 0];
+
 /// Items and their first places among `ab`, mark 1, a virtual key, and `ab` again.
 const PLACES: [(Item, Option<usize>); 4] = [
     (Char('a'), Some(0)),
@@ -105,6 +108,15 @@ fn candidates_of_a_press(rt: HostRuntime) -> Result<(), Fail> {
     let without_keys = index_of(rt.alloc(), &file, 1)?;
     for asked in CANDIDATES {
         assert!(rt; answers(&with_keys, &without_keys, asked));
+    }
+    Ok(())
+}
+
+#[test]
+fn items_that_records_take(rt: HostRuntime) -> Result<(), Fail> {
+    let index = index_of(rt.alloc(), &FileTables::of(&FILE), 0)?;
+    for number in 0..7u32 {
+        assert!(rt; index.pattern_count(number) == COUNTS[number as usize]);
     }
     Ok(())
 }

@@ -6,8 +6,7 @@ ghost use Rattle.rule_model.specs.Hold.{is_true, is_at_start, pattern_count, has
 ghost use Rattle.rule_model.specs.Choose.{first};
 ghost use Rattle.rule_model.specs.Tab.{tab_pattern, tab_rule};
 ghost use Rattle.rule_model.specs.Plain.{caught_last};
-ghost use Rattle.rule_index.specs.Groups.{record_classes};
-ghost use Rattle.rule_index.specs.Rows.{IsIndexOf};
+ghost use Rattle.rule_index.specs.Groups.{IsRuleIndexOf};
 ghost use Rattle.rule_matching.specs.Moment.{content_at, held_record, AreShort};
 
 use crate::caught::{Caught, Found};
@@ -109,21 +108,6 @@ fn conditions_hold(moment: &Moment<'_>, context: Patterns<'_>) -> bool
     true
 }
 
-/// How many items of the text the context of a record looks at, whatever its stores are.
-#[tactic(auto, using(crate::proofs::Contexts::counted, crate::proofs::Contexts::uncounted))]
-fn pattern_count(rule: &FileRule<'_>) -> usize
-    requires { length rule.now.context ≤ CONTEXT_ITEMS }
-    ensures { result ≡ pattern_count (map (tab_pattern []) rule.now.context) }
-{
-    let mut count = 0;
-    for pattern in rule.context() {
-        if takes_item(pattern) {
-            count += 1;
-        }
-    }
-    count
-}
-
 /// Whether a context has a `nul`.
 fn has_nul(context: Patterns<'_>) -> bool
     ensures { result ≡ list_any is_at_start (map (tab_pattern []) context.entry) }
@@ -136,13 +120,12 @@ fn has_nul(context: Patterns<'_>) -> bool
     false
 }
 
-/// Whether a list has room for the context of a record, and with a `nul` nothing more.
-fn has_room(rule: &FileRule<'_>, left: &[Item]) -> bool
-    requires { length rule.now.context ≤ CONTEXT_ITEMS }
+/// Whether a list has room for the context of a record, which takes so many items, and with a `nul` nothing more.
+fn has_room(rule: &FileRule<'_>, count: usize, left: &[Item]) -> bool
+    requires { count ≡ pattern_count (map (tab_pattern []) rule.now.context) }
     ensures value { result ≡ has_room (map (tab_pattern []) rule.now.context) left.now }
     ensures enough { IsTrue result → pattern_count (map (tab_pattern []) rule.now.context) ≤ length left.now }
 {
-    let count = pattern_count(rule);
     if has_nul(rule.context()) {
         left.len() == count
     } else {
@@ -150,20 +133,22 @@ fn has_room(rule: &FileRule<'_>, left: &[Item]) -> bool
     }
 }
 
-/// What the context of a record catches of the last items of a list, where it has room.
+/// What the context of a record, which takes so many items, catches of the last items of a list, where it has room.
 fn caught_last(
     moment: &Moment<'_>,
     rule: &FileRule<'_>,
+    count: usize,
     left: &[Item],
 ) -> Option<ArrayVec<Found, 60>>
-    requires { length rule.now.context ≤ CONTEXT_ITEMS }
+    requires short { length rule.now.context ≤ CONTEXT_ITEMS }
+    requires count { count ≡ pattern_count (map (tab_pattern []) rule.now.context) }
     ensures { option_map (λ seen. seen.items) result ≡ caught_last
         (content_at moment.now) (map (tab_pattern moment.now.tables.stores) rule.now.context) left.now }
 {
-    if !has_room(rule, left) {
+    if !has_room(rule, count, left) {
         return None;
     }
-    caught_of(moment, rule, &left[left.len() - pattern_count(rule)..])
+    caught_of(moment, rule, &left[left.len() - count..])
 }
 
 /// The key of a record; in a group without keys each press fits.
@@ -180,38 +165,43 @@ fn with_key(found: Option<ArrayVec<Found, 60>>) -> Option<Caught>
     Some(Caught::of(found?))
 }
 
-/// What a record has caught where it holds on a list at a moment.
+/// What a record, whose context takes so many items, has caught where it holds on a list at a moment.
 fn holds(
     moment: &Moment<'_>,
     press: KeyPress,
     using_keys: bool,
     rule: &FileRule<'_>,
+    count: usize,
     left: &[Item],
 ) -> Option<Caught>
-    requires { length rule.now.context ≤ CONTEXT_ITEMS }
+    requires short { length rule.now.context ≤ CONTEXT_ITEMS }
+    requires count { count ≡ pattern_count (map (tab_pattern []) rule.now.context) }
     ensures { result ≡ holds (content_at moment.now) left.now press (tab_rule moment.now.tables.stores using_keys rule.now) }
 {
     if !conditions_hold(moment, rule.context()) || !fits(key_of(using_keys, rule), press) {
         return None;
     }
-    with_key(caught_last(moment, rule, left))
+    with_key(caught_last(moment, rule, count, left))
 }
 
 /// The record of a number with what it has caught, where there is one that holds on a list at a moment.
-#[tactic(auto, using(crate::proofs::Contexts::short_in_rules))]
+#[tactic(auto, using(crate::proofs::Contexts::short_in_rules, rule_index::proofs::ContextCounts::count_found))]
 fn held_record<'g>(
     moment: &Moment<'_>,
     press: KeyPress,
     group: &FileGroup<'g>,
+    records: &RuleIndex,
     number: u32,
     left: &[Item],
 ) -> Option<(FileRule<'g>, Caught)>
-    requires { AreShort group.now.rules }
+    requires short { AreShort group.now.rules }
+    requires index { IsRuleIndexOf group.now records.now }
     ensures { option_map (λ c. (tab_rule moment.now.tables.stores group.now.using_keys c.0, c.1)) result ≡ held_record
         (content_at moment.now) left.now press (option_map (tab_rule moment.now.tables.stores group.now.using_keys) (slice_get group.now.rules number)) }
 {
     let rule = group.rule(number)?;
-    let caught = holds(moment, press, group.using_keys(), &rule, left)?;
+    let count = records.pattern_count(number);
+    let caught = holds(moment, press, group.using_keys(), &rule, count, left)?;
     Some((rule, caught))
 }
 
@@ -225,13 +215,13 @@ pub fn first_held<'g>(
     left: &[Item],
 ) -> Option<(FileRule<'g>, Caught)>
     requires short { AreShort group.now.rules }
-    requires index { IsIndexOf (record_classes group.now) records.now }
+    requires index { IsRuleIndexOf group.now records.now }
     ensures { option_map (λ c. (tab_rule moment.now.tables.stores group.now.using_keys c.0, c.1)) result ≡ first
         (holds (content_at moment.now) left.now press) (map (tab_rule moment.now.tables.stores group.now.using_keys) group.now.rules) }
 {
     let mut candidates = records.candidates(&wanted_classes(press, left));
     while let Some(number) = candidates.next() {
-        if let Some(chosen) = held_record(moment, press, group, number, left) {
+        if let Some(chosen) = held_record(moment, press, group, records, number, left) {
             return Some(chosen);
         }
     }

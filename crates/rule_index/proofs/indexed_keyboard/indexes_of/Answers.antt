@@ -1,5 +1,5 @@
 use Rattle.std.proofs.Common.{List, sym, subst}
-use Rattle.rule_index.specs.declared.row.Row.{Row}
+use Rattle.rule_index.specs.Groups.{RuleIndexValue}
 use Rattle.rule_index.proofs.GroupIndexes.{AreIndexed, none_indexed, one_indexed, all_indexed, group_few}
 use Rattle.rule_index.proofs.indexed_keyboard.indexes_of.Goals as goal
 
@@ -14,7 +14,7 @@ new-requires c =
 
 pub loop-group-preserved : goal.loop-group-preserved
 loop-group-preserved c =
-    subst (λ (indexes : List (List Row)). AreIndexed c.args.file.now.groups indexes c.next.new.self) (sym c.in_ok-push.ensures.items)
+    subst (λ (indexes : List RuleIndexValue). AreIndexed c.args.file.now.groups indexes c.next.new.self) (sym c.in_ok-push.ensures.items)
     (one_indexed c.args.file.now.groups c.loop-group.indexes.items c.in-Some.group c.next.new.self c.in_ok-index.index
     (subst (AreIndexed c.args.file.now.groups c.loop-group.indexes.items) c.in-Some.ensures.steps c.loop-group.invariant) c.in_ok-index.ensures)
 

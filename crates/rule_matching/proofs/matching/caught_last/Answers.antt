@@ -8,4 +8,4 @@ returns-then-not-has_room c = caught_last_without_room _ c.args.moment.now.table
 pub returns : goal.returns
 returns c =
     c.caught_of.ensures
-    ∙ caught_last_with_room _ c.args.moment.now.tables.stores c.args.rule.now.context c.args.left.now _ _ (sym c.if-not-has_room.ensures.value) c.pattern_count.ensures refl
+    ∙ caught_last_with_room _ c.args.moment.now.tables.stores c.args.rule.now.context c.args.left.now _ _ (sym c.if-not-has_room.ensures.value) c.requires.count refl

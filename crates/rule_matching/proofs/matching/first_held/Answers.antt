@@ -11,8 +11,8 @@ use Rattle.rule_matching.proofs.matching.first_held.Goals.{In-Some}
 next : (c : In-Some) → IsNext (wanted_classes c.args.press c.args.left.now) 6 (classes_of c.args.group.now.using_keys c.args.group.now.rules)
     c.loop-number.candidates.from (Some c.in-Some.number)
 next c =
-    walked c.loop-number.candidates c.args.records.now c.args.press c.args.left.now c.args.group.now.using_keys c.args.group.now.rules (Some c.in-Some.number)
-    c.loop-number.invariant.rows c.loop-number.invariant.wanted c.requires.index c.in-Some.ensures.next
+    walked c.loop-number.candidates c.args.records.now.rows c.args.press c.args.left.now c.args.group.now.using_keys c.args.group.now.rules (Some c.in-Some.number)
+    c.loop-number.invariant.rows c.loop-number.invariant.wanted c.requires.index.records c.in-Some.ensures.next
 
 within : (c : In-Some) → (c.loop-number.candidates.from ≤ c.in-Some.number) × (c.in-Some.number < length c.args.group.now.rules)
 within c =
@@ -52,8 +52,8 @@ loop-number-preserved c =
 
 pub returns : goal.returns
 returns c =
-    let left = walked c.loop-number.candidates c.args.records.now c.args.press c.args.left.now c.args.group.now.using_keys c.args.group.now.rules None
-    c.loop-number.invariant.rows c.loop-number.invariant.wanted c.requires.index c.in_default.ensures.next in
+    let left = walked c.loop-number.candidates c.args.records.now.rows c.args.press c.args.left.now c.args.group.now.using_keys c.args.group.now.rules None
+    c.loop-number.invariant.rows c.loop-number.invariant.wanted c.requires.index.records c.in_default.ensures.next in
     sym (none_left (content_at c.args.moment.now) c.args.left.now c.args.press c.args.moment.now.tables.stores c.args.group.now.using_keys c.args.group.now.rules
     c.loop-number.candidates.from c.loop-number.invariant.within left)
     ∙ c.loop-number.invariant.same

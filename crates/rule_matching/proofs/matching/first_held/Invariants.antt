@@ -6,7 +6,7 @@ use Rattle.rule_matching.proofs.matching.first_held.Given as goal
 
 abbrev pub invariant-loop-number : goal.invariant-loop-number
 invariant-loop-number l = record {
-  rows : l.candidates.rows ≡ l.records;
+  rows : l.candidates.rows ≡ l.records.rows;
   wanted : l.candidates.wanted ≡ wanted_classes l.press l.left;
   within : l.candidates.from ≤ length l.group.rules;
   same : first_from (content_at l.moment) l.left l.press l.moment.tables.stores l.group.using_keys l.group.rules l.candidates.from
