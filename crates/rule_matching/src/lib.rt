@@ -12,6 +12,8 @@ mod contents;
 mod elements;
 mod matching;
 mod moment;
+mod place_memory;
+mod places;
 mod store_elements;
 mod store_value;
 
@@ -20,4 +22,5 @@ pub use contents::{content, elements_of, saved_of};
 pub use elements::{item_caught, item_of};
 pub use matching::first_held;
 pub use moment::Moment;
+pub use place_memory::PlaceMemory;
 pub use store_value::StoreValue;

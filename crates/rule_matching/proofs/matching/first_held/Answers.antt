@@ -21,7 +21,7 @@ within c = candidate_within c.args.press c.args.left.now c.args.group.now.using_
 pub returns-in-Some-held_record : goal.returns-in-Some-held_record
 returns-in-Some-held_record c =
     sym (candidate_holds (content_at c.args.moment.now) c.args.left.now c.args.press c.args.moment.now.tables.stores c.args.group.now.using_keys c.args.group.now.rules
-    c.loop-number.from c.in-Some.number (next (goal.at.returns-in-Some-held_record c).In-Some) _ (sym c.in-Some-held_record.ensures))
+    c.loop-number.from c.in-Some.number (next (goal.at.returns-in-Some-held_record c).In-Some) _ (sym c.in-Some-held_record.ensures.held))
     ∙ c.loop-number.invariant.same
 
 pub overflow_add-from : goal.overflow_add-from
@@ -41,8 +41,9 @@ loop-number-preserved c =
     record {
       within = omega (arith, here.1);
       same = sym (candidate_passed (content_at c.args.moment.now) c.args.left.now c.args.press c.args.moment.now.tables.stores c.args.group.now.using_keys c.args.group.now.rules
-          c.loop-number.from c.in-Some.number (next (goal.at.loop-number-preserved c).In-Some) (sym c.in_default-held_record.ensures))
+          c.loop-number.from c.in-Some.number (next (goal.at.loop-number-preserved c).In-Some) (sym c.in_default-held_record.ensures.held))
           ∙ c.loop-number.invariant.same;
+      right = c.in_default-held_record.ensures.right;
     }
 
 pub returns : goal.returns
