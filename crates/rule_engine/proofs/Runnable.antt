@@ -5,6 +5,7 @@ use Rattle.std.proofs.lemmas.List.Elements.{All-from_recursion, recursion_from_A
 use Rattle.std.proofs.lemmas.List.Folds.{length-flat_map-take}
 use Rattle.rule_model.specs.declared.tables.Group.{Group}
 use Rattle.rule_model.specs.declared.tables.Rule.{Rule}
+use Rattle.rule_model.specs.declared.tables.Store.{Store}
 use Rattle.rule_model.specs.declared.tables.Tables.{Tables}
 use Rattle.kmx_format.specs.File.{rules_of}
 use Rattle.kmx_format.specs.Playable.{IsPlayable, IsPlayableGroup}
@@ -28,5 +29,6 @@ playable_is_runnable tables can = record {
       (λ (rule : Rule) (r : IsWritableRule (length tables.stores) (length tables.groups) group.using_keys rule). r.context.item_count) g.rules)
       can.groups;
   few = λ (i : ℕ) (d : Group) (within : i < length tables.groups). omega (arith, length-flat_map-take rules_of tables.groups i d within, can.rule_count);
+  elements = λ (i : ℕ) (d : Store) (within : i < length tables.stores). (can.stores i d within).element_count;
   stores = omega (arith, can.store_count);
 }

@@ -15,6 +15,7 @@ use Rattle.rule_model.specs.Tab.{tab}
 use Rattle.rule_model.specs.Trace.{options_of, first_state}
 use Rattle.option_store.specs.declared.options.Cell.{Cell}
 use Rattle.option_store.specs.Meaning.{option_values, option_saves}
+use Rattle.rule_index.specs.Stores.{HaveFewElements}
 use Rattle.event_text.specs.Texts.{InsertedValue}
 use Rattle.rule_engine.specs.Event.{HasShortContexts, HaveFewRecords}
 
@@ -57,11 +58,12 @@ engine_with tables context cells inserted =
       inserted = inserted;
     }
 
--- tables that can be run: a context has no more items than are caught, a group no more records than are indexed, and there are
--- no more stores than a file may have
+-- tables that can be run: a context has no more items than are caught, a group no more records and a store no more elements
+-- than are indexed, and there are no more stores than a file may have
 pub record IsRunnable (tables : Tables) : Type 0 where
   pub short : HasShortContexts tables
   pub few : HaveFewRecords tables.groups
+  pub elements : HaveFewElements tables.stores
   pub stores : length tables.stores ≤ STORES
 
 -- what an engine is made of: tables that can be run, the last items, a cell for each store, and room for a press

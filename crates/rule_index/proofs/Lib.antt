@@ -7,3 +7,5 @@ pub mod OptionFlags
 pub mod OwnNames
 pub mod Places
 pub mod Skipping
+pub mod StoreIndexes
+pub mod StoreValues

@@ -6,4 +6,5 @@ pub mod Next
 pub mod OptionFlags
 pub mod OwnNames
 pub mod Rows
+pub mod Stores
 pub mod Values

@@ -1,9 +1,25 @@
 -- Values by the number of the first that is the same.
-use Rattle.std.specs.Prelude.{◌≡◌, ℕ, ◌<◌, List, [], length, slice_index_or, slice_index, Option, Some, None, bytes_eq, if◌then◌else◌}
+use Rattle.std.specs.Prelude.{◌≡◌, ℕ, ◌+◌, ◌*◌, ◌<◌, List, [], ◌∷◌, length, flat_map, slice_get, slice_index_or, slice_index, unwrap_or, Option, Some, None, bytes_eq, if◌then◌else◌}
 use Rattle.std.specs.Ordering.{nat_cmp}
 use Rattle.std.specs.Cmp.Lexicographic.{slice_cmp}
 use Rattle.std.specs.Borrow.{Bor}
 use Rattle.std.specs.BTreeMap.{BTreeMap, get_by}
+use Rattle.kmn_base.specs.declared.items.Element.{Element}
+use Rattle.kmn_base.specs.declared.items.Element.TheVariants as element
+
+-- an element as numbers, of which the first tells its kind and so how many there are
+abbrev pub element_code : Element → List ℕ
+element_code (element.Char c) = (3 * c) ∷ []
+element_code (element.Mark m) = (1 + 3 * m) ∷ []
+element_code (element.Key flags code) = (2 + 3 * flags) ∷ code ∷ []
+
+-- elements as the numbers of one after the other
+abbrev pub value_code : List Element → List ℕ
+value_code elements = flat_map element_code elements
+
+-- the number of a store's elements, where the number of no elements stands before those of the stores
+abbrev pub number_for : List ℕ → ℕ → ℕ
+number_for numbers store = unwrap_or (slice_get numbers (store + 1)) (slice_index numbers 0)
 
 -- values have the same number exactly where they are the same
 pub record AreNumbersOf (values : List (List ℕ)) (numbers : List ℕ) : Type 0 where

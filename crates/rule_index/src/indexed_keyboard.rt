@@ -4,37 +4,46 @@ ghost use Rattle.kmn_base.specs.declared.limits.TheConstants.{FILE_BYTES, RECORD
 ghost use Rattle.virtual_keys.specs.Dictionary.{name_in};
 ghost use Rattle.rule_model.specs.Content.{option_number};
 ghost use Rattle.rule_model.specs.Keyboard.{Numbered};
+ghost use Rattle.rule_model.specs.Match.{place_of, same_value};
 ghost use Rattle.rule_model.specs.Plain.{option_numbers};
 ghost use Rattle.rule_model.specs.Tab.{elements_of, tab};
 ghost use Rattle.rule_index.specs.Groups.{record_classes, AreIndexesOf};
 ghost use Rattle.rule_index.specs.Rows.{IsIndexOf};
+ghost use Rattle.rule_index.specs.Stores.{store_contents, HaveFewElements};
 
+use crate::indexed_store::{IndexedStore, copied};
 use crate::options::option_numbers;
 use crate::own_names::own_keys;
 use crate::rule_index::RuleIndex;
+use crate::values::{number_for, store_numbers};
 use file_parts::{Elements, FileGroup, FileTables, Parts};
-use kmn_base::Memory;
+use kmn_base::{Element, Item, Memory};
 use std::alloc::Global;
 use std::marker::Model;
 use virtual_keys::KeyDictionary;
 
-/// A file with what an engine looks up: the option number of each store, an index of each group's records, and the names
-/// of own keys. Nothing of the file is copied but these names. Contracts see the file's tables.
+/// A file with what an engine looks up: each store by place and by element, its option number, a number that the stores
+/// with the same elements have, an index of each group's records, and the names of own keys. Nothing of the file is copied
+/// but elements and these names. Contracts see the file's tables.
 #[derive(Drop)]
 pub struct IndexedKeyboard<'a> {
     alloc: Global,
     file: FileTables<'a>,
+    stores: Vec<IndexedStore>,
+    values: Vec<usize>,
     numbers: Vec<Option<usize>>,
     indexes: Vec<RuleIndex>,
     names: KeyDictionary,
 }
 
 impl<'a> Model for IndexedKeyboard<'a> {
-    ghost use Rattle.std.specs.Prelude.{◌≡◌};
+    ghost use Rattle.std.specs.Prelude.{◌≡◌, [], ◌∷◌, map};
     ghost use Rattle.rule_model.specs.declared.tables.Tables.{Tables};
     ghost use Rattle.rule_model.specs.Plain.{option_numbers};
     ghost use Rattle.rule_model.specs.Tab.{tab};
     ghost use Rattle.rule_index.specs.Groups.{AreIndexesOf};
+    ghost use Rattle.rule_index.specs.Stores.{store_contents};
+    ghost use Rattle.rule_index.specs.Values.{value_code, AreNumbersOf};
 
     ghost Value = { Tables };
 
@@ -43,7 +52,22 @@ impl<'a> Model for IndexedKeyboard<'a> {
     ghost invariant = { λ keyboard.
         (keyboard.numbers.items ≡ option_numbers 0 (tab keyboard.file).stores)
         × AreIndexesOf keyboard.file.groups keyboard.indexes.items
-        × (keyboard.names ≡ (tab keyboard.file).dictionary) };
+        × (keyboard.names ≡ (tab keyboard.file).dictionary)
+        × (keyboard.stores.items ≡ store_contents keyboard.file.stores)
+        × AreNumbersOf (map value_code ([] ∷ store_contents keyboard.file.stores)) keyboard.values.items };
+}
+
+/// Each store by place and by element.
+fn stores_of(alloc: Global, file: &FileTables<'_>) -> Result<Vec<IndexedStore>, Memory>
+    requires { HaveFewElements file.now.stores }
+    ensures { IfOk result (λ stores. stores.items ≡ store_contents file.now.stores) }
+{
+    let mut stores = Vec::new(alloc);
+    for store in file.stores() {
+        let elements = copied(alloc, store.elements())?;
+        stores.push(IndexedStore::new(alloc, elements)?)?;
+    }
+    Ok(stores)
 }
 
 /// The index of each group's records.
@@ -70,15 +94,20 @@ impl<'a> IndexedKeyboard<'a> {
     /// Looks up what an engine needs of a file.
     #[tactic(auto, unfolding(rule_model::specs::Tab::tab))]
     pub fn new(alloc: Global, file: FileTables<'a>) -> Result<IndexedKeyboard<'a>, Memory>
-        requires { All (λ group. length group.rules ≤ RECORDS) file.groups }
+        requires records { All (λ group. length group.rules ≤ RECORDS) file.groups }
+        requires elements { HaveFewElements file.stores }
         ensures { IfOk result (λ keyboard. keyboard ≡ file.entry) }
     {
+        let stores = stores_of(alloc, &file)?;
+        let values = store_numbers(alloc, stores.as_slice())?;
         let numbers = option_numbers(alloc, &file)?;
         let indexes = indexes_of(alloc, &file)?;
         let names = own_keys(alloc, &file)?;
         Ok(IndexedKeyboard {
             alloc,
             file,
+            stores,
+            values,
             numbers,
             indexes,
             names,
@@ -154,5 +183,34 @@ impl<'a> IndexedKeyboard<'a> {
             Some(store) => store.elements(),
             None => Parts::none(),
         }
+    }
+    /// The first place of an item in a store.
+    #[tactic(auto, using(crate::proofs::StoreIndexes::contents_found, crate::proofs::StoreIndexes::contents_absent))]
+    pub fn place_of(&self, store: u32, item: Item) -> Option<usize>
+        ensures { result ≡ place_of item (elements_of self.now.stores store) }
+    {
+        match self.stores.get(store as usize) {
+            Some(store) => store.place_of(item),
+            None => None,
+        }
+    }
+
+    /// The element at a place of a store.
+    #[tactic(auto, using(crate::proofs::StoreIndexes::contents_found, crate::proofs::StoreIndexes::contents_absent))]
+    pub fn element_at(&self, store: u32, place: usize) -> Option<Element>
+        ensures { result ≡ slice_get (elements_of self.now.stores store) place }
+    {
+        match self.stores.get(store as usize) {
+            Some(store) => store.elements().get(place).copied(),
+            None => None,
+        }
+    }
+    /// Whether two stores have the same elements.
+    #[tactic(auto, using(crate::proofs::StoreValues::some_numbers, crate::proofs::StoreValues::same_number))]
+    pub fn same_elements(&self, store: u32, other: u32) -> bool
+        ensures { result ≡ same_value (elements_of self.now.stores store) (elements_of self.now.stores other) }
+    {
+        let values = self.values.as_slice();
+        number_for(values, store) == number_for(values, other)
     }
 }

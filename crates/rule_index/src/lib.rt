@@ -1,20 +1,22 @@
 //! Finds, of a group's records, those that can hold for a press and the last item before the caret, and the first place of
-//! an item in a store, both by search.
+//! an item in a store, both by search; the element at a place of a store, and whether two stores have the same elements, at once.
 //!
 //! It stands on `kmn_base`, `rule_model`, `virtual_keys` and `file_parts`, which reads a file where it lies. The layer above
 //! makes an `IndexedKeyboard` of `FileTables`, which has once and for all what is looked up: an index of each group's records
-//! (`specs/Groups`), the option number of each store (`specs/OptionFlags`), and the names of own keys (`specs/OwnNames`); it
-//! hands out groups and elements as the file has them. The layer above asks `wanted_classes` of a press and the list before
-//! the caret, and tries the records that `next_candidate` of a group's `RuleIndex` answers, in the file's order. A `PlaceIndex`
-//! of a store answers the place that `any` catches, and `value_numbers` numbers values so that conditions compare numbers.
-//! `specs/Classes` says by what a record can be met, `specs/Next` which record is the next candidate. The laws stand in
-//! `laws`: a record that holds is among the wanted ones, so the first record that holds is the first candidate that does.
+//! (`specs/Groups`), each store by place and by element (`specs/Stores`), a number that stores with the same elements have
+//! (`specs/Values`), the option number of each store (`specs/OptionFlags`), and the names of own keys (`specs/OwnNames`); it
+//! hands out groups as the file has them. The layer above asks `wanted_classes` of a press and the list before the caret, and
+//! tries the records that `next_candidate` of a group's `RuleIndex` answers, in the file's order. It asks `place_of` for what
+//! `any` catches, `element_at` for what `index` takes, and `same_elements` in conditions. `specs/Classes` says by what a record
+//! can be met, `specs/Next` which record is the next candidate. The laws stand in `laws`: a record that holds is among the
+//! wanted ones, so the first record that holds is the first candidate that does.
 #![tactic(auto)]
 
 mod class;
 mod classes;
 mod elements;
 mod indexed_keyboard;
+mod indexed_store;
 pub mod laws;
 mod options;
 mod own_names;
@@ -29,6 +31,4 @@ mod values;
 pub use class::Class;
 pub use classes::wanted_classes;
 pub use indexed_keyboard::IndexedKeyboard;
-pub use place_index::PlaceIndex;
 pub use rule_index::RuleIndex;
-pub use values::value_numbers;

@@ -1,13 +1,15 @@
-//! The records that can hold for a press and a last item, one after the other, what is looked up of a file, and the first
-//! places of items.
+//! The records that can hold for a press and a last item, one after the other, what is looked up of a file, the first
+//! places of items, and the numbers of what stores have.
 
+use crate::indexed_store::IndexedStore;
 use crate::options::option_numbers;
 use crate::own_names::own_keys;
-use crate::{PlaceIndex, RuleIndex, value_numbers, wanted_classes};
+use crate::values::store_numbers;
+use crate::{RuleIndex, wanted_classes};
 use file_parts::FileTables;
 use kmn_base::Item::{Char, Mark};
-use kmn_base::limits::RECORDS;
-use kmn_base::{Element, Item, KeyPress, Memory, Seq};
+use kmn_base::limits::{RECORDS, STORE_ELEMENTS};
+use kmn_base::{Element, Item, KeyPress, Memory};
 use std::alloc::Global;
 use std::test::Fail;
 
@@ -56,15 +58,25 @@ const CANDIDATES: [Asked; 15] = [
 ];
 
 /// Items and their first places among `ab`, mark 1, a virtual key, and `ab` again.
-const PLACES: [(Item, Option<u32>); 4] = [
+const PLACES: [(Item, Option<usize>); 4] = [
     (Char('a'), Some(0)),
     (Char('b'), Some(1)),
     (Mark(1), Some(2)),
     (Mark(2), None),
 ];
 
-/// Values, and for each the place of the first that is the same.
-const VALUES: ([&[u8]; 5], [u32; 5]) = ([b"a", b"", b"ab", b"", b"a"], [0, 1, 2, 1, 0]);
+/// What stores have, and the numbers of no elements and of each store's: of what is the same, the first place.
+const VALUES: ([&[Element]; 6], [usize; 7]) = (
+    [
+        &[Element::Char('a')],
+        &[],
+        &[Element::Key { flags: 0, code: 65 }],
+        &[Element::Mark(1), Element::Char('a')],
+        &[Element::Char('a')],
+        &[Element::Key { flags: 0, code: 66 }],
+    ],
+    [0, 1, 0, 3, 4, 1, 6],
+);
 
 /// The index of a group's records, where there are not too many.
 fn index_of(alloc: Global, file: &FileTables<'_>, number: u32) -> Result<RuleIndex, Memory> {
@@ -82,14 +94,12 @@ fn answers(with_keys: &RuleIndex, without_keys: &RuleIndex, asked: Asked) -> boo
     index.next_candidate(&wanted, from.min(6)) == candidate
 }
 
-/// Whether values have these numbers.
-fn numbers_are(alloc: Global, values: &[&[u8]], wanted: &[u32]) -> Result<bool, Memory> {
-    let mut texts = Vec::new(alloc);
-    for value in values {
-        texts.push(Seq::from_slice(alloc, value)?)?;
+/// The store of these elements, where there are not too many.
+fn store_of(alloc: Global, elements: &[Element]) -> Result<IndexedStore, Memory> {
+    if elements.len() > STORE_ELEMENTS {
+        return Err(Memory);
     }
-    let texts = texts.as_slice();
-    Ok(value_numbers(alloc, &texts[..texts.len().min(5)])?.as_slice() == wanted)
+    IndexedStore::new(alloc, Vec::from_slice(alloc, elements)?)
 }
 
 #[test]
@@ -129,16 +139,21 @@ fn first_places(rt: HostRuntime) -> Result<(), Fail> {
         Element::Char('a'),
         Element::Char('b'),
     ];
-    let index = PlaceIndex::new(rt.alloc(), &elements)?;
+    let store = store_of(rt.alloc(), &elements)?;
     for (item, place) in PLACES {
-        assert!(rt; index.place_of(item) == place);
+        assert!(rt; store.place_of(item) == place);
     }
+    assert!(rt; store.elements() == elements.as_slice());
     Ok(())
 }
 
 #[test]
-fn numbers_of_values(rt: HostRuntime) -> Result<(), Fail> {
+fn numbers_of_stores(rt: HostRuntime) -> Result<(), Fail> {
     let (values, numbers) = VALUES;
-    assert!(rt; numbers_are(rt.alloc(), &values, &numbers)?);
+    let mut stores = Vec::new(rt.alloc());
+    for elements in values {
+        stores.push(store_of(rt.alloc(), elements)?)?;
+    }
+    assert!(rt; store_numbers(rt.alloc(), stores.as_slice())?.as_slice() == numbers.as_slice());
     Ok(())
 }

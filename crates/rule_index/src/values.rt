@@ -1,17 +1,54 @@
-ghost use Rattle.std.specs.Prelude.{◌≤◌, IfOk, length};
-ghost use Rattle.kmn_base.specs.declared.limits.TheConstants.{STORES};
-ghost use Rattle.rule_index.specs.Values.{AreNumbersOf, known_in, IsNumbered};
+ghost use Rattle.std.specs.Prelude.{◌≡◌, ◌++◌, ◌<◌, [], ◌∷◌, IfOk, OnOk, flat_map, length, map};
+ghost use Rattle.rule_index.specs.Values.{element_code, number_for, value_code, AreNumbersOf, known_in, IsNumbered};
 
-use kmn_base::{Memory, Text};
+use crate::indexed_store::IndexedStore;
+use kmn_base::{Element, Memory, Seq};
 use std::alloc::Global;
 use std::collections::BTreeMap;
 
+/// Puts the code of an element.
+fn put_code(code: &mut Seq<u32>, element: Element) -> Result<(), Memory>
+    ensures { OnOk result (code.new ≡ code.old ++ element_code element) }
+{
+    match element {
+        Element::Char(c) => code.add(3 * u32::from(c)),
+        Element::Mark(mark) => code.add(1 + 3 * u32::from(mark)),
+        Element::Key { flags, code: key } => {
+            code.add(2 + 3 * u32::from(flags))?;
+            code.add(u32::from(key))
+        }
+    }
+}
+
+/// The code of elements, which other elements don't have.
+fn value_code(alloc: Global, elements: &[Element]) -> Result<Seq<u32>, Memory>
+    ensures { IfOk result (λ code. code ≡ value_code elements.now) }
+{
+    let mut code = Seq::new(alloc);
+    for element in elements {
+        put_code(&mut code, *element)?;
+    }
+    Ok(code)
+}
+
+/// The codes of no elements and, behind it, of each store's.
+fn value_codes(alloc: Global, stores: &[IndexedStore]) -> Result<Vec<Seq<u32>>, Memory>
+    ensures { IfOk result (λ codes. codes.items ≡ map value_code ([] ∷ stores.now)) }
+{
+    let mut codes = Vec::new(alloc);
+    codes.push(Seq::new(alloc))?;
+    for store in stores {
+        codes.push(value_code(alloc, store.elements())?)?;
+    }
+    Ok(codes)
+}
+
 /// The number of a value that is known, else the next one, which is then known.
 fn numbered<'a>(
-    known: &mut BTreeMap<&'a [u8], u32>,
-    value: &'a [u8],
-    next: u32,
-) -> Result<u32, Memory>
+    known: &mut BTreeMap<&'a [u32], usize>,
+    value: &'a [u32],
+    next: usize,
+) -> Result<usize, Memory>
     ensures { IfOk result (λ number. IsNumbered (known_in known.old) (known_in known.new) value.now next number) }
 {
     if let Some(number) = known.get(value) {
@@ -22,15 +59,33 @@ fn numbered<'a>(
 }
 
 /// For each value the number of the first that is the same, so that values are compared by one comparison.
-pub fn value_numbers(alloc: Global, values: &[Text]) -> Result<Vec<u32>, Memory>
-    requires { length values.now ≤ STORES }
+fn value_numbers(alloc: Global, values: &[Seq<u32>]) -> Result<Vec<usize>, Memory>
     ensures { IfOk result (λ numbers. AreNumbersOf values.now numbers.items) }
 {
     let mut known = BTreeMap::new(alloc);
     let mut numbers = Vec::new(alloc);
     for place in 0..values.len() {
-        let number = numbered(&mut known, values[place].as_slice(), place as u32)?;
+        let number = numbered(&mut known, values[place].as_slice(), place)?;
         numbers.push(number)?;
     }
     Ok(numbers)
+}
+
+/// The numbers of no elements and, behind it, of each store's.
+pub fn store_numbers(alloc: Global, stores: &[IndexedStore]) -> Result<Vec<usize>, Memory>
+    ensures { IfOk result (λ numbers. AreNumbersOf (map value_code ([] ∷ stores.now)) numbers.items) }
+{
+    let codes = value_codes(alloc, stores)?;
+    value_numbers(alloc, codes.as_slice())
+}
+
+/// The number of a store's elements among these numbers, that of no elements where there is no such store.
+pub fn number_for(numbers: &[usize], store: u32) -> usize
+    requires { 0 < length numbers.now }
+    ensures { result ≡ number_for numbers.now store }
+{
+    match numbers.get(store as usize + 1) {
+        Some(number) => *number,
+        None => numbers[0],
+    }
 }

@@ -1,10 +1,8 @@
 ghost use Rattle.std.specs.Prelude.{◌≡◌, ◌≤◌, length};
 ghost use Rattle.kmn_base.specs.declared.limits.TheConstants.{FILE_BYTES};
-ghost use Rattle.rule_model.specs.Match.{place_of};
 
-use crate::elements::is_item;
 use file_parts::Elements;
-use kmn_base::{Element, Item};
+use kmn_base::Element;
 use std::marker::Model;
 
 /// The elements of a store of the file, of which there are no more than a file has bytes. Contracts see it as the list of
@@ -33,14 +31,6 @@ impl<'c> StoreElements<'c> {
         ensures { result ≡ elements.entry }
     {
         StoreElements { elements }
-    }
-
-    /// The first place of an item.
-    pub fn place_of(self, item: Item) -> Option<usize>
-        ensures { result ≡ place_of item self.entry }
-    {
-        let mut elements = self.elements;
-        elements.position(|element| is_item(item, element))
     }
 }
 
