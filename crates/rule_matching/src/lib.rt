@@ -16,7 +16,6 @@ mod matching;
 mod moment;
 mod place_memory;
 mod places;
-mod store_elements;
 mod store_value;
 
 pub use caught::{Caught, Found};

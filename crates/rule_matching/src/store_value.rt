@@ -3,14 +3,14 @@ ghost use Rattle.rule_model.specs.Match.{same_value};
 ghost use Rattle.rule_matching.specs.StoreValues.{elements_in};
 
 use crate::elements::same_element;
-use crate::store_elements::StoreElements;
+use file_parts::Elements;
 use kmn_base::{Element, Memory, Seq};
 use std::alloc::Global;
 
 /// What a store has, read where it lies, element by element: elements of the file, or a text of the host.
 #[derive(Drop)]
 pub enum StoreValue<'c> {
-    Elements(StoreElements<'c>),
+    Elements(Elements<'c>),
     Text(&'c [char]),
 }
 
