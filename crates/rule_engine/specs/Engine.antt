@@ -1,11 +1,11 @@
 -- What an engine is, and what a press and a new text make of it.
-use Rattle.std.specs.Prelude.{◌≡◌, ◌≤◌, ◌<◌, ◌^◌, ℕ, List, [], length, map, Option, Some, None, position, slice_set}
+use Rattle.std.specs.Prelude.{◌≡◌, ◌≤◌, ℕ, List, [], length, map, Option, Some, None, position, slice_set}
 use Rattle.kmn_base.specs.declared.items.Item.{Item}
 use Rattle.kmn_base.specs.declared.items.Element.{Element}
 use Rattle.kmn_base.specs.declared.items.Element.TheVariants.{Char}
 use Rattle.kmn_base.specs.declared.keys.KeyPress.{KeyPress}
 use Rattle.kmn_base.specs.declared.events.Outcome.{Outcome}
-use Rattle.kmn_base.specs.declared.limits.TheConstants.{EVENT_PUTS, WINDOW_ITEMS}
+use Rattle.kmn_base.specs.declared.limits.TheConstants.{EVENT_PUTS, STORES, WINDOW_ITEMS}
 use Rattle.kmn_base.specs.Lists.{read_again, window}
 use Rattle.rule_model.specs.declared.event_state.EventState.{EventState}
 use Rattle.rule_model.specs.declared.tables.Tables.{Tables}
@@ -59,12 +59,12 @@ engine_with tables context cells inserted =
     }
 
 -- tables that can be run: a context has no more items than are caught, a group no more records and a store no more elements
--- than are indexed, and stores have 32-bit numbers
+-- than are indexed, and there are no more stores than a file may have
 pub record IsRunnable (tables : Tables) : Type 0 where
   pub short : HasShortContexts tables
   pub few : HaveFewRecords tables.groups
   pub elements : HaveFewElements tables.stores
-  pub stores : length tables.stores < 2 ^ 32
+  pub stores : length tables.stores ≤ STORES
 
 -- what an engine is made of: tables that can be run, the last items, a cell for each store, and room for a press
 pub record IsAtWork (tables : Tables) (context : List Item) (cells : List Cell) (inserted : InsertedValue) : Type 0 where

@@ -19,19 +19,21 @@ use kmn_base::{Item, KeyPress, Memory, Outcome};
 use kmx_verifier::Verified;
 use option_store::Options;
 use rule_index::IndexedKeyboard;
-use rule_matching::StoreValue;
+use rule_matching::{PlaceMemory, StoreValue};
 use std::alloc::Global;
 use std::marker::Model;
 use std::mem;
 use virtual_keys::KeyDictionary;
 
-/// A keyboard at work: the last items before the caret, what the stores hold, and what the last press inserted.
+/// A keyboard at work: the last items before the caret, what the stores hold, what the last press inserted, and room for the
+/// places that are found while a record is chosen.
 #[derive(Drop)]
 pub struct Engine<'a> {
     indexed: IndexedKeyboard<'a>,
     cache: Cache,
     options: Options,
     inserted: Inserted,
+    places: PlaceMemory,
 }
 
 impl<'a> Model for Engine<'a> {
@@ -63,6 +65,7 @@ impl<'a> Engine<'a> {
         ensures { IfOk result (λ engine. engine ≡ first_engine file.entry) }
     {
         let options = Options::new(alloc, file.store_count())?;
+        let places = PlaceMemory::new(alloc, file.store_count() as usize)?;
         let indexed = IndexedKeyboard::new(alloc, file)?;
         let inserted = Inserted::with_room(alloc)?;
         Ok(Engine {
@@ -70,6 +73,7 @@ impl<'a> Engine<'a> {
             cache: Cache::new(),
             options,
             inserted,
+            places,
         })
     }
 
@@ -80,11 +84,13 @@ impl<'a> Engine<'a> {
         let indexed = IndexedKeyboard::new(alloc, self.indexed.file())?;
         let options = self.options.copy(alloc)?;
         let inserted = self.inserted.copy(alloc)?;
+        let places = PlaceMemory::new(alloc, self.indexed.file().store_count() as usize)?;
         Ok(Engine {
             indexed,
             cache: self.cache.copy(),
             options,
             inserted,
+            places,
         })
     }
 
@@ -100,10 +106,12 @@ impl<'a> Engine<'a> {
         let inserted = mem::replace(&mut self.inserted, Inserted::without_room(alloc));
         let options = mem::replace(&mut self.options, Options::none(alloc));
         let cache = mem::replace(&mut self.cache, Cache::new());
-        let done = pressed(&self.indexed, left, press, cache, options, inserted);
+        let places = mem::replace(&mut self.places, PlaceMemory::without_room(alloc));
+        let done = pressed(&self.indexed, left, press, cache, options, inserted, places);
         self.inserted = done.inserted;
         self.options = done.options;
         self.cache = done.cache;
+        self.places = done.places;
         done.outcome
     }
 
@@ -217,6 +225,7 @@ fn pressed(
     cache: Cache,
     options: Options,
     inserted: Inserted,
+    places: PlaceMemory,
 ) -> Pressed
     requires few { length left.now < 2 ^ 32 }
     requires work { IsAtWork indexed.now cache options inserted }
@@ -224,7 +233,7 @@ fn pressed(
     ensures engine { engine_with indexed.now result.cache result.options result.inserted.text ≡ press_leaves left.now key (engine_with indexed.now cache options inserted.text) }
     ensures work { IsAtWork indexed.now result.cache result.options result.inserted }
 {
-    let mut event = Event::begin(indexed, left, inserted, cache, options);
+    let mut event = Event::begin(indexed, left, inserted, cache, options, places);
     press(key, &mut event);
     event.finish()
 }

@@ -19,7 +19,7 @@ use kmn_base::limits::EVENT_PUTS;
 use kmn_base::{Item, KeyPress, Outcome};
 use option_store::Options;
 use rule_index::{IndexedKeyboard, RuleIndex};
-use rule_matching::{Caught, Moment, first_held};
+use rule_matching::{Caught, Moment, PlaceMemory, first_held};
 use std::marker::Model;
 use virtual_keys::codes::K_BKSP;
 use virtual_keys::is_plain;
@@ -30,6 +30,7 @@ pub struct Event<'a> {
     indexed: &'a IndexedKeyboard<'a>,
     left: Left<'a>,
     options: Options,
+    places: PlaceMemory,
     pass: bool,
     stopped: bool,
     beeps: u32,
@@ -37,13 +38,14 @@ pub struct Event<'a> {
     saves: u32,
 }
 
-/// What a press leaves: what it did, the last items, what it inserted, and what the stores hold.
+/// What a press leaves: what it did, the last items, what it inserted, what the stores hold, and the room for places.
 #[derive(Drop)]
 pub struct Pressed {
     pub outcome: Outcome,
     pub cache: Cache,
     pub inserted: Inserted,
     pub options: Options,
+    pub places: PlaceMemory,
 }
 
 impl<'a> Model for Event<'a> {
@@ -83,6 +85,7 @@ impl<'a> Event<'a> {
         inserted: Inserted,
         cache: Cache,
         options: Options,
+        places: PlaceMemory,
     ) -> Event<'a>
         requires few { length lent.now < 2 ^ 32 }
         requires room { inserted.room ≡ EVENT_PUTS }
@@ -99,6 +102,7 @@ impl<'a> Event<'a> {
             indexed,
             left: Left::begin(lent, inserted, cache),
             options,
+            places,
             pass: false,
             stopped: false,
             beeps: 0,
@@ -132,6 +136,7 @@ impl<'a> Event<'a> {
             cache: edited.cache,
             inserted: edited.inserted,
             options: self.options,
+            places: self.places,
         }
     }
 
@@ -211,7 +216,15 @@ impl<'a> Event<'a> {
         ensures same { self.new ≡ self.old }
     {
         let window = self.window();
-        first_held(&self.moment(), press, group, records, window.items())
+        let moment = Moment::of(self.indexed, &self.options);
+        first_held(
+            &moment,
+            press,
+            group,
+            records,
+            window.items(),
+            &mut self.places,
+        )
     }
 
     /// Takes the last items, at most as many as a window has.

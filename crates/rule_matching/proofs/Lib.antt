@@ -1,5 +1,7 @@
 pub mod Candidates
 pub mod Catches
 pub mod Contexts
+pub mod KnownPlaces
 pub mod Lying
+pub mod Remembering
 pub mod StoreContents

@@ -1,6 +1,7 @@
--- What a store has, where it lies: when two elements are the same, and the places of an item in a text.
+-- What a store has, where it lies: when two elements are the same, and a text of the host as elements.
 use Rattle.std.proofs.Common.{◌≡◌, ℕ, List, map, refl, sym}
-use Rattle.std.specs.Prelude.{Option, Some, None, option_map, position}
+use Rattle.std.specs.Prelude.{option_map, position, slice_get}
+use Rattle.std.proofs.lemmas.Option.{slice_get-map}
 use Rattle.virtual_keys.proofs.PositionLemmas.{position-map}
 use Rattle.kmn_base.specs.declared.items.Item.{Item}
 use Rattle.kmn_base.specs.declared.items.Element.{Element}
@@ -20,10 +21,10 @@ equal_elements (element.Key flags code) (element.Char d) = refl
 equal_elements (element.Key flags code) (element.Mark n) = refl
 equal_elements (element.Key flags code) (element.Key other other_code) = refl
 
-pub same_option : {X : Type 0} (x : Option X) → option_map (λ y. y) x ≡ x
-same_option None = refl
-same_option (Some x) = refl
-
 -- an item stands among the characters of a text where it stands among its elements
 pub place_in_text : (x : Item) (text : List ℕ) → position (λ c. is_item x (element.Char c)) text ≡ place_of x (map element.Char text)
 place_in_text x text = sym (position-map element.Char (is_item x) text)
+
+-- the characters of a text by place, as elements
+pub element_in_text : (text : List ℕ) (place : ℕ) → option_map element.Char (slice_get text place) ≡ slice_get (map element.Char text) place
+element_in_text text place = sym (slice_get-map element.Char text place)

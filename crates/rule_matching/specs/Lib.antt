@@ -1,2 +1,4 @@
+pub mod Matching
 pub mod Moment
+pub mod PlaceMemory
 pub mod StoreValues

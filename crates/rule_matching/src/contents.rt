@@ -8,7 +8,6 @@ ghost use Rattle.rule_model.specs.Tab.{elements_of, tab};
 ghost use Rattle.rule_matching.specs.Moment.{saved_of};
 ghost use Rattle.rule_matching.specs.StoreValues.{elements_in};
 
-use crate::store_elements::StoreElements;
 use crate::store_value::StoreValue;
 use option_store::{Held, Options};
 use rule_index::IndexedKeyboard;
@@ -17,7 +16,7 @@ use rule_index::IndexedKeyboard;
 pub fn elements_of<'c>(indexed: &IndexedKeyboard<'c>, store: u32) -> StoreValue<'c>
     ensures { elements_in result ≡ elements_of indexed.now.stores store }
 {
-    StoreValue::Elements(StoreElements::of(indexed.elements(store)))
+    StoreValue::Elements(indexed.elements(store))
 }
 
 /// What is held for a store: the elements of a store of the tables, or the host's text.

@@ -2,17 +2,20 @@
 //!
 //! It stands on `rule_model`, whose `specs` say when a rule holds, on `file_parts`, which lends the file's parts where they
 //! lie, on `rule_index` for what is looked up in the tables, and on `option_store` for the values of options. The layer above
-//! lends a `Moment`, the keyboard with what its stores hold, and the last items before the caret: `first_held` answers the
-//! first record of a group that holds then, and what it has caught. A moment is seen as a `MomentValue`, and what each store
-//! has then is `content_at` of it. Nothing here takes memory but the copy of a `StoreValue`.
+//! lends a `Moment`, the keyboard with what its stores hold, the last items before the caret, and a `PlaceMemory`: `first_held`
+//! answers the first record of a group that holds then, and what it has caught. A moment is seen as a `MomentValue`, and what
+//! each store has then is `content_at` of it. What the memory knows doesn't matter to the layer above: `first_held` forgets it
+//! first. Memory is taken by `PlaceMemory::new` and by the copy of a `StoreValue` alone.
 #![tactic(auto)]
 
 mod caught;
 mod contents;
 mod elements;
+mod host_text;
 mod matching;
 mod moment;
-mod store_elements;
+mod place_memory;
+mod places;
 mod store_value;
 
 pub use caught::{Caught, Found};
@@ -20,4 +23,5 @@ pub use contents::{content, elements_of, saved_of};
 pub use elements::{item_caught, item_of};
 pub use matching::first_held;
 pub use moment::Moment;
+pub use place_memory::PlaceMemory;
 pub use store_value::StoreValue;

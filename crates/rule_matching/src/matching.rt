@@ -1,17 +1,20 @@
-ghost use Rattle.std.specs.Prelude.{◌≡◌, ◌≤◌, [], Some, None, IsTrue, length, map, option_map, slice_get, if◌then◌else◌};
+ghost use Rattle.std.specs.Prelude.{◌≡◌, ◌≤◌, ◌<◌, ◌-◌, [], Some, None, IsTrue, drop, length, map, option_and_then, option_map, slice_get, if◌then◌else◌};
 ghost use Rattle.std.specs.List.{list_all, list_any};
 ghost use Rattle.kmn_base.specs.declared.limits.TheConstants.{CONTEXT_ITEMS};
-ghost use Rattle.rule_model.specs.Match.{takes_item, matches, place_for, catches_from};
+ghost use Rattle.rule_model.specs.Match.{takes_item, catches_from};
 ghost use Rattle.rule_model.specs.Hold.{is_true, is_at_start, pattern_count, has_room, caught_by, holds};
 ghost use Rattle.rule_model.specs.Choose.{first};
 ghost use Rattle.rule_model.specs.Tab.{tab_pattern, tab_rule};
 ghost use Rattle.rule_model.specs.Plain.{caught_last};
 ghost use Rattle.rule_index.specs.Groups.{IsRuleIndexOf};
+ghost use Rattle.rule_matching.specs.Matching.{catch_of, item_before, place_asked, RemembersRight};
 ghost use Rattle.rule_matching.specs.Moment.{content_at, held_record, AreShort};
 
 use crate::caught::{Caught, Found};
 use crate::elements::{is_element, is_item, is_same, item_caught, place_caught};
 use crate::moment::Moment;
+use crate::place_memory::PlaceMemory;
+use crate::places::{item_before, place_asked};
 use arrayvec::ArrayVec;
 use file_parts::{FileGroup, FileRule, Patterns};
 use kmn_base::{Element, Item, KeyPress, RuleKey};
@@ -26,42 +29,83 @@ fn takes_item(pattern: Pat) -> bool
     !matches!(&pattern, Pat::Equal(..) | Pat::Unequal(..) | Pat::Nul)
 }
 
-/// Whether an item stands to a pattern as the pattern asks, behind what was caught so far.
-fn matches(moment: &Moment<'_>, seen: &[Found], pattern: Pat, item: Item) -> bool
-    ensures { result ≡ matches (content_at moment.now) seen.now (tab_pattern moment.now.tables.stores pattern) item }
+/// An item that was caught without a place, where it stands to its pattern as that asks.
+fn placeless(fits: bool, item: Item) -> Option<Found>
+    ensures { result ≡ (if fits then Some (record { item = Some item; place = None }) else None) }
+{
+    fits.then_some(Found {
+        item: Some(item),
+        place: None,
+    })
+}
+
+/// What a pattern catches of an item, where that stands to it as it asks, behind what was caught so far. The place is that
+/// of the item in the store that the pattern asks for.
+#[tactic(auto, using(crate::proofs::KnownPlaces::any_found, crate::proofs::KnownPlaces::any_not_found))]
+fn catch_of(
+    moment: &Moment<'_>,
+    seen: &[Found],
+    pattern: Pat,
+    item: Item,
+    place: Option<usize>,
+) -> Option<Found>
+    requires { place ≡ place_asked (content_at moment.now) (tab_pattern moment.now.tables.stores pattern) item }
+    ensures { result ≡ catch_of (content_at moment.now) seen.now (tab_pattern moment.now.tables.stores pattern) item }
 {
     match pattern {
-        Pat::Char(c) => is_item(item, Element::Char(c)),
-        Pat::Mark(m) => is_item(item, Element::Mark(m)),
-        Pat::Any(store) => moment.place_of(store, item).is_some(),
-        Pat::NotAny(store) => moment.place_of(store, item).is_none(),
+        Pat::Any(_) => Some(Found {
+            item: Some(item),
+            place: Some(place?),
+        }),
+        Pat::NotAny(_) => placeless(place.is_none(), item),
+        Pat::Char(c) => placeless(is_item(item, Element::Char(c)), item),
+        Pat::Mark(m) => placeless(is_item(item, Element::Mark(m)), item),
         Pat::Index(store, offset) => {
-            let place = place_caught(seen, offset);
-            is_element(item, moment.element_at(store, place))
+            let wanted = moment.element_at(store, place_caught(seen, offset));
+            placeless(is_element(item, wanted), item)
         }
-        Pat::ContextAt(offset) => is_same(item, item_caught(seen, offset)),
-        Pat::Equal(..) | Pat::Unequal(..) | Pat::Nul => true,
+        Pat::ContextAt(offset) => placeless(is_same(item, item_caught(seen, offset)), item),
+        Pat::Equal(..) | Pat::Unequal(..) | Pat::Nul => placeless(true, item),
     }
 }
 
-/// The place that a pattern catches of an item that it matches.
-fn place_for(moment: &Moment<'_>, pattern: Pat, item: Item) -> Option<usize>
-    ensures { result ≡ place_for (content_at moment.now) (tab_pattern moment.now.tables.stores pattern) item }
+/// What a pattern catches of the item that so many items stand behind.
+fn caught_at(
+    moment: &Moment<'_>,
+    left: &[Item],
+    distance: usize,
+    seen: &[Found],
+    pattern: Pat,
+    places: &mut PlaceMemory,
+) -> Option<Found>
+    requires within { distance < length left.now }
+    requires right { RemembersRight (content_at moment.now) left.now places.old }
+    ensures caught { result ≡ option_and_then
+        (catch_of (content_at moment.now) seen.now (tab_pattern moment.now.tables.stores pattern)) (item_before left.now distance) }
+    ensures right { RemembersRight (content_at moment.now) left.now places.new }
 {
-    match pattern {
-        Pat::Any(store) => moment.place_of(store, item),
-        _ => None,
-    }
+    let item = item_before(left, distance);
+    let place = place_asked(moment, left, distance, pattern, places);
+    catch_of(moment, seen, pattern, item, place)
 }
 
-/// What the patterns of a record's context catch of a text.
-fn caught_of(moment: &Moment<'_>, rule: &FileRule<'_>, text: &[Item]) -> Option<ArrayVec<Found, 60>>
-    requires { length rule.now.context ≤ CONTEXT_ITEMS }
-    ensures { option_map (λ seen. seen.items) result ≡ catches_from
-        (content_at moment.now) [] (map (tab_pattern moment.now.tables.stores) rule.now.context) text.now }
+/// What the patterns of a record's context catch of so many of the last items of a list.
+fn caught_of(
+    moment: &Moment<'_>,
+    rule: &FileRule<'_>,
+    left: &[Item],
+    count: usize,
+    places: &mut PlaceMemory,
+) -> Option<ArrayVec<Found, 60>>
+    requires few { length rule.now.context ≤ CONTEXT_ITEMS }
+    requires within { count ≤ length left.now }
+    requires right { RemembersRight (content_at moment.now) left.now places.old }
+    ensures caught { option_map (λ seen. seen.items) result ≡ catches_from
+        (content_at moment.now) [] (map (tab_pattern moment.now.tables.stores) rule.now.context) (drop (length left.now - count) left.now) }
+    ensures right { RemembersRight (content_at moment.now) left.now places.new }
 {
     let mut seen = ArrayVec::new();
-    let mut rest = text;
+    let mut ahead = count;
     for pattern in rule.context() {
         if !takes_item(pattern) {
             seen.push(Found {
@@ -70,19 +114,14 @@ fn caught_of(moment: &Moment<'_>, rule: &FileRule<'_>, text: &[Item]) -> Option<
             });
             continue;
         }
-        let [item, behind @ ..] = rest else {
-            return None;
-        };
-        if !matches(moment, seen.as_slice(), pattern, *item) {
+        if ahead == 0 {
             return None;
         }
-        seen.push(Found {
-            item: Some(*item),
-            place: place_for(moment, pattern, *item),
-        });
-        rest = behind;
+        ahead -= 1;
+        let found = caught_at(moment, left, ahead, seen.as_slice(), pattern, places)?;
+        seen.push(found);
     }
-    if rest.is_empty() { Some(seen) } else { None }
+    if ahead == 0 { Some(seen) } else { None }
 }
 
 /// Whether a condition is true at a moment; any other item of a context is none.
@@ -139,16 +178,19 @@ fn caught_last(
     rule: &FileRule<'_>,
     count: usize,
     left: &[Item],
+    places: &mut PlaceMemory,
 ) -> Option<ArrayVec<Found, 60>>
     requires short { length rule.now.context ≤ CONTEXT_ITEMS }
     requires count { count ≡ pattern_count (map (tab_pattern []) rule.now.context) }
-    ensures { option_map (λ seen. seen.items) result ≡ caught_last
+    requires right { RemembersRight (content_at moment.now) left.now places.old }
+    ensures caught { option_map (λ seen. seen.items) result ≡ caught_last
         (content_at moment.now) (map (tab_pattern moment.now.tables.stores) rule.now.context) left.now }
+    ensures right { RemembersRight (content_at moment.now) left.now places.new }
 {
     if !has_room(rule, count, left) {
         return None;
     }
-    caught_of(moment, rule, &left[left.len() - count..])
+    caught_of(moment, rule, left, count, places)
 }
 
 /// The key of a record; in a group without keys each press fits.
@@ -173,15 +215,18 @@ fn holds(
     rule: &FileRule<'_>,
     count: usize,
     left: &[Item],
+    places: &mut PlaceMemory,
 ) -> Option<Caught>
     requires short { length rule.now.context ≤ CONTEXT_ITEMS }
     requires count { count ≡ pattern_count (map (tab_pattern []) rule.now.context) }
-    ensures { result ≡ holds (content_at moment.now) left.now press (tab_rule moment.now.tables.stores using_keys rule.now) }
+    requires right { RemembersRight (content_at moment.now) left.now places.old }
+    ensures holds { result ≡ holds (content_at moment.now) left.now press (tab_rule moment.now.tables.stores using_keys rule.now) }
+    ensures right { RemembersRight (content_at moment.now) left.now places.new }
 {
     if !conditions_hold(moment, rule.context()) || !fits(key_of(using_keys, rule), press) {
         return None;
     }
-    with_key(caught_last(moment, rule, count, left))
+    with_key(caught_last(moment, rule, count, left, places))
 }
 
 /// The record of a number with what it has caught, where there is one that holds on a list at a moment.
@@ -193,35 +238,40 @@ fn held_record<'g>(
     records: &RuleIndex,
     number: u32,
     left: &[Item],
+    places: &mut PlaceMemory,
 ) -> Option<(FileRule<'g>, Caught)>
     requires short { AreShort group.now.rules }
     requires index { IsRuleIndexOf group.now records.now }
-    ensures { option_map (λ c. (tab_rule moment.now.tables.stores group.now.using_keys c.0, c.1)) result ≡ held_record
+    requires right { RemembersRight (content_at moment.now) left.now places.old }
+    ensures held { option_map (λ c. (tab_rule moment.now.tables.stores group.now.using_keys c.0, c.1)) result ≡ held_record
         (content_at moment.now) left.now press (option_map (tab_rule moment.now.tables.stores group.now.using_keys) (slice_get group.now.rules number)) }
+    ensures right { RemembersRight (content_at moment.now) left.now places.new }
 {
     let rule = group.rule(number)?;
     let count = records.pattern_count(number);
-    let caught = holds(moment, press, group.using_keys(), &rule, count, left)?;
+    let caught = holds(moment, press, group.using_keys(), &rule, count, left, places)?;
     Some((rule, caught))
 }
 
 /// The first record of a group that holds on a list at a moment, and what it has caught. Only those are tried that their
-/// index names for the press and the last item: no other can hold.
+/// index names for the press and the last item: no other can hold. Each place of an item in a store is looked for once.
 pub fn first_held<'g>(
     moment: &Moment<'_>,
     press: KeyPress,
     group: &FileGroup<'g>,
     records: &RuleIndex,
     left: &[Item],
+    places: &mut PlaceMemory,
 ) -> Option<(FileRule<'g>, Caught)>
     requires short { AreShort group.now.rules }
     requires index { IsRuleIndexOf group.now records.now }
     ensures { option_map (λ c. (tab_rule moment.now.tables.stores group.now.using_keys c.0, c.1)) result ≡ first
         (holds (content_at moment.now) left.now press) (map (tab_rule moment.now.tables.stores group.now.using_keys) group.now.rules) }
 {
+    places.forget();
     let mut candidates = records.candidates(&wanted_classes(press, left));
     while let Some(number) = candidates.next() {
-        if let Some(chosen) = held_record(moment, press, group, records, number, left) {
+        if let Some(chosen) = held_record(moment, press, group, records, number, left, places) {
             return Some(chosen);
         }
     }

@@ -1,15 +1,15 @@
-ghost use Rattle.std.specs.Prelude.{◌≡◌, length};
+ghost use Rattle.std.specs.Prelude.{◌≡◌, length, slice_get};
 ghost use Rattle.option_store.specs.Meaning.{option_values};
 ghost use Rattle.rule_model.specs.Keyboard.{Numbered};
 ghost use Rattle.rule_model.specs.Match.{element_at, place_of, same_value};
 ghost use Rattle.rule_model.specs.Tab.{elements_of, tab};
 ghost use Rattle.rule_matching.specs.Moment.{content_at};
-ghost use Rattle.rule_matching.specs.StoreValues.{elements_in};
 
-use crate::contents::{content, elements_of};
+use crate::contents::{elements_of, held_now};
+use crate::host_text::{element_in_text, place_in_text};
 use crate::store_value::StoreValue;
 use kmn_base::{Element, Item};
-use option_store::Options;
+use option_store::{Held, Options};
 use rule_index::IndexedKeyboard;
 use std::marker::Model;
 
@@ -48,32 +48,43 @@ impl<'a> Moment<'a> {
         Moment { indexed, options }
     }
 
-    /// What a store has.
-    pub fn content(&self, store: u32) -> StoreValue<'a>
-        ensures { elements_in result ≡ content_at self.now (Numbered store) }
-    {
-        content(self.indexed, self.options, store)
-    }
-
     /// The first place of an item in what a store has.
     pub fn place_of(&self, store: u32, item: Item) -> Option<usize>
         ensures { result ≡ place_of item (content_at self.now (Numbered store)) }
     {
-        self.content(store).place_of(item)
+        match held_now(self.indexed, self.options, store) {
+            Held::Store(value) => self.indexed.place_of(value, item),
+            Held::Host => place_in_text(item, self.options.host_text(store)),
+        }
     }
 
     /// The element at a place that there may be, in what a store has.
     pub fn element_at(&self, store: u32, place: Option<usize>) -> Option<Element>
         ensures { result ≡ element_at (content_at self.now (Numbered store)) place }
     {
-        self.content(store).element_at(place)
+        self.get(store, place?)
+    }
+
+    /// The element at a place of what a store has.
+    fn get(&self, store: u32, place: usize) -> Option<Element>
+        ensures { result ≡ slice_get (content_at self.now (Numbered store)) place }
+    {
+        match held_now(self.indexed, self.options, store) {
+            Held::Store(value) => self.indexed.element_at(value, place),
+            Held::Host => element_in_text(self.options.host_text(store), place),
+        }
     }
 
     /// Whether a store has the elements of a value store.
     pub fn is_same(&self, store: u32, value: u32) -> bool
         ensures { result ≡ same_value (content_at self.now (Numbered store)) (elements_of self.now.tables.stores value) }
     {
-        self.content(store)
-            .is_same(elements_of(self.indexed, value))
+        match held_now(self.indexed, self.options, store) {
+            Held::Store(held) => self.indexed.same_elements(held, value),
+            Held::Host => StoreValue::Text(self.options.host_text(store)).is_same(elements_of(
+                self.indexed,
+                value,
+            )),
+        }
     }
 }

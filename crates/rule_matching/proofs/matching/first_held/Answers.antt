@@ -25,7 +25,7 @@ forth c = ap (λ (walk : CandidatesValue). walk.from) c.in-Some.ensures.rest
 pub returns-in-Some-held_record : goal.returns-in-Some-held_record
 returns-in-Some-held_record c =
     sym (candidate_holds (content_at c.args.moment.now) c.args.left.now c.args.press c.args.moment.now.tables.stores c.args.group.now.using_keys c.args.group.now.rules
-    c.loop-number.candidates.from c.in-Some.number (next (goal.at.returns-in-Some-held_record c).In-Some) _ (sym c.in-Some-held_record.ensures))
+    c.loop-number.candidates.from c.in-Some.number (next (goal.at.returns-in-Some-held_record c).In-Some) _ (sym c.in-Some-held_record.ensures.held))
     ∙ c.loop-number.invariant.same
 
 pub loop-number-smaller : goal.loop-number-smaller
@@ -46,8 +46,9 @@ loop-number-preserved c =
       within = omega (arith, here.1, on);
       same = ap (first_from (content_at c.args.moment.now) c.args.left.now c.args.press c.args.moment.now.tables.stores c.args.group.now.using_keys c.args.group.now.rules) on
           ∙ (sym (candidate_passed (content_at c.args.moment.now) c.args.left.now c.args.press c.args.moment.now.tables.stores c.args.group.now.using_keys c.args.group.now.rules
-          c.loop-number.candidates.from c.in-Some.number (next (goal.at.loop-number-preserved c).In-Some) (sym c.in_default-held_record.ensures))
+          c.loop-number.candidates.from c.in-Some.number (next (goal.at.loop-number-preserved c).In-Some) (sym c.in_default-held_record.ensures.held))
           ∙ c.loop-number.invariant.same);
+      right = c.in_default-held_record.ensures.right;
     }
 
 pub returns : goal.returns

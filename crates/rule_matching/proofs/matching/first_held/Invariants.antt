@@ -1,5 +1,6 @@
 use Rattle.std.proofs.Common.{◌≡◌, ◌≤◌, ◌-◌, length}
 use Rattle.rule_index.specs.Classes.{wanted_classes}
+use Rattle.rule_matching.specs.Matching.{RemembersRight}
 use Rattle.rule_matching.specs.Moment.{content_at}
 use Rattle.rule_matching.proofs.Candidates.{first_from}
 use Rattle.rule_matching.proofs.matching.first_held.Given as goal
@@ -11,6 +12,7 @@ invariant-loop-number l = record {
   within : l.candidates.from ≤ length l.group.rules;
   same : first_from (content_at l.moment) l.left l.press l.moment.tables.stores l.group.using_keys l.group.rules l.candidates.from
       ≡ first_from (content_at l.moment) l.left l.press l.moment.tables.stores l.group.using_keys l.group.rules 0;
+  right : RemembersRight (content_at l.moment) l.left l.places;
 }
 
 abbrev pub decreases-loop-number : goal.decreases-loop-number

@@ -22,7 +22,7 @@ returns-clause-chosen c =
     first (holds (content_at m) items c.args.press) (map (tab_rule m.tables.stores using_keys) rules) in
     let last : c.items.result.now ≡ window event.state.left = c.items.ensures.value ∙ c.window-window.ensures.window in
     subst (λ (m : MomentValue). option_map (λ (chosen : Rule × Caught). (tab_rule m.tables.stores using_keys chosen.0, chosen.1)) c.first_held.result ≡ here m c.items.result.now)
-    (c.moment.ensures ∙ ap moment_of c.window-window.ensures.same) c.first_held.ensures
+    (c.of-moment.ensures ∙ ap moment_of (c.self.view_is ∙ c.window-window.ensures.same)) c.first_held.ensures
     ∙ (ap (here (moment_of event)) last
     ∙ (first_in_window (content_in event) event.state.left c.args.press event.tables.stores using_keys rules c.requires.short
     ∙ sym (chosen_first event.tables c.args.press (tab_group event.tables.stores c.args.group.now) event.state)))

@@ -1,0 +1,131 @@
+-- What is known of the places of a list's items stays right, and what a context catches item by item.
+use Rattle.std.proofs.Common.{◌≡◌, ℕ, zero, suc, ◌+◌, ◌-◌, ◌<◌, ◌≤◌, ◌⊎◌, Bool, true, false, List, [], ◌∷◌, ◌++◌, length, drop, get_or, Option, Some, None, refl, sym, ◌∙◌, ap, inl, inr, arith}
+use Rattle.std.specs.Prelude.{if◌then◌else◌, is_some, option_and_then, slice_get}
+use Rattle.std.proofs.lemmas.List.{drop_all, drop_more}
+use Rattle.std.proofs.lemmas.Option.{get_or_from_slice_get}
+use Rattle.kmn_base.specs.declared.items.Item.{Item}
+use Rattle.rule_model.specs.declared.event_state.Catch.{Catch}
+use Rattle.rule_model.specs.declared.tables.Pat.{Pat}
+use Rattle.rule_model.specs.declared.tables.Pat.TheVariants as pattern
+use Rattle.rule_model.specs.declared.tables.Store.{Store}
+use Rattle.rule_model.specs.Keyboard.{Ref, Pattern, IsAny}
+use Rattle.rule_model.specs.Match.{Content, takes_item, catch_item, catches_from, matches, nothing_caught, place_for, place_of}
+use Rattle.rule_model.specs.Tab.{tab_pattern}
+use Rattle.rule_matching.specs.Matching.{catch_of, item_before, place_before, RemembersRight}
+use Rattle.rule_matching.specs.PlaceMemory.{Remembered, known_place}
+
+-- nothing that is known is wrong
+pub nothing_is_wrong : (content : Content) (left : List Item) (memory : Remembered) → ((store distance : ℕ) → known_place memory store distance ≡ None)
+    → RemembersRight content left memory
+nothing_is_wrong content left memory unknown = record { right = λ s d p known. absurd (let none = unknown s d in cc) }
+
+-- what is known stays right where a right place is remembered
+pub still_right : (content : Content) (left : List Item) (store distance : ℕ) (place : Option ℕ) (before after : Remembered)
+    → ((s d : ℕ) (p : Option ℕ) → known_place after s d ≡ Some p → (known_place before s d ≡ Some p) ⊎ ((s ≡ store) × (d ≡ distance) × (p ≡ place)))
+    → place ≡ place_before content left store distance → RemembersRight content left before → RemembersRight content left after
+still_right content left store distance place before after only is right =
+    record {
+      right = λ s d p known. elim (only s d p known) [
+        | inl was ↦ right.right s d p was
+        | inr this ↦ this.2 ∙ (is ∙ (λ i. place_before content left (sym this.0 i) (sym this.1 i)))
+      ];
+    }
+
+-- what an `any` catches, by the item's place
+pub any_found : (content : Content) (seen : List Catch) (store : Ref) (item : Item) (asked : Option ℕ) (place : ℕ) → asked ≡ place_of item (content store) → asked ≡ Some place
+    → Some (record { item = Some item; place = Some place }) ≡ catch_of content seen (IsAny store) item
+any_found content seen store item asked place is found =
+    let caught : Option ℕ → Option Catch = λ (p : Option ℕ). if is_some p then Some (record { item = Some item; place = p }) else None in
+    ap caught (sym found ∙ is)
+
+pub any_not_found : (content : Content) (seen : List Catch) (store : Ref) (item : Item) (asked : Option ℕ) → asked ≡ place_of item (content store) → asked ≡ None
+    → None ≡ catch_of content seen (IsAny store) item
+any_not_found content seen store item asked is none =
+    let caught : Option ℕ → Option Catch = λ (p : Option ℕ). if is_some p then Some (record { item = Some item; place = p }) else None in
+    ap caught (sym none ∙ is)
+
+-- a list has an element at each place below its length
+there : {X : Type 0} (xs : List X) (n : ℕ) → n < length xs → (x : X) × (slice_get xs n ≡ Some x)
+there [] n within = absurd (omega arith)
+there (x ∷ xs) zero within = (x, refl)
+there (x ∷ xs) (suc n) within = there xs n (omega arith)
+
+-- the last items begin with the first of them
+one_ahead : (left : List Item) (distance : ℕ) (item : Item) → distance < length left → item_before left distance ≡ Some item
+    → drop (length left - (distance + 1)) left ≡ item ∷ drop (length left - distance) left
+one_ahead left distance item within is =
+    let inside : length left - (distance + 1) < length left = omega (arith, within) in
+    let here : get_or left (length left - (distance + 1)) item ≡ item = get_or_from_slice_get left (length left - (distance + 1)) item item is in
+    let behind : (length left - (distance + 1)) + 1 ≡ length left - distance = omega (arith, within) in
+    drop_more left (length left - (distance + 1)) item inside ∙ (λ i. here i ∷ drop (behind i) left)
+
+-- the last items are some
+pub some_ahead : (content : Content) (seen : List Catch) (left : List Item) (count : ℕ) → 0 < count → count ≤ length left
+    → catches_from content seen [] (drop (length left - count) left) ≡ None
+some_ahead content seen left count some few =
+    let inside : length left - count < length left = omega (arith, some, few) in
+    let found = there left (length left - count) inside in
+    ap (catches_from content seen []) (drop_more left (length left - count) found.0 inside)
+
+-- whether a pattern looks at an item, whatever the stores are
+pub takes_same : (stores : List Store) (p : Pat) → takes_item (tab_pattern stores p) ≡ takes_item (tab_pattern [] p)
+takes_same stores (pattern.Char c) = refl
+takes_same stores (pattern.Mark m) = refl
+takes_same stores (pattern.Any s) = refl
+takes_same stores (pattern.NotAny s) = refl
+takes_same stores (pattern.Index s offset) = refl
+takes_same stores (pattern.ContextAt offset) = refl
+takes_same stores (pattern.Equal s value) = refl
+takes_same stores (pattern.Unequal s value) = refl
+takes_same stores pattern.Nul = refl
+
+-- where an item stands to a pattern, or doesn't
+if_caught : (fits : Bool) (one catch : Catch) (rest : Catch → Option (List Catch)) → Some catch ≡ (if fits then Some one else None)
+    → (if fits then rest one else None) ≡ rest catch
+if_caught true one catch rest is = let same : one ≡ catch = cc in ap rest same
+if_caught false one catch rest is = absurd (cc)
+
+if_uncaught : (fits : Bool) (one : Catch) (rest : Catch → Option (List Catch)) → None ≡ (if fits then Some one else None)
+    → (if fits then rest one else None) ≡ None
+if_uncaught true one rest is = absurd (cc)
+if_uncaught false one rest is = refl
+
+module _ (content : Content) (seen : List Catch) (pattern : Pattern) (patterns : List Pattern) (left : List Item) (takes : takes_item pattern ≡ true) where
+  abbrev rest : Catch → List Item → Option (List Catch)
+  rest catch text = catches_from content (seen ++ catch ∷ []) patterns text
+
+  abbrev one : Item → Catch
+  one item = record { item = Some item; place = place_for content pattern item }
+
+  -- a pattern that looks at an item looks at the first
+  first : (distance : ℕ) (item : Item) → distance < length left → item_before left distance ≡ Some item
+      → catches_from content seen (pattern ∷ patterns) (drop (length left - (distance + 1)) left)
+      ≡ (if matches content seen pattern item then rest (one item) (drop (length left - distance) left) else None)
+  first distance item within is =
+      ap (catches_from content seen (pattern ∷ patterns)) (one_ahead left distance item within is)
+      ∙ (λ i. if takes i then catch_item content seen pattern rest (item ∷ drop (length left - distance) left)
+      else rest nothing_caught (item ∷ drop (length left - distance) left))
+
+  -- it catches it
+  pub caught_ahead : (distance : ℕ) (catch : Catch) → distance < length left → Some catch ≡ option_and_then (catch_of content seen pattern) (item_before left distance)
+      → catches_from content seen (pattern ∷ patterns) (drop (length left - (distance + 1)) left) ≡ catches_from content (seen ++ catch ∷ []) patterns (drop (length left - distance) left)
+  caught_ahead distance catch within is =
+      let found = there left (length left - (distance + 1)) (omega (arith, within)) in
+      let caught : Some catch ≡ catch_of content seen pattern found.0 = is ∙ ap (option_and_then (catch_of content seen pattern)) found.1 in
+      first distance found.0 within found.1
+      ∙ if_caught (matches content seen pattern found.0) (one found.0) catch (λ c. rest c (drop (length left - distance) left)) caught
+
+  -- or it doesn't, and then nothing is caught
+  pub uncaught_ahead : (distance : ℕ) → distance < length left → None ≡ option_and_then (catch_of content seen pattern) (item_before left distance)
+      → catches_from content seen (pattern ∷ patterns) (drop (length left - (distance + 1)) left) ≡ None
+  uncaught_ahead distance within is =
+      let found = there left (length left - (distance + 1)) (omega (arith, within)) in
+      let uncaught : None ≡ catch_of content seen pattern found.0 = is ∙ ap (option_and_then (catch_of content seen pattern)) found.1 in
+      first distance found.0 within found.1
+      ∙ if_uncaught (matches content seen pattern found.0) (one found.0) (λ c. rest c (drop (length left - distance) left)) uncaught
+
+  -- or there is no item
+  pub none_ahead : catches_from content seen (pattern ∷ patterns) (drop (length left - 0) left) ≡ None
+  none_ahead =
+      ap (catches_from content seen (pattern ∷ patterns)) (drop_all (length left - 0) left (omega arith))
+      ∙ (λ i. if takes i then catch_item content seen pattern rest [] else rest nothing_caught [])

@@ -1,0 +1,110 @@
+-- What is known of the places in stores when a cell of one store is written.
+use Rattle.std.proofs.Common.{◌≡◌, ◌≢◌, ℕ, zero, suc, ◌<◌, ◌⊎◌, List, [], ◌∷◌, length, set, replicate, slice_get, true, false, eqb, ltb, cond, refl, sym, ap, ◌∙◌, inl, inr, arith}
+use Rattle.std.specs.Prelude.{Option, Some, None}
+use Rattle.std.proofs.lemmas.Bool.{cases_Bool, eqb-true, eq-eqb}
+use Rattle.kmn_base.specs.declared.limits.TheConstants.{STORE_ELEMENTS}
+use Rattle.rule_matching.specs.declared.place_memory.StorePlaces.{StorePlaces}
+use Rattle.rule_matching.specs.PlaceMemory.{said, said_by, known_of, memorable, IsBlank}
+
+-- a written element is there
+pub written_there : {X : Type 0} (xs : List X) (n : ℕ) (x : X) → n < length xs → slice_get (set xs n x) n ≡ Some x
+written_there [] n x within = absurd (omega arith)
+written_there (y ∷ xs) zero x within = refl
+written_there (y ∷ xs) (suc n) x within = written_there xs n x (omega arith)
+
+-- the others stay
+pub others_stay : {X : Type 0} (xs : List X) (n k : ℕ) (x : X) → k ≢ n → slice_get (set xs n x) k ≡ slice_get xs k
+others_stay [] n k x other = refl
+others_stay (y ∷ xs) zero zero x other = absurd (other refl)
+others_stay (y ∷ xs) zero (suc k) x other = refl
+others_stay (y ∷ xs) (suc n) zero x other = refl
+others_stay (y ∷ xs) (suc n) (suc k) x other = others_stay xs n k x (λ same. other (ap suc same))
+
+-- each of equal elements is that one
+pub each_is_the_one : {X : Type 0} (n k : ℕ) (x y : X) → slice_get (replicate n x) k ≡ Some y → x ≡ y
+each_is_the_one zero k x y is = cc
+each_is_the_one (suc n) zero x y is = cc
+each_is_the_one (suc n) (suc k) x y is = each_is_the_one n k x y is
+
+-- two numbers are the same, or not
+same_or_other : (a b : ℕ) → (a ≡ b) ⊎ (a ≢ b)
+same_or_other a b = elim (cases_Bool (eqb a b)) [
+  | inl same ↦ inl (eqb-true a b same)
+  | inr other ↦ inr (λ (same : a ≡ b). let is : eqb a b ≡ true = eq-eqb a b same in cc)
+]
+
+-- cells of 0 say nothing
+pub zeros_say_nothing : (n distance : ℕ) → said_by (slice_get (replicate n 0) distance) ≡ None
+zeros_say_nothing zero distance = refl
+zeros_say_nothing (suc n) zero = refl
+zeros_say_nothing (suc n) (suc distance) = zeros_say_nothing n distance
+
+-- of a blank store nothing is known
+pub blank_is_unknown : (choice : ℕ) (places : StorePlaces) → IsBlank places → (distance : ℕ) → known_of choice (Some places) distance ≡ None
+blank_is_unknown choice places blank distance =
+    elim (eqb places.asked choice) as (λ b. cond b (said_by (slice_get places.cells distance)) None ≡ None) [
+      | true ↦ blank distance
+      | false ↦ refl
+    ]
+
+-- nor of blank stores
+pub blanks_are_unknown : (choice n : ℕ) (places : StorePlaces) → IsBlank places
+    → (store distance : ℕ) → known_of choice (slice_get (replicate n places) store) distance ≡ None
+blanks_are_unknown choice zero places blank store distance = refl
+blanks_are_unknown choice (suc n) places blank zero distance = blank_is_unknown choice places blank distance
+blanks_are_unknown choice (suc n) places blank (suc store) distance = blanks_are_unknown choice n places blank store distance
+
+-- of a store that was asked for at another choice nothing is known
+pub other_choice_is_unknown : (choice : ℕ) (places : StorePlaces) → places.asked ≢ choice → (distance : ℕ) → known_of choice (Some places) distance ≡ None
+other_choice_is_unknown choice places other distance = elim (cases_Bool (eqb places.asked choice)) [
+  | inl same ↦ absurd (other (eqb-true places.asked choice same))
+  | inr differs ↦ ap (λ b. cond b (said_by (slice_get places.cells distance)) None) differs
+]
+
+-- of what was asked for at this choice a written cell is known
+pub written_is_known : (choice distance cell : ℕ) (before after : StorePlaces) → before.asked ≡ choice → distance < length before.cells
+    → after.asked ≡ before.asked → after.cells ≡ set before.cells distance cell → known_of choice (Some after) distance ≡ said cell
+written_is_known choice distance cell before after now within asked cells =
+    ap (λ b. cond b (said_by (slice_get after.cells distance)) None) (eq-eqb after.asked choice (asked ∙ now))
+    ∙ ap said_by (ap (λ xs. slice_get xs distance) cells ∙ written_there before.cells distance cell within)
+
+-- and the others stay known
+pub others_stay_known : (choice distance cell : ℕ) (before after : StorePlaces)
+    → after.asked ≡ before.asked → after.cells ≡ set before.cells distance cell
+    → (d : ℕ) → d ≢ distance → known_of choice (Some after) d ≡ known_of choice (Some before) d
+others_stay_known choice distance cell before after asked cells d other =
+    ap (λ n. cond (eqb n choice) (said_by (slice_get after.cells d)) None) asked
+    ∙ ap (λ o. cond (eqb before.asked choice) (said_by o) None) (ap (λ xs. slice_get xs d) cells ∙ others_stay before.cells distance d cell other)
+
+-- what was remembered is memorable, so it is that place
+pub memorable_is_itself : (place known : Option ℕ) → memorable place ≡ Some known → known ≡ place
+memorable_is_itself None known is = cc
+memorable_is_itself (Some n) known is = elim (cases_Bool (ltb n STORE_ELEMENTS)) [
+  | inl small ↦ let is_itself : Some (Some n) ≡ Some known = sym (ap (λ b. cond b (Some (Some n)) None) small) ∙ is in cc
+  | inr large ↦ let is_none : None ≡ Some known = sym (ap (λ b. cond b (Some (Some n)) None) large) ∙ is in cc
+]
+
+-- after a store's cell was written that place is known, and else only what was known
+pub only_this_is_new : (choice store distance : ℕ) (place : Option ℕ) (stores : List StorePlaces) (before after : StorePlaces)
+    → store < length stores → slice_get stores store ≡ Some before
+    → known_of choice (Some after) distance ≡ memorable place
+    → ((d : ℕ) → d ≢ distance → known_of choice (Some after) d ≡ known_of choice (Some before) d)
+    → (s d : ℕ) (p : Option ℕ) → known_of choice (slice_get (set stores store after) s) d ≡ Some p
+    → (known_of choice (slice_get stores s) d ≡ Some p) ⊎ ((s ≡ store) × (d ≡ distance) × (p ≡ place))
+only_this_is_new choice store distance place stores before after within was written others s d p known =
+    elim (same_or_other s store) [
+      | inr other ↦ inl (ap (λ o. known_of choice o d) (sym (others_stay stores store s after other)) ∙ known)
+      | inl here ↦
+          let there : slice_get (set stores store after) s ≡ Some after = ap (slice_get (set stores store after)) here ∙ written_there stores store after within in
+          let known_here : known_of choice (Some after) d ≡ Some p = sym (ap (λ o. known_of choice o d) there) ∙ known in
+          let was_here : slice_get stores s ≡ Some before = ap (slice_get stores) here ∙ was in
+          elim (same_or_other d distance) [
+            | inr other ↦ inl (ap (λ o. known_of choice o d) was_here ∙ sym (others d other) ∙ known_here)
+            | inl same ↦ inr (here, same, memorable_is_itself place p (sym (ap (known_of choice (Some after)) same ∙ written) ∙ known_here))
+          ]
+    ]
+
+-- that place is known
+pub this_is_known : (choice store distance : ℕ) (stores : List StorePlaces) (after : StorePlaces) → store < length stores
+    → known_of choice (slice_get (set stores store after) store) distance ≡ known_of choice (Some after) distance
+this_is_known choice store distance stores after within = ap (λ o. known_of choice o distance) (written_there stores store after within)

@@ -1,0 +1,31 @@
+-- What a pattern catches of an item of a list, which is told by how many items stand behind it, and when what is known of the
+-- items' places is right.
+use Rattle.std.specs.Prelude.{◌≡◌, ℕ, ◌+◌, ◌-◌, if◌then◌else◌, List, length, Option, Some, None, slice_get, option_and_then}
+use Rattle.kmn_base.specs.declared.items.Item.{Item}
+use Rattle.rule_model.specs.declared.event_state.Catch.{Catch}
+use Rattle.rule_model.specs.Keyboard.{Numbered, Pattern, IsAny, IsNotAny}
+use Rattle.rule_model.specs.Match.{Content, matches, place_for, place_of}
+use Rattle.rule_matching.specs.PlaceMemory.{Remembered, known_place}
+
+-- the item that so many items stand behind, where there are more than so many
+abbrev pub item_before : List Item → ℕ → Option Item
+item_before left distance = slice_get left (length left - (distance + 1))
+
+-- its first place in what a store has
+abbrev pub place_before : Content → List Item → ℕ → ℕ → Option ℕ
+place_before content left store distance = option_and_then (λ item. place_of item (content (Numbered store))) (item_before left distance)
+
+-- whatever place of an item is known is its first
+pub record RemembersRight (content : Content) (left : List Item) (memory : Remembered) : Type 0 where
+  pub right : (store distance : ℕ) (place : Option ℕ) → known_place memory store distance ≡ Some place → place ≡ place_before content left store distance
+
+-- the place of an item in the store of a pattern that looks for it in one
+abbrev pub place_asked : Content → Pattern → Item → Option ℕ
+place_asked content (IsAny store) x = place_of x (content store)
+place_asked content (IsNotAny store) x = place_of x (content store)
+place_asked content pattern x = None
+
+-- what a pattern catches of an item, where the item stands to it as it asks
+abbrev pub catch_of : Content → List Catch → Pattern → Item → Option Catch
+catch_of content seen pattern x =
+    if matches content seen pattern x then Some (record { item = Some x; place = place_for content pattern x }) else None
