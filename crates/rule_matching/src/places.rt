@@ -17,7 +17,6 @@ pub fn item_before(left: &[Item], distance: usize) -> Item
 }
 
 /// The first place of that item in what a store has. It is looked for once while the moment and the list stand still.
-#[tactic(auto, using(crate::proofs::KnownPlaces::still_right))]
 fn place_before(
     moment: &Moment<'_>,
     left: &[Item],
