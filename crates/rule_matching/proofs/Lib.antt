@@ -1,3 +1,4 @@
+pub mod AllowedContexts
 pub mod Candidates
 pub mod Catches
 pub mod Contexts

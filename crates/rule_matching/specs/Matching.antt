@@ -1,10 +1,12 @@
 -- What a pattern catches of an item of a list, which is told by how many items stand behind it, and when what is known of the
--- items' places is right.
-use Rattle.std.specs.Prelude.{◌≡◌, ℕ, ◌+◌, ◌-◌, if◌then◌else◌, List, length, Option, Some, None, slice_get, option_and_then}
+-- items' places is right. What a context catches where each of its conditions and each `nul` stands.
+use Rattle.std.specs.Prelude.{◌≡◌, ℕ, ◌+◌, ◌-◌, Bool, not, ◌&&◌, ◌||◌, if◌then◌else◌, List, length, Option, Some, None, slice_get, option_and_then}
+use Rattle.std.specs.List.{list_all}
 use Rattle.kmn_base.specs.declared.items.Item.{Item}
 use Rattle.rule_model.specs.declared.event_state.Catch.{Catch}
 use Rattle.rule_model.specs.Keyboard.{Numbered, Pattern, IsAny, IsNotAny}
-use Rattle.rule_model.specs.Match.{Content, matches, place_for, place_of}
+use Rattle.rule_model.specs.Match.{Content, catches_from, matches, place_for, place_of}
+use Rattle.rule_model.specs.Hold.{is_true, is_at_start}
 use Rattle.rule_matching.specs.PlaceMemory.{Remembered, known_place}
 
 -- the item that so many items stand behind, where there are more than so many
@@ -29,3 +31,17 @@ place_asked content pattern x = None
 abbrev pub catch_of : Content → List Catch → Pattern → Item → Option Catch
 catch_of content seen pattern x =
     if matches content seen pattern x then Some (record { item = Some x; place = place_for content pattern x }) else None
+
+-- whether an item of a context stands, whatever the text is: a condition is true, and a `nul` stands where the list has no more
+-- items than the context takes
+abbrev pub is_allowed : Content → Bool → Pattern → Bool
+is_allowed content whole pattern = is_true content pattern && (not (is_at_start pattern) || whole)
+
+-- each item of a context stands so
+abbrev pub allowed : Content → Bool → List Pattern → Bool
+allowed content whole patterns = list_all (is_allowed content whole) patterns
+
+-- what the items of a context catch of a text, behind what was caught so far, where each of them stands
+abbrev pub allowed_catches : Content → Bool → List Catch → List Pattern → List Item → Option (List Catch)
+allowed_catches content whole seen patterns text =
+    if allowed content whole patterns then catches_from content seen patterns text else None

@@ -1,13 +1,11 @@
-ghost use Rattle.std.specs.Prelude.{◌≡◌, ◌≤◌, ◌<◌, ◌-◌, [], Some, None, IsTrue, drop, length, map, option_and_then, option_map, slice_get, if◌then◌else◌};
-ghost use Rattle.std.specs.List.{list_all, list_any};
+ghost use Rattle.std.specs.Prelude.{◌≡◌, ◌≤◌, ◌<◌, ◌-◌, [], Some, None, drop, length, map, nat_eq, option_and_then, option_map, slice_get, if◌then◌else◌};
 ghost use Rattle.kmn_base.specs.declared.limits.TheConstants.{CONTEXT_ITEMS};
-ghost use Rattle.rule_model.specs.Match.{takes_item, catches_from};
-ghost use Rattle.rule_model.specs.Hold.{is_true, is_at_start, pattern_count, has_room, caught_by, holds};
+ghost use Rattle.rule_model.specs.Match.{takes_item};
+ghost use Rattle.rule_model.specs.Hold.{pattern_count, caught_by, holds};
 ghost use Rattle.rule_model.specs.Choose.{first};
 ghost use Rattle.rule_model.specs.Tab.{tab_pattern, tab_rule};
-ghost use Rattle.rule_model.specs.Plain.{caught_last};
 ghost use Rattle.rule_index.specs.Groups.{IsRuleIndexOf};
-ghost use Rattle.rule_matching.specs.Matching.{catch_of, item_before, place_asked, RemembersRight};
+ghost use Rattle.rule_matching.specs.Matching.{allowed_catches, catch_of, is_allowed, item_before, place_asked, RemembersRight};
 ghost use Rattle.rule_matching.specs.Moment.{content_at, held_record, AreShort};
 
 use crate::caught::{Caught, Found};
@@ -16,7 +14,7 @@ use crate::moment::Moment;
 use crate::place_memory::PlaceMemory;
 use crate::places::{item_before, place_asked};
 use arrayvec::ArrayVec;
-use file_parts::{FileGroup, FileRule, Patterns};
+use file_parts::{FileGroup, FileRule};
 use kmn_base::{Element, Item, KeyPress, RuleKey};
 use rule_index::{RuleIndex, wanted_classes};
 use rule_model::Pat;
@@ -89,7 +87,20 @@ fn caught_at(
     catch_of(moment, seen, pattern, item, place)
 }
 
-/// What the patterns of a record's context catch of so many of the last items of a list.
+/// Whether an item of a context that looks at no item of the text stands at a moment: a condition is true, and a `nul` stands
+/// where the list has no more items than the context takes.
+fn stands(moment: &Moment<'_>, pattern: Pat, is_whole: bool) -> bool
+    ensures { result ≡ is_allowed (content_at moment.now) is_whole (tab_pattern moment.now.tables.stores pattern) }
+{
+    match pattern {
+        Pat::Equal(store, value) => moment.is_same(store, value),
+        Pat::Unequal(store, value) => !moment.is_same(store, value),
+        Pat::Nul => is_whole,
+        _ => true,
+    }
+}
+
+/// What a record's context catches of so many of the last items of a list, where each of its conditions and each `nul` stands.
 fn caught_of(
     moment: &Moment<'_>,
     rule: &FileRule<'_>,
@@ -100,14 +111,18 @@ fn caught_of(
     requires few { length rule.now.context ≤ CONTEXT_ITEMS }
     requires within { count ≤ length left.now }
     requires right { RemembersRight (content_at moment.now) left.now places.old }
-    ensures caught { option_map (λ seen. seen.items) result ≡ catches_from
-        (content_at moment.now) [] (map (tab_pattern moment.now.tables.stores) rule.now.context) (drop (length left.now - count) left.now) }
+    ensures caught { option_map (λ seen. seen.items) result ≡ allowed_catches
+        (content_at moment.now) (nat_eq (length left.now) count) [] (map (tab_pattern moment.now.tables.stores) rule.now.context)
+        (drop (length left.now - count) left.now) }
     ensures right { RemembersRight (content_at moment.now) left.now places.new }
 {
     let mut seen = ArrayVec::new();
     let mut ahead = count;
     for pattern in rule.context() {
         if !takes_item(pattern) {
+            if !stands(moment, pattern, left.len() == count) {
+                return None;
+            }
             seen.push(Found {
                 item: None,
                 place: None,
@@ -122,75 +137,6 @@ fn caught_of(
         seen.push(found);
     }
     if ahead == 0 { Some(seen) } else { None }
-}
-
-/// Whether a condition is true at a moment; any other item of a context is none.
-fn is_true(moment: &Moment<'_>, pattern: Pat) -> bool
-    ensures { result ≡ is_true (content_at moment.now) (tab_pattern moment.now.tables.stores pattern) }
-{
-    match pattern {
-        Pat::Equal(store, value) => moment.is_same(store, value),
-        Pat::Unequal(store, value) => !moment.is_same(store, value),
-        _ => true,
-    }
-}
-
-/// Whether the conditions of a context are true at a moment.
-fn conditions_hold(moment: &Moment<'_>, context: Patterns<'_>) -> bool
-    ensures { result ≡ list_all (is_true (content_at moment.now)) (map (tab_pattern moment.now.tables.stores) context.entry) }
-{
-    for pattern in context {
-        if !is_true(moment, pattern) {
-            return false;
-        }
-    }
-    true
-}
-
-/// Whether a context has a `nul`.
-fn has_nul(context: Patterns<'_>) -> bool
-    ensures { result ≡ list_any is_at_start (map (tab_pattern []) context.entry) }
-{
-    for pattern in context {
-        if pattern == Pat::Nul {
-            return true;
-        }
-    }
-    false
-}
-
-/// Whether a list has room for the context of a record, which takes so many items, and with a `nul` nothing more.
-fn has_room(rule: &FileRule<'_>, count: usize, left: &[Item]) -> bool
-    requires { count ≡ pattern_count (map (tab_pattern []) rule.now.context) }
-    ensures value { result ≡ has_room (map (tab_pattern []) rule.now.context) left.now }
-    ensures enough { IsTrue result → pattern_count (map (tab_pattern []) rule.now.context) ≤ length left.now }
-{
-    if has_nul(rule.context()) {
-        left.len() == count
-    } else {
-        count <= left.len()
-    }
-}
-
-/// What the context of a record, which takes so many items, catches of the last items of a list, where it has room.
-fn caught_last(
-    moment: &Moment<'_>,
-    rule: &FileRule<'_>,
-    count: usize,
-    left: &[Item],
-    places: &mut PlaceMemory,
-) -> Option<ArrayVec<Found, 60>>
-    requires short { length rule.now.context ≤ CONTEXT_ITEMS }
-    requires count { count ≡ pattern_count (map (tab_pattern []) rule.now.context) }
-    requires right { RemembersRight (content_at moment.now) left.now places.old }
-    ensures caught { option_map (λ seen. seen.items) result ≡ caught_last
-        (content_at moment.now) (map (tab_pattern moment.now.tables.stores) rule.now.context) left.now }
-    ensures right { RemembersRight (content_at moment.now) left.now places.new }
-{
-    if !has_room(rule, count, left) {
-        return None;
-    }
-    caught_of(moment, rule, left, count, places)
 }
 
 /// The key of a record; in a group without keys each press fits.
@@ -208,6 +154,7 @@ fn with_key(found: Option<ArrayVec<Found, 60>>) -> Option<Caught>
 }
 
 /// What a record, whose context takes so many items, has caught where it holds on a list at a moment.
+#[tactic(auto, using(crate::proofs::AllowedContexts::unfitting_holds_not, crate::proofs::AllowedContexts::short_holds_not))]
 fn holds(
     moment: &Moment<'_>,
     press: KeyPress,
@@ -223,10 +170,10 @@ fn holds(
     ensures holds { result ≡ holds (content_at moment.now) left.now press (tab_rule moment.now.tables.stores using_keys rule.now) }
     ensures right { RemembersRight (content_at moment.now) left.now places.new }
 {
-    if !conditions_hold(moment, rule.context()) || !fits(key_of(using_keys, rule), press) {
+    if !fits(key_of(using_keys, rule), press) || left.len() < count {
         return None;
     }
-    with_key(caught_last(moment, rule, count, left, places))
+    with_key(caught_of(moment, rule, left, count, places))
 }
 
 /// The record of a number with what it has caught, where there is one that holds on a list at a moment.
@@ -249,7 +196,15 @@ fn held_record<'g>(
 {
     let rule = group.rule(number)?;
     let count = records.pattern_count(number);
-    let caught = holds(moment, press, group.using_keys(), &rule, count, left, places)?;
+    let caught = holds(
+        moment,
+        press,
+        group.using_keys(),
+        &rule,
+        count,
+        left,
+        places,
+    )?;
     Some((rule, caught))
 }
 
