@@ -14,7 +14,7 @@ use std::test::Fail;
 /// A lent text, the steps on it, how many of its characters are deleted, what is inserted, and the last items. A step is a
 /// character that is put, `*` for a mark that is put, `<` for an item that is taken, and `#` for the last character with
 /// the marks around it.
-const CASES: [(&str, &str, usize, &str, &str); 9] = [
+const CASES: &[(&str, &str, usize, &str, &str)] = &[
     ("", "", 0, "", ""),
     ("abc", "xy", 0, "xy", "abcxy"),
     ("abc", "<x", 1, "x", "abx"),
@@ -97,7 +97,7 @@ fn tells(alloc: Global, row: (&str, &str, usize, &str, &str)) -> Result<bool, Fa
 
 #[test]
 fn edits_of_events(rt: HostRuntime) -> Result<(), Fail> {
-    for row in CASES {
+    for &row in CASES {
         assert!(rt; tells(rt.alloc(), row)?);
     }
     Ok(())

@@ -8,7 +8,7 @@ use std::test::Fail;
 use touch_layout::{LayoutError, LayoutFault, check_layout};
 
 /// Layouts, and the count of their keys or the rule that they break, with platform, layer, row and key.
-const LAYOUTS: [(&str, Result<u32, (Code, u32, u32, u32, u32)>); 11] = [
+const LAYOUTS: &[(&str, Result<u32, (Code, u32, u32, u32, u32)>)] = &[
     ("", Err((Code::T1, 0, 0, 0, 0))),
     ("\u{FEFF}{}", Ok(0)),
     ("[]", Err((Code::T2, 0, 0, 0, 0))),
@@ -44,7 +44,7 @@ const LAYOUTS: [(&str, Result<u32, (Code, u32, u32, u32, u32)>); 11] = [
 ];
 
 /// The keys of the one row of a tablet's layer `a`, and their count or the rule that is broken, with the key.
-const ROWS: [(&str, Result<u32, (Code, u32)>); 10] = [
+const ROWS: &[(&str, Result<u32, (Code, u32)>)] = &[
     (r#"{},{"id":1}"#, Err((Code::T2, 2))),
     (r#"{"id":"x"},7"#, Err((Code::T2, 2))),
     (r#"{"id":"x","sk":[{"sp":null}]}"#, Err((Code::T2, 1))),
@@ -68,7 +68,7 @@ const ROWS: [(&str, Result<u32, (Code, u32)>); 10] = [
 
 /// The key, the layer that shift leads to and the second layer's id of a layout, and the count of its keys or the rule
 /// that it breaks, with layer, row and key.
-const SAMPLES: [(&str, &str, &str, Result<u32, (Code, u32, u32, u32)>); 4] = [
+const SAMPLES: &[(&str, &str, &str, Result<u32, (Code, u32, u32, u32)>)] = &[
     ("T_flip", "shift", "shift", Ok(7)),
     ("T_flop", "shift", "shift", Err((Code::T5, 1, 1, 2))),
     ("T_flip", "numeric", "shift", Err((Code::T4, 1, 1, 3))),
@@ -184,7 +184,7 @@ fn is_sample(
 /// The first row of `LAYOUTS` that isn't right.
 fn wrong_layout(alloc: Global) -> Result<Option<&'static str>, Fail> {
     let tables = keyboard(alloc)?;
-    for (text, wanted) in LAYOUTS {
+    for &(text, wanted) in LAYOUTS {
         if !is_layout(alloc, &tables, text, wanted)? {
             return Ok(Some(text));
         }
@@ -195,7 +195,7 @@ fn wrong_layout(alloc: Global) -> Result<Option<&'static str>, Fail> {
 /// The first row of `ROWS` that isn't right.
 fn wrong_row(alloc: Global) -> Result<Option<&'static str>, Fail> {
     let tables = keyboard(alloc)?;
-    for (keys, wanted) in ROWS {
+    for &(keys, wanted) in ROWS {
         if !is_row(alloc, &tables, keys, wanted)? {
             return Ok(Some(keys));
         }
@@ -206,7 +206,7 @@ fn wrong_row(alloc: Global) -> Result<Option<&'static str>, Fail> {
 /// The first row of `SAMPLES` that isn't right, by its key.
 fn wrong_sample(alloc: Global) -> Result<Option<&'static str>, Fail> {
     let tables = keyboard(alloc)?;
-    for (key, next, second, wanted) in SAMPLES {
+    for &(key, next, second, wanted) in SAMPLES {
         if !is_sample(alloc, &tables, (key, next, second), wanted)? {
             return Ok(Some(key));
         }

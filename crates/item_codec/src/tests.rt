@@ -33,7 +33,7 @@ ff ff 13 00 06 00 07 00 ff ff 14 00 06 00 02 00 07 00 ff ff 15 00 fe ff ff ff 16
     ],
 );
 
-const FAULTS: [WalkRow; 7] = [
+const FAULTS: &[WalkRow] = &[
     (
         "ff ff 03 00 61 00 ff ff 14 00 01 00 03 00 02 00 61 00",
         &[
@@ -153,7 +153,7 @@ fn are_spelled(alloc: Global) -> Result<bool, Fail> {
 
 #[test]
 fn bytes_and_their_items(rt: HostRuntime) -> Result<(), Fail> {
-    for row in FAULTS {
+    for &row in FAULTS {
         assert!(rt; is_walked(rt.alloc(), row)?, "{}", row.0);
     }
     assert!(rt; is_walked(rt.alloc(), EVERY_KIND)?);

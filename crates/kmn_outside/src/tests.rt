@@ -52,14 +52,14 @@ fn small_folder(alloc: Global) -> Result<MemoryFolder, Fail> {
     Ok(MemoryFolder::new(alloc, Seq::from_vec(files), fails))
 }
 
-const READS_IN_MEMORY: [ReadRow; 4] = [
+const READS_IN_MEMORY: &[ReadRow] = &[
     (b"a", 2, "xy"),
     (b"a", 1, "the file has 2 bytes or more"),
     (b"a", 2, "the file can't be read"),
     (b"b", 2, "the file can't be read"),
 ];
 
-const READS_ON_DISK: [ReadRow; 6] = [
+const READS_ON_DISK: &[ReadRow] = &[
     (b"disk.tmp", 5, "12345"),
     (b"disk.tmp", usize::MAX, "12345"),
     (b"disk.tmp", 4, "the file has 5 bytes or more"),
@@ -71,7 +71,7 @@ const READS_ON_DISK: [ReadRow; 6] = [
 #[test]
 fn calls_in_memory(rt: HostRuntime) -> Result<(), Fail> {
     let mut folder = small_folder(rt.alloc())?;
-    for row in READS_IN_MEMORY {
+    for &row in READS_IN_MEMORY {
         assert!(rt; is_read(rt.alloc(), &mut folder, row)?, "{}", row.2);
     }
     assert!(rt; is_written(rt.alloc(), &mut folder, b"b", "written")?);
@@ -84,7 +84,7 @@ fn calls_in_memory(rt: HostRuntime) -> Result<(), Fail> {
 fn real_files(rt: HostRuntime) -> Result<(), Fail> {
     let mut folder = DiskFolder::new(&rt);
     assert!(rt; is_written(rt.alloc(), &mut folder, b"disk.tmp", "written")?);
-    for row in READS_ON_DISK {
+    for &row in READS_ON_DISK {
         assert!(rt; is_read(rt.alloc(), &mut folder, row)?, "{}", row.2);
     }
     let unwritten = "the bytes can't be written";

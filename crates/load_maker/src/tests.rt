@@ -10,7 +10,7 @@ const SCRIPT: &str = "[K_A]\n[K_A]\n[K_SPACE]\n";
 
 /// Numbers, and the bytes of the source and of the script where there is a load: 66 of the first lines and 24 of each
 /// rule, 6 of each press of K_A and 10 of the last line.
-const SIZES: [(u32, Option<(usize, usize)>); 6] = [
+const SIZES: &[(u32, Option<(usize, usize)>)] = &[
     (0, None),
     (1, Some((90, 22))),
     (2, Some((114, 28))),
@@ -36,7 +36,7 @@ fn has_sizes(alloc: Global, n: u32, sizes: Option<(usize, usize)>) -> bool {
 #[test]
 fn loads(rt: HostRuntime) -> Result<(), Fail> {
     assert!(rt; is_made(rt.alloc())?);
-    for (n, sizes) in SIZES {
+    for &(n, sizes) in SIZES {
         assert!(rt; has_sizes(rt.alloc(), n, sizes), "{n}");
     }
     Ok(())

@@ -19,7 +19,7 @@ enum Call {
 type Wanted = (Held, Option<Held>, Option<char>);
 
 /// Calls one after the other on the first two of three stores, and what both then hold.
-const CALLS: [(u32, Call, Wanted, Wanted); 11] = [
+const CALLS: &[(u32, Call, Wanted, Wanted)] = &[
     (
         1,
         Call::Reset,
@@ -124,7 +124,7 @@ fn hold(options: &Options, first: Wanted, second: Wanted) -> bool
 #[test]
 fn calls_on_two_stores(rt: HostRuntime) -> Result<(), Fail> {
     let mut options = Options::new(rt.alloc(), 3)?;
-    'calls: for (store, call, first, second) in CALLS {
+    'calls: for &(store, call, first, second) in CALLS {
         assert!(rt; store < 2);
         act(rt.alloc(), &mut options, store, call)?;
         assert!(rt; hold(&options, first, second), "{call:?} of {store}");

@@ -121,25 +121,34 @@ fn shows(
     Ok(line.as_str() == wanted)
 }
 
-/// The first step of a case that ends otherwise.
-fn wrong_step(alloc: Global, case: &'static str) -> Result<Option<&'static str>, Fail> {
-    let (records, steps) = case.split_once(" ; ").unwrap_or((case, ""));
-    let bytes = keyboard(alloc, records)?;
-    let file = verify(alloc, bytes.as_slice())?;
-    let mut engine = Engine::start(alloc, &file)?;
+/// The first step that ends otherwise.
+fn wrong_step(
+    alloc: Global,
+    engine: &mut Engine,
+    steps: &'static str,
+) -> Result<Option<&'static str>, Fail> {
     let mut text = Vec::new(alloc);
     for step in steps.split(" ; ") {
-        if !shows(alloc, &mut engine, &mut text, step)? {
+        if !shows(alloc, engine, &mut text, step)? {
             return Ok(Some(step));
         }
     }
     Ok(None)
 }
 
+/// The first step of a case that ends otherwise.
+fn wrong_in_case(alloc: Global, case: &'static str) -> Result<Option<&'static str>, Fail> {
+    let (records, steps) = case.split_once(" ; ").unwrap_or((case, ""));
+    let bytes = keyboard(alloc, records)?;
+    let file = verify(alloc, bytes.as_slice())?;
+    let mut engine = Engine::start(alloc, &file)?;
+    wrong_step(alloc, &mut engine, steps)
+}
+
 #[test]
 fn worked_keyboards(rt: HostRuntime) -> Result<(), Fail> {
     for case in CASES.lines() {
-        let wrong = wrong_step(rt.alloc(), case)?;
+        let wrong = wrong_in_case(rt.alloc(), case)?;
         assert!(rt; wrong.is_none(), "{}", wrong.unwrap_or(""));
     }
     Ok(())

@@ -126,20 +126,34 @@ fn shows(alloc: Global, session: &mut Session, step: &str) -> Result<bool, Fail>
     }
 }
 
-/// The first step of a session with the keyboard of a file, or of a copy made before it, that shows something else.
+/// Does one step with a copy of a session; whether it shows what is wanted.
+fn copy_shows(alloc: Global, session: &Session, step: &str) -> Result<bool, Fail> {
+    let mut copy = session.copy(alloc)?;
+    shows(alloc, &mut copy, step)
+}
+
+/// The first step of a session, or of a copy made before it, that shows something else.
 fn wrong_step(
+    alloc: Global,
+    session: &mut Session,
+    case: &'static str,
+) -> Result<Option<&'static str>, Fail> {
+    for step in case.split(" ; ") {
+        if !copy_shows(alloc, session, step)? || !shows(alloc, session, step)? {
+            return Ok(Some(step));
+        }
+    }
+    Ok(None)
+}
+
+/// The first wrong step of a session that starts with the keyboard of a file.
+fn wrong_case(
     alloc: Global,
     file: &Verified,
     case: &'static str,
 ) -> Result<Option<&'static str>, Fail> {
     let mut session = Session::start(alloc, file)?;
-    for step in case.split(" ; ") {
-        let mut other = session.copy(alloc)?;
-        if !shows(alloc, &mut session, step)? || !shows(alloc, &mut other, step)? {
-            return Ok(Some(step));
-        }
-    }
-    Ok(None)
+    wrong_step(alloc, &mut session, case)
 }
 
 #[test]
@@ -147,7 +161,7 @@ fn events_of_every_kind(rt: HostRuntime) -> Result<(), Fail> {
     let compiled = compile(rt.alloc(), KEYBOARD, &[])?;
     let file = verify(rt.alloc(), compiled.bytes.as_slice())?;
     for case in CASES.lines() {
-        let wrong = wrong_step(rt.alloc(), &file, case)?;
+        let wrong = wrong_case(rt.alloc(), &file, case)?;
         assert!(rt; wrong.is_none(), "{}", wrong.unwrap_or(""));
     }
     Ok(())
@@ -172,9 +186,8 @@ fn one_press(rt: HostRuntime) -> Result<(), Fail> {
     Ok(())
 }
 
-/// The session of a file in a text of 991,232 characters, with the caret at its end.
-fn far_along<'f>(alloc: Global, file: &'f Verified<'f>) -> Result<Session<'f>, Fail> {
-    let mut session = Session::start(alloc, file)?;
+/// Puts a text of 991,232 characters before the caret.
+fn put_long_text(alloc: Global, session: &mut Session) -> Result<(), Fail> {
     for _ in 0..242 {
         let text = Seq::from_vec(vec![in alloc; 'x'; 4096]?);
         let event = Event::Edit {
@@ -185,20 +198,35 @@ fn far_along<'f>(alloc: Global, file: &'f Verified<'f>) -> Result<Session<'f>, F
         session.step(alloc, &event)?;
     }
     session.step(alloc, &Event::Caret(991_232))?;
-    Ok(session)
+    Ok(())
 }
 
-/// Whether so many presses there look at no more than the last items.
-fn stays_far_along(alloc: Global, presses: u32) -> Result<bool, Fail> {
-    let file = verify(alloc, ONE_RULE)?;
-    let mut session = far_along(alloc, &file)?;
+/// Whether so many presses of a key without a rule are passed on.
+fn passes(alloc: Global, session: &mut Session, presses: u32) -> Result<bool, Fail> {
     let press = Event::Key(press(b"K_F5"));
     for _ in 0..presses {
         if !session.step(alloc, &press)?.outcome.pass {
             return Ok(false);
         }
     }
-    Ok(session.engine().context().len() == 64 && session.editor().left().len() == 991_232)
+    Ok(true)
+}
+
+/// Whether so many presses in a long text leave it, and look at no more than the last items.
+fn stays(alloc: Global, session: &mut Session, presses: u32) -> Result<bool, Fail> {
+    put_long_text(alloc, session)?;
+    Ok(
+        passes(alloc, session, presses)?
+            && session.engine().context().len() == 64
+            && session.editor().left().len() == 991_232,
+    )
+}
+
+/// Whether a session stays so with the file of one rule.
+fn stays_far_along(alloc: Global, presses: u32) -> Result<bool, Fail> {
+    let file = verify(alloc, ONE_RULE)?;
+    let mut session = Session::start(alloc, &file)?;
+    stays(alloc, &mut session, presses)
 }
 
 #[test]

@@ -8,7 +8,7 @@ use std::test::Fail;
 
 /// Each record as the length of its context, its line and its place in the key store, in the order of the rules; and in
 /// that of a file: the longer context, the earlier line, and the earlier place.
-const RECORDS: [(&[(u32, u32, u32)], &[(u32, u32, u32)]); 4] = [
+const RECORDS: &[(&[(u32, u32, u32)], &[(u32, u32, u32)])] = &[
     (&[(0, 3, 0), (1, 4, 0)], &[(1, 4, 0), (0, 3, 0)]),
     (&[(0, 4, 0), (0, 3, 0)], &[(0, 3, 0), (0, 4, 0)]),
     (&[(0, 5, 1), (0, 5, 0)], &[(0, 5, 0), (0, 5, 1)]),
@@ -68,7 +68,7 @@ fn has(tables: &Tables, records: &[(u32, u32, u32)]) -> bool {
 
 #[test]
 fn orders_records(rt: HostRuntime) -> Result<(), Fail> {
-    for (expanded, ordered) in RECORDS {
+    for &(expanded, ordered) in RECORDS {
         let mut made = tables(rt.alloc(), expanded)?;
         order(&mut made);
         assert!(rt; has(&made, ordered));

@@ -9,7 +9,7 @@ use std::test::Fail;
 
 /// A key's name and code, the modifiers of a press of it, the character that the press gives, and whether a rule with
 /// these shift flags fits it.
-const PRESSES: [(&str, u16, u16, Option<char>, u32, bool); 10] = [
+const PRESSES: &[(&str, u16, u16, Option<char>, u32, bool)] = &[
     ("K_A", 65, 0, Some('a'), 0x4000, true),
     ("K_A", 65, 16, Some('A'), 0x4000, false),
     ("K_Z", 90, 272, Some('z'), 0x4110, true),
@@ -51,7 +51,7 @@ fn are_numbered(alloc: Global) -> Result<bool, Fail> {
 
 #[test]
 fn keys_by_name_and_press(rt: HostRuntime) -> Result<(), Fail> {
-    for row in PRESSES {
+    for &row in PRESSES {
         assert!(rt; is_right(row), "{}", row.0);
     }
     assert_eq!(rt; modifier_named(b"ncaps"), Some(0x0200));

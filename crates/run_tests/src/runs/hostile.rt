@@ -12,7 +12,7 @@ use std::test::Fail;
 
 /// The first run with a fault: what can't be read or written, by the numbers from 1 of the folder's and of the sink's call that
 /// fail, 0 for none; how it ends, what is printed, and how many bytes of the file stand in `out`, None where it isn't there.
-const FAULTS: [(&str, (u32, u32), Status, &str, Option<usize>); 5] = [
+const FAULTS: &[(&str, (u32, u32), Status, &str, Option<usize>)] = &[
     ("the source", (1, 0), Status::ReadFault, "", None),
     ("the script", (2, 0), Status::ReadFault, "", None),
     ("the file", (3, 0), Status::WriteFault, "", Some(61)),
@@ -27,7 +27,7 @@ const FAULTS: [(&str, (u32, u32), Status, &str, Option<usize>); 5] = [
 ];
 
 /// A command on a file `a` of so many equal bytes, and the line that refuses it.
-const SIZES: [(&str, u8, usize, &str); 4] = [
+const SIZES: &[(&str, u8, usize, &str)] = &[
     ("compile a out", b' ', 4_194_304, "refused C01 line 1\n"),
     ("compile a out", b' ', 4_194_305, "refused L05 line 1\n"),
     ("verify a", 0, 67_108_864, "refused V02 at 0\n"),
@@ -58,7 +58,7 @@ fn is_fault(
 
 /// What fails in the first row of `FAULTS` that isn't right.
 fn wrong_fault(alloc: Global) -> Result<Option<&'static str>, Fail> {
-    for (what, calls, status, printed, size) in FAULTS {
+    for &(what, calls, status, printed, size) in FAULTS {
         if !is_fault(alloc, calls, status, printed, size)? {
             return Ok(Some(what));
         }
@@ -93,7 +93,7 @@ fn is_refused(alloc: Global, words: &str, byte: u8, size: usize, line: &str) -> 
 
 /// The line of the first row of `SIZES` that isn't right.
 fn wrong_size(alloc: Global) -> Result<Option<&'static str>, Fail> {
-    for (words, byte, size, line) in SIZES {
+    for &(words, byte, size, line) in SIZES {
         if !is_refused(alloc, words, byte, size, line)? {
             return Ok(Some(line));
         }
