@@ -10,6 +10,7 @@ use file_parts::FileTables;
 use kmn_base::Item::{Char, Mark};
 use kmn_base::limits::{RECORDS, STORE_ELEMENTS};
 use kmn_base::{Element, Item, KeyPress, Memory};
+use rule_model::Pat;
 use std::alloc::Global;
 use std::test::Fail;
 
@@ -118,6 +119,15 @@ fn items_that_records_take(rt: HostRuntime) -> Result<(), Fail> {
     for number in 0..7u32 {
         assert!(rt; index.pattern_count(number) == COUNTS[number as usize]);
     }
+    Ok(())
+}
+
+#[test]
+fn contexts_of_records(rt: HostRuntime) -> Result<(), Fail> {
+    let index = index_of(rt.alloc(), &FileTables::of(&FILE), 0)?;
+    assert!(rt; index.context(3) == [Pat::Char('x'), Pat::Any(0)].as_slice());
+    assert!(rt; index.context(4) == [Pat::NotAny(0)].as_slice());
+    assert!(rt; index.context(6).is_empty());
     Ok(())
 }
 
