@@ -12,22 +12,23 @@ use Rattle.rule_model.specs.Keyboard.{Ref, Pattern, IsAny}
 use Rattle.rule_model.specs.Match.{Content, takes_item, catch_item, catches_from, matches, nothing_caught, place_for, place_of}
 use Rattle.rule_model.specs.Tab.{tab_pattern}
 use Rattle.rule_matching.specs.Matching.{catch_of, item_before, place_before, RemembersRight}
+use Rattle.rule_matching.specs.Moment.{MomentValue, content_at}
 use Rattle.rule_matching.specs.PlaceMemory.{Remembered, known_place}
 
 -- nothing that is known is wrong
-pub nothing_is_wrong : (content : Content) (left : List Item) (memory : Remembered) → ((store distance : ℕ) → known_place memory store distance ≡ None)
-    → RemembersRight content left memory
-nothing_is_wrong content left memory unknown = record { right = λ s d p known. absurd (let none = unknown s d in cc) }
+pub nothing_is_wrong : (moment : MomentValue) (left : List Item) (memory : Remembered) → ((store distance : ℕ) → known_place memory store distance ≡ None)
+    → RemembersRight moment left memory
+nothing_is_wrong moment left memory unknown = record { right = λ s d p known. absurd (let none = unknown s d in cc) }
 
 -- what is known stays right where a right place is remembered
-pub still_right : (content : Content) (left : List Item) (store distance : ℕ) (place : Option ℕ) (before after : Remembered)
+pub still_right : (moment : MomentValue) (left : List Item) (store distance : ℕ) (place : Option ℕ) (before after : Remembered)
     → ((s d : ℕ) (p : Option ℕ) → known_place after s d ≡ Some p → (known_place before s d ≡ Some p) ⊎ ((s ≡ store) × (d ≡ distance) × (p ≡ place)))
-    → place ≡ place_before content left store distance → RemembersRight content left before → RemembersRight content left after
-still_right content left store distance place before after only is right =
+    → place ≡ place_before (content_at moment) left store distance → RemembersRight moment left before → RemembersRight moment left after
+still_right moment left store distance place before after only is right =
     record {
       right = λ s d p known. elim (only s d p known) [
         | inl was ↦ right.right s d p was
-        | inr this ↦ this.2 ∙ (is ∙ (λ i. place_before content left (sym this.0 i) (sym this.1 i)))
+        | inr this ↦ this.2 ∙ (is ∙ (λ i. place_before (content_at moment) left (sym this.0 i) (sym this.1 i)))
       ];
     }
 

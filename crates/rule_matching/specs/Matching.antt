@@ -7,6 +7,7 @@ use Rattle.rule_model.specs.declared.event_state.Catch.{Catch}
 use Rattle.rule_model.specs.Keyboard.{Numbered, Pattern, IsAny, IsNotAny}
 use Rattle.rule_model.specs.Match.{Content, catches_from, matches, place_for, place_of}
 use Rattle.rule_model.specs.Hold.{is_true, is_at_start}
+use Rattle.rule_matching.specs.Moment.{MomentValue, content_at}
 use Rattle.rule_matching.specs.PlaceMemory.{Remembered, known_place}
 
 -- the item that so many items stand behind, where there are more than so many
@@ -18,8 +19,8 @@ abbrev pub place_before : Content → List Item → ℕ → ℕ → Option ℕ
 place_before content left store distance = option_and_then (λ item. place_of item (content (Numbered store))) (item_before left distance)
 
 -- whatever place of an item is known is its first
-pub record RemembersRight (content : Content) (left : List Item) (memory : Remembered) : Type 0 where
-  pub right : (store distance : ℕ) (place : Option ℕ) → known_place memory store distance ≡ Some place → place ≡ place_before content left store distance
+pub record RemembersRight (moment : MomentValue) (left : List Item) (memory : Remembered) : Type 0 where
+  pub right : (store distance : ℕ) (place : Option ℕ) → known_place memory store distance ≡ Some place → place ≡ place_before (content_at moment) left store distance
 
 -- the place of an item in the store of a pattern that looks for it in one
 abbrev pub place_asked : Content → Pattern → Item → Option ℕ

@@ -77,10 +77,10 @@ fn caught_at(
     places: &mut PlaceMemory,
 ) -> Option<Found>
     requires within { distance < length left.now }
-    requires right { RemembersRight (content_at moment.now) left.now places.old }
+    requires right { RemembersRight moment.now left.now places.old }
     ensures caught { result ≡ option_and_then
         (catch_of (content_at moment.now) seen.now (tab_pattern moment.now.tables.stores pattern)) (item_before left.now distance) }
-    ensures right { RemembersRight (content_at moment.now) left.now places.new }
+    ensures right { RemembersRight moment.now left.now places.new }
 {
     let item = item_before(left, distance);
     let place = place_asked(moment, left, distance, pattern, places);
@@ -110,11 +110,11 @@ fn caught_of(
 ) -> Option<ArrayVec<Found, 60>>
     requires few { length rule.now.context ≤ CONTEXT_ITEMS }
     requires within { count ≤ length left.now }
-    requires right { RemembersRight (content_at moment.now) left.now places.old }
+    requires right { RemembersRight moment.now left.now places.old }
     ensures caught { option_map (λ seen. seen.items) result ≡ allowed_catches
         (content_at moment.now) (nat_eq (length left.now) count) [] (map (tab_pattern moment.now.tables.stores) rule.now.context)
         (drop (length left.now - count) left.now) }
-    ensures right { RemembersRight (content_at moment.now) left.now places.new }
+    ensures right { RemembersRight moment.now left.now places.new }
 {
     let mut seen = ArrayVec::new();
     let mut ahead = count;
@@ -166,9 +166,9 @@ fn holds(
 ) -> Option<Caught>
     requires short { length rule.now.context ≤ CONTEXT_ITEMS }
     requires count { count ≡ pattern_count (map (tab_pattern []) rule.now.context) }
-    requires right { RemembersRight (content_at moment.now) left.now places.old }
+    requires right { RemembersRight moment.now left.now places.old }
     ensures holds { result ≡ holds (content_at moment.now) left.now press (tab_rule moment.now.tables.stores using_keys rule.now) }
-    ensures right { RemembersRight (content_at moment.now) left.now places.new }
+    ensures right { RemembersRight moment.now left.now places.new }
 {
     if !fits(key_of(using_keys, rule), press) || left.len() < count {
         return None;
@@ -189,10 +189,10 @@ fn held_record<'g>(
 ) -> Option<(FileRule<'g>, Caught)>
     requires short { AreShort group.now.rules }
     requires index { IsRuleIndexOf group.now records.now }
-    requires right { RemembersRight (content_at moment.now) left.now places.old }
+    requires right { RemembersRight moment.now left.now places.old }
     ensures held { option_map (λ c. (tab_rule moment.now.tables.stores group.now.using_keys c.0, c.1)) result ≡ held_record
         (content_at moment.now) left.now press (option_map (tab_rule moment.now.tables.stores group.now.using_keys) (slice_get group.now.rules number)) }
-    ensures right { RemembersRight (content_at moment.now) left.now places.new }
+    ensures right { RemembersRight moment.now left.now places.new }
 {
     let rule = group.rule(number)?;
     let count = records.pattern_count(number);

@@ -25,9 +25,9 @@ fn place_before(
     places: &mut PlaceMemory,
 ) -> Option<usize>
     requires within { distance < length left.now }
-    requires right { RemembersRight (content_at moment.now) left.now places.old }
+    requires right { RemembersRight moment.now left.now places.old }
     ensures place { result ≡ place_before (content_at moment.now) left.now store distance }
-    ensures right { RemembersRight (content_at moment.now) left.now places.new }
+    ensures right { RemembersRight moment.now left.now places.new }
 {
     if let Some(place) = places.known(store, distance) {
         return place;
@@ -46,10 +46,10 @@ pub fn place_asked(
     places: &mut PlaceMemory,
 ) -> Option<usize>
     requires within { distance < length left.now }
-    requires right { RemembersRight (content_at moment.now) left.now places.old }
+    requires right { RemembersRight moment.now left.now places.old }
     ensures place { result ≡ option_and_then
         (place_asked (content_at moment.now) (tab_pattern moment.now.tables.stores pattern)) (item_before left.now distance) }
-    ensures right { RemembersRight (content_at moment.now) left.now places.new }
+    ensures right { RemembersRight moment.now left.now places.new }
 {
     match pattern {
         Pat::Any(store) | Pat::NotAny(store) => place_before(moment, left, distance, store, places),

@@ -11,5 +11,5 @@ invariant-loop-pattern l = record {
   within : l.ahead ≤ length l.left;
   same : allowed_catches (content_at l.moment) (nat_eq (length l.left) l.count) l.seen.items (map (tab_pattern l.moment.tables.stores) l.pattern-iterator) (drop (length l.left - l.ahead) l.left)
       ≡ allowed_catches (content_at l.moment) (nat_eq (length l.left) l.count) [] (map (tab_pattern l.moment.tables.stores) l.rule.context) (drop (length l.left - l.count) l.left);
-  right : RemembersRight (content_at l.moment) l.left l.places;
+  right : RemembersRight l.moment l.left l.places;
 }
