@@ -1,5 +1,5 @@
 -- What is known of the places of a list's items stays right, and what a context catches item by item.
-use Rattle.std.proofs.Common.{◌≡◌, ℕ, zero, suc, ◌+◌, ◌-◌, ◌<◌, ◌≤◌, ◌⊎◌, Bool, true, false, List, [], ◌∷◌, ◌++◌, length, drop, get_or, Option, Some, None, refl, sym, ◌∙◌, ap, inl, inr, arith}
+use Rattle.std.proofs.Common.{◌≡◌, ℕ, zero, suc, ◌+◌, ◌-◌, ◌<◌, ◌≤◌, ◌⊎◌, Bool, true, false, List, [], ◌∷◌, ◌++◌, length, drop, get_or, Option, Some, None, refl, sym, ◌∙◌, ap, subst, inl, inr, arith}
 use Rattle.std.specs.Prelude.{if◌then◌else◌, is_some, option_and_then, slice_get}
 use Rattle.std.proofs.lemmas.List.{drop_all, drop_more}
 use Rattle.std.proofs.lemmas.Option.{get_or_from_slice_get}
@@ -11,25 +11,32 @@ use Rattle.rule_model.specs.declared.tables.Store.{Store}
 use Rattle.rule_model.specs.Keyboard.{Ref, Pattern, IsAny}
 use Rattle.rule_model.specs.Match.{Content, takes_item, catch_item, catches_from, matches, nothing_caught, place_for, place_of}
 use Rattle.rule_model.specs.Tab.{tab_pattern}
-use Rattle.rule_matching.specs.Matching.{catch_of, item_before, place_before, RemembersRight}
+use Rattle.rule_matching.specs.Matching.{catch_of, item_before, place_before, IsMarkedRight, RemembersRight}
 use Rattle.rule_matching.specs.Moment.{MomentValue, content_at}
-use Rattle.rule_matching.specs.PlaceMemory.{Remembered, known_place}
+use Rattle.rule_matching.specs.declared.place_memory.PlaceMemory.{PlaceMemory}
+use Rattle.rule_matching.specs.KnownPlaces.{known_place}
+use Rattle.rule_matching.specs.PlaceMemory.{KnowsNothing}
 
 -- nothing that is known is wrong
-pub nothing_is_wrong : (moment : MomentValue) (left : List Item) (memory : Remembered) → ((store distance : ℕ) → known_place memory store distance ≡ None)
-    → RemembersRight moment left memory
-nothing_is_wrong moment left memory unknown = record { right = λ s d p known. absurd (let none = unknown s d in cc) }
+pub nothing_is_wrong : (moment : MomentValue) (left : List Item) (memory : PlaceMemory) → KnowsNothing memory → RemembersRight moment left memory
+nothing_is_wrong moment left memory nothing =
+    record {
+      right = λ s d p known. absurd (let none = nothing.found s d in cc);
+      marks = record { right = λ s d known within. absurd (let unknown = nothing.marks d in cc) };
+    }
 
 -- what is known stays right where a right place is remembered
-pub still_right : (moment : MomentValue) (left : List Item) (store distance : ℕ) (place : Option ℕ) (before after : Remembered)
-    → ((s d : ℕ) (p : Option ℕ) → known_place after s d ≡ Some p → (known_place before s d ≡ Some p) ⊎ ((s ≡ store) × (d ≡ distance) × (p ≡ place)))
+pub still_right : (moment : MomentValue) (left : List Item) (store distance : ℕ) (place : Option ℕ) (before after : PlaceMemory)
+    → ((s d : ℕ) (p : Option ℕ) → known_place after.found s d ≡ Some p → (known_place before.found s d ≡ Some p) ⊎ ((s ≡ store) × (d ≡ distance) × (p ≡ place)))
+    → before.marks ≡ after.marks
     → place ≡ place_before (content_at moment) left store distance → RemembersRight moment left before → RemembersRight moment left after
-still_right moment left store distance place before after only is right =
+still_right moment left store distance place before after only same is right =
     record {
       right = λ s d p known. elim (only s d p known) [
         | inl was ↦ right.right s d p was
         | inr this ↦ this.2 ∙ (is ∙ (λ i. place_before (content_at moment) left (sym this.0 i) (sym this.1 i)))
       ];
+      marks = subst (IsMarkedRight moment.tables left) same right.marks;
     }
 
 -- what an `any` catches, by the item's place

@@ -1,11 +1,13 @@
-ghost use Rattle.std.specs.Prelude.{◌≡◌, ◌<◌, Some, length, option_and_then};
+ghost use Rattle.std.specs.Prelude.{◌≡◌, ◌<◌, Some, length, is_some, option_and_then};
 ghost use Rattle.rule_model.specs.Tab.{tab_pattern};
 ghost use Rattle.rule_matching.specs.Matching.{item_before, place_asked, place_before, RemembersRight};
 ghost use Rattle.rule_matching.specs.Moment.{content_at};
 
+use crate::marked::is_marked;
 use crate::moment::Moment;
 use crate::place_memory::PlaceMemory;
 use kmn_base::Item;
+use kmn_base::limits::WINDOW_ITEMS;
 use rule_model::Pat;
 
 /// The item that so many items stand behind.
@@ -29,11 +31,11 @@ fn place_before(
     ensures place { result ≡ place_before (content_at moment.now) left.now store distance }
     ensures right { RemembersRight moment.now left.now places.new }
 {
-    if let Some(place) = places.known(store, distance) {
+    if let Some(place) = places.found.known(store, distance) {
         return place;
     }
     let place = moment.place_of(store, item_before(left, distance));
-    places.remember(store, distance, place);
+    places.found.remember(store, distance, place);
     place
 }
 
@@ -54,5 +56,27 @@ pub fn place_asked(
     match pattern {
         Pat::Any(store) | Pat::NotAny(store) => place_before(moment, left, distance, store, places),
         _ => None,
+    }
+}
+
+/// Whether that item is in what a store has.
+#[tactic(auto, using(crate::proofs::Holders::in_what_is_held))]
+pub fn is_in_store(
+    moment: &Moment<'_>,
+    left: &[Item],
+    distance: usize,
+    store: u32,
+    places: &mut PlaceMemory,
+) -> bool
+    requires within { distance < length left.now }
+    requires right { RemembersRight moment.now left.now places.old }
+    ensures value { result ≡ is_some (place_before (content_at moment.now) left.now store distance) }
+    ensures right { RemembersRight moment.now left.now places.new }
+{
+    match moment.held_store(store) {
+        Some(value) if distance < WINDOW_ITEMS && places.marks.has_room(value) => {
+            is_marked(moment, left, distance, value, places)
+        }
+        _ => place_before(moment, left, distance, store, places).is_some(),
     }
 }

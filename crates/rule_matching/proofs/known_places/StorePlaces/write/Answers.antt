@@ -1,6 +1,6 @@
 use Rattle.std.proofs.Common.{◌<◌, ◌∙◌, length, arith, refl}
 use Rattle.rule_matching.proofs.Remembering.{written_is_known, others_stay_known}
-use Rattle.rule_matching.proofs.place_memory.StorePlaces.write.Goals as goal
+use Rattle.rule_matching.proofs.known_places.StorePlaces.write.Goals as goal
 
 pub returns-clause-written : goal.returns-clause-written
 returns-clause-written c =

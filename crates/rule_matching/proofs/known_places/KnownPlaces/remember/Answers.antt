@@ -1,10 +1,10 @@
 use Rattle.std.proofs.Common.{◌≡◌, ◌∙◌, ◌⊎◌, ◌<◌, List, length, slice_get, sym, ap, subst, arith}
 use Rattle.std.specs.Prelude.{Some}
 use Rattle.std.proofs.lemmas.Option.{slice_get-get_or}
-use Rattle.rule_matching.specs.declared.place_memory.StorePlaces.{StorePlaces}
-use Rattle.rule_matching.specs.PlaceMemory.{Remembered, known_place}
+use Rattle.rule_matching.specs.declared.known_places.StorePlaces.{StorePlaces}
+use Rattle.rule_matching.specs.KnownPlaces.{Remembered, known_place}
 use Rattle.rule_matching.proofs.Remembering.{only_this_is_new, this_is_known}
-use Rattle.rule_matching.proofs.place_memory.PlaceMemory.remember.Goals as goal
+use Rattle.rule_matching.proofs.known_places.KnownPlaces.remember.Goals as goal
 
 pub returns-then-distance-lt-WINDOW_ITEMS-clause-only : goal.returns-then-distance-lt-WINDOW_ITEMS-clause-only
 returns-then-distance-lt-WINDOW_ITEMS-clause-only c = λ s d p known.

@@ -1,8 +1,8 @@
 use Rattle.std.proofs.Common.{◌≡◌, ◌∙◌, List, replicate, slice_get, sym, ap, arith, rules}
-use Rattle.rule_matching.specs.declared.place_memory.StorePlaces.{StorePlaces}
-use Rattle.rule_matching.specs.PlaceMemory.{known_of}
+use Rattle.rule_matching.specs.declared.known_places.StorePlaces.{StorePlaces}
+use Rattle.rule_matching.specs.KnownPlaces.{known_of}
 use Rattle.rule_matching.proofs.Remembering.{each_is_the_one, blanks_are_unknown}
-use Rattle.rule_matching.proofs.place_memory.PlaceMemory.new.Goals as goal
+use Rattle.rule_matching.proofs.known_places.KnownPlaces.new.Goals as goal
 
 pub invariant_of-result : goal.invariant_of-result
 invariant_of-result c = λ n places is.
