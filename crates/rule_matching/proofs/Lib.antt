@@ -6,3 +6,4 @@ pub mod KnownPlaces
 pub mod Lying
 pub mod Remembering
 pub mod StoreContents
+pub mod TakenItems

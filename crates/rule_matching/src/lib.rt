@@ -5,7 +5,8 @@
 //! lends a `Moment`, the keyboard with what its stores hold, the last items before the caret, and a `PlaceMemory`: `first_held`
 //! answers the first record of a group that holds then, and what it has caught. A moment is seen as a `MomentValue`, and what
 //! each store has then is `content_at` of it. What the memory knows doesn't matter to the layer above: `first_held` forgets it
-//! first. Memory is taken by `PlaceMemory::new` and by the copy of a `StoreValue` alone.
+//! first. Of each item of a context that is walked over only what it takes is kept (`Taken`): places are looked up for an
+//! `index` and for the record that holds. Memory is taken by `PlaceMemory::new` and by the copy of a `StoreValue` alone.
 #![tactic(auto)]
 
 mod caught;
@@ -17,6 +18,7 @@ mod moment;
 mod place_memory;
 mod places;
 mod store_value;
+mod taken;
 
 pub use caught::{Caught, Found};
 pub use contents::{content, elements_of, saved_of};
