@@ -8,3 +8,4 @@ pub mod Lying
 pub mod Marking
 pub mod Remembering
 pub mod StoreContents
+pub mod TakenItems

@@ -14,4 +14,4 @@ returns-clause-right c =
     = c.place_of-place.ensures
     ∙ ap (option_and_then (λ (item : Item). place_of item (content_at c.args.moment.now (Numbered c.args.store)))) c.item_before.ensures in
     still_right c.args.moment.now c.args.left.now c.args.store c.args.distance c.place_of-place.result c.args.places.now _
-    c.remember.ensures.only refl found c.requires.right
+    c.remember.ensures.only refl found c.requires
