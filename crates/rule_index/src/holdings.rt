@@ -108,18 +108,11 @@ fn place_from(rows: &[Holding], start: u64) -> usize
     )
 }
 
-/// The row at a place, None where there is none.
-fn row_at(rows: &[Holding], place: usize) -> Option<Holding>
-    ensures { result ≡ slice_get rows.now place }
+/// The place that the row at a place tells, where it is of an item and a store.
+fn place_if(rows: &[Holding], place: usize, item: u32, store: u16) -> Option<usize>
+    ensures { result ≡ place_if item store (slice_get rows.now place) }
 {
-    rows.get(place).copied()
-}
-
-/// The place of a row that there may be, where it is of an item and a store.
-fn place_if(row: Option<Holding>, item: u32, store: u16) -> Option<usize>
-    ensures { result ≡ place_if item store row }
-{
-    match row {
+    match rows.get(place) {
         Some(row) if row.item == item && row.store == store => Some(usize::from(row.place)),
         _ => None,
     }
@@ -158,7 +151,7 @@ impl Holdings {
         let rows = self.rows.as_slice();
         let item = item_number(item);
         let place = place_from(rows, start_of(item, store));
-        place_if(row_at(rows, place), item, store)
+        place_if(rows, place, item, store)
     }
 
     /// The stores that have an item, each with its first place there.

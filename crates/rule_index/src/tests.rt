@@ -57,55 +57,26 @@ const CANDIDATES: &[Asked] = &[
 /// How many items of the text each record takes, and one behind them none.
 const COUNTS: [usize; 7] = [0, 1, 1, 2, 1, 1, 0];
 
-/// What stores have: `ab`, mark 1, a virtual key, and `ab` again; `b`; nothing; and mark 2 and `a`.
-const HELD: &[&[Element]] = &[
-    &[
-        Element::Char('a'),
-        Element::Char('b'),
-        Element::Mark(1),
-        Element::Key { flags: 0, code: 65 },
-        Element::Char('a'),
-        Element::Char('b'),
-    ],
-    &[Element::Char('b')],
+/// What stores have.
+const CONTENTS: &[&[Element]] = &[
+    &[Element::Char('a'), Element::Char('b'), Element::Char('a')],
     &[],
-    &[Element::Mark(2), Element::Char('a')],
+    &[Element::Key { flags: 0, code: 65 }, Element::Char('b')],
+    &[Element::Mark(1), Element::Char('a')],
+    &[Element::Char('a'), Element::Char('b'), Element::Char('a')],
+    &[Element::Key { flags: 0, code: 66 }, Element::Char('b')],
 ];
 
 /// Items and the stores that have them, each with the first place there.
 const HOLDERS: &[(Item, &'static [(u16, u16)])] = &[
-    (Char('a'), &[(0, 0), (3, 1)]),
-    (Char('b'), &[(0, 1), (1, 0)]),
-    (Char('c'), &[]),
-    (Mark(1), &[(0, 2)]),
-    (Mark(2), &[(3, 0)]),
-    (Mark(3), &[]),
+    (Char('a'), &[(0, 0), (3, 1), (4, 0)]),
+    (Char('b'), &[(0, 1), (2, 1), (4, 1), (5, 1)]),
+    (Mark(1), &[(3, 0)]),
+    (Mark(2), &[]),
 ];
 
-/// Stores and items with their first places there.
-const PLACES: &[(u16, Item, Option<usize>)] = &[
-    (0, Char('a'), Some(0)),
-    (0, Char('b'), Some(1)),
-    (0, Mark(1), Some(2)),
-    (0, Mark(2), None),
-    (1, Char('b'), Some(0)),
-    (2, Char('b'), None),
-    (3, Char('a'), Some(1)),
-    (4, Char('a'), None),
-];
-
-/// What stores have, and the numbers of no elements and of each store's: of what is the same, the first place.
-const VALUES: (&[&[Element]], &[usize]) = (
-    &[
-        &[Element::Char('a')],
-        &[],
-        &[Element::Key { flags: 0, code: 65 }],
-        &[Element::Mark(1), Element::Char('a')],
-        &[Element::Char('a')],
-        &[Element::Key { flags: 0, code: 66 }],
-    ],
-    &[0, 1, 0, 3, 4, 1, 6],
-);
+/// The numbers of no elements and of each store's: of what is the same, the first place.
+const NUMBERS: &[usize] = &[0, 1, 0, 3, 4, 1, 6];
 
 /// The index of a group's records, where there are not too many.
 fn index_of(alloc: Global, file: &FileTables<'_>, number: u32) -> Result<RuleIndex, Memory> {
@@ -154,12 +125,11 @@ fn holdings_of(alloc: Global, contents: &[&[Element]]) -> Result<Holdings, Memor
 
 /// Whether rows are of these stores and places.
 fn are_rows(rows: &[Holding], wanted: &[(u16, u16)]) -> bool {
-    for (row, (store, place)) in rows.iter().zip(wanted) {
-        if row.store != *store || row.place != *place {
-            return false;
-        }
-    }
     rows.len() == wanted.len()
+        && rows
+            .iter()
+            .zip(wanted)
+            .all(|(row, pair)| (row.store, row.place) == *pair)
 }
 
 #[test]
@@ -209,7 +179,7 @@ fn names_of_own_keys(rt: HostRuntime) -> Result<(), Fail> {
 
 #[test]
 fn holders_of_items(rt: HostRuntime) -> Result<(), Fail> {
-    let holdings = holdings_of(rt.alloc(), HELD)?;
+    let holdings = holdings_of(rt.alloc(), CONTENTS)?;
     for (item, rows) in HOLDERS.iter() {
         assert!(rt; are_rows(holdings.holders(*item), rows));
     }
@@ -218,17 +188,17 @@ fn holders_of_items(rt: HostRuntime) -> Result<(), Fail> {
 
 #[test]
 fn first_places(rt: HostRuntime) -> Result<(), Fail> {
-    let holdings = holdings_of(rt.alloc(), HELD)?;
-    for (store, item, place) in PLACES.iter() {
-        assert!(rt; holdings.place_of(*store, *item) == *place);
-    }
+    let holdings = holdings_of(rt.alloc(), CONTENTS)?;
+    assert!(rt; holdings.place_of(0, Char('a')) == Some(0));
+    assert!(rt; holdings.place_of(3, Char('a')) == Some(1));
+    assert!(rt; holdings.place_of(2, Char('a')).is_none());
+    assert!(rt; holdings.place_of(6, Char('a')).is_none());
     Ok(())
 }
 
 #[test]
 fn numbers_of_stores(rt: HostRuntime) -> Result<(), Fail> {
-    let (contents, numbers) = VALUES;
-    let stores = stores_of(rt.alloc(), contents)?;
-    assert!(rt; store_numbers(rt.alloc(), stores.as_slice())?.as_slice() == numbers);
+    let stores = stores_of(rt.alloc(), CONTENTS)?;
+    assert!(rt; store_numbers(rt.alloc(), stores.as_slice())?.as_slice() == NUMBERS);
     Ok(())
 }

@@ -10,7 +10,7 @@ pub has_no_bit : (distances distance : ℕ) → distances < 2 ^ 64 → 64 ≤ di
 has_no_bit distances distance fits far = ap (λ b. nat_eq b 1) (bit_at_above distances 64 distance fits far)
 
 -- no bit is set in 0
-pub no_distance : (distance : ℕ) → has_distance 0 distance ≡ false
+no_distance : (distance : ℕ) → has_distance 0 distance ≡ false
 no_distance distance = ap (λ b. nat_eq b 1) (bit_at-zero distance)
 
 never : (b : Bool) → (b && false) ≡ false

@@ -1,8 +1,7 @@
-use Rattle.std.proofs.Common.{◌≡◌, ◌≢◌, ◌∙◌, ◌<◌, ◌+◌, ◌∷◌, ◌++◌, [], ℕ, List, slice_index_or, length, map, rules, arith, subst, sym}
+use Rattle.std.proofs.Common.{◌≡◌, ◌≢◌, ◌∙◌, ◌<◌, ◌+◌, ◌∷◌, ◌++◌, [], ℕ, List, slice_index_or, length, rules, arith, subst, sym}
 use Rattle.std.proofs.lemmas.List.{get_or_default}
 use Rattle.rule_index.specs.declared.holding.Holding.{Holding}
 use Rattle.rule_index.specs.declared.row.Row.{Row}
-use Rattle.rule_index.specs.Holdings.{AreGathered}
 use Rattle.rule_index.proofs.Gathering.{ArePassed, none_passed, same_passed, first_passed, all_passed}
 use Rattle.rule_index.proofs.holdings.put_firsts.Goals.{then-class-last+in_ok-push, else-class-last}
 use Rattle.rule_index.proofs.holdings.put_firsts.Goals as goal

@@ -1,4 +1,4 @@
-use Rattle.std.proofs.Common.{◌≡◌, ◌∙◌, ◌<◌, ◌≤◌, ◌+◌, Option, slice_get, List, rules, arith, subst, ap, sym}
+use Rattle.std.proofs.Common.{◌≡◌, ◌∙◌, ◌+◌, List, arith, subst, ap, sym}
 use Rattle.rule_index.specs.declared.holding.Holding.{Holding}
 use Rattle.rule_index.specs.Elements.{item_number}
 use Rattle.rule_index.specs.Holdings.{holding_start, content_at, EndsAt, AreHoldings, AreHoldersOf}

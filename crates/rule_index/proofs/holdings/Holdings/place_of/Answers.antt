@@ -1,4 +1,4 @@
-use Rattle.std.proofs.Common.{◌≡◌, ◌∙◌, ◌<◌, Option, slice_get, List, rules, subst, ap, sym}
+use Rattle.std.proofs.Common.{◌≡◌, ◌∙◌, slice_get, List, rules, subst, ap, sym}
 use Rattle.rule_index.specs.declared.holding.Holding.{Holding}
 use Rattle.rule_index.specs.Elements.{item_number}
 use Rattle.rule_index.specs.Holdings.{holding_start, EndsAt, place_if, AreHoldings}

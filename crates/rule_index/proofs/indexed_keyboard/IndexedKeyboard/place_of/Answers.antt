@@ -1,4 +1,4 @@
-use Rattle.std.proofs.Common.{◌≡◌, ◌≤◌, ◌∙◌, arith, sym, ap}
+use Rattle.std.proofs.Common.{◌≤◌, ◌∙◌, arith, sym, ap}
 use Rattle.rule_model.specs.Match.{place_of}
 use Rattle.rule_model.specs.Tab.{elements_of}
 use Rattle.rule_index.specs.Stores.{store_contents}
