@@ -1,6 +1,8 @@
 pub mod ContextCounts
 pub mod Finding
+pub mod Gathering
 pub mod GroupIndexes
+pub mod Holders
 pub mod Meeting
 pub mod Next
 pub mod Numbering

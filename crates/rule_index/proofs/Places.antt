@@ -6,6 +6,7 @@ use Rattle.std.proofs.lemmas.Bool.{cases_Bool, eqb-true, eq-eqb, cond-true, cond
 use Rattle.std.proofs.lemmas.Bool.Decides.{nat_tests}
 use Rattle.std.proofs.lemmas.List.{length-map}
 use Rattle.std.proofs.lemmas.List.Sums.{position_or_len_is}
+use Rattle.std.proofs.lemmas.List.Quantifiers.{position-Some}
 use Rattle.kmn_base.specs.declared.items.Item.{Item}
 use Rattle.kmn_base.specs.declared.items.Item.TheVariants as item
 use Rattle.kmn_base.specs.declared.items.Element.{Element}
@@ -64,3 +65,11 @@ position_of class classes (Some m) (FirstOf p behind within met skipped) =
 -- the first number of an item among those of the elements is the item's first place
 pub first_is_place : (x : Item) (elements : List Element) (o : Option ℕ) → IsFirstOf (item_number x) (map element_number elements) 0 o → o ≡ place_of x elements
 first_is_place x elements o first = position_of (item_number x) (map element_number elements) o first ∙ sym (place_by_number x elements)
+
+-- the element at an item's first place has the number of the item
+pub place_has_number : (x : Item) (elements : List Element) (place : ℕ) → place_of x elements ≡ Some place
+    → (place < length (map element_number elements)) × (slice_index_or (map element_number elements) place 0 ≡ item_number x)
+place_has_number x elements place is =
+    let numbers : List ℕ = map element_number elements in
+    let at = position-Some (λ number. eqb number (item_number x)) numbers place 0 (sym (place_by_number x elements) ∙ is) in
+    (at.0, eqb-true (slice_index_or numbers place 0) (item_number x) at.1)

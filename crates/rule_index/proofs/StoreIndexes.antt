@@ -1,10 +1,14 @@
 -- What is found of a store is found among its elements.
 use Rattle.std.proofs.Common.{◌≡◌, ℕ, zero, suc, List, [], ◌∷◌, ◌++◌, ◌≤◌, length, slice_get, Some, None, refl, sym, ◌∙◌, ap, subst, append_assoc}
-use Rattle.std.proofs.lemmas.List.Elements.{All-tail}
+use Rattle.std.specs.List.{All}
+use Rattle.std.proofs.lemmas.List.Elements.{All-map}
 use Rattle.kmn_base.specs.declared.limits.TheConstants.{STORE_ELEMENTS}
 use Rattle.kmn_base.specs.declared.items.Element.{Element}
+use Rattle.kmn_base.specs.declared.items.Item.{Item}
 use Rattle.rule_model.specs.declared.tables.Store.{Store}
 use Rattle.rule_model.specs.Tab.{elements_of}
+use Rattle.rule_index.specs.declared.holding.Holding.{Holding}
+use Rattle.rule_index.specs.Holdings.{content_at, AreHoldersOf}
 use Rattle.rule_index.specs.Stores.{store_contents, HaveFewElements}
 
 -- the elements that are listed at a store's number are the store's
@@ -21,9 +25,20 @@ contents_absent [] (suc n) at = refl
 contents_absent (store ∷ stores) zero at = absurd (cc)
 contents_absent (store ∷ stores) (suc n) at = contents_absent stores n at
 
--- what holds of all stores that are left holds of those behind the first
-pub few_behind : (store : Store) (left all : List Store) → all ≡ store ∷ left → HaveFewElements all → HaveFewElements left
-few_behind store left all is few = All-tail (λ (one : Store). length one.elements ≤ STORE_ELEMENTS) store left (subst HaveFewElements is few)
+-- what is listed at a number is what the store of this number has
+pub content_is : (stores : List Store) (n : ℕ) → content_at (store_contents stores) n ≡ elements_of stores n
+content_is [] zero = refl
+content_is [] (suc n) = refl
+content_is (store ∷ stores) zero = refl
+content_is (store ∷ stores) (suc n) = content_is stores n
+
+-- so an item's holders among what is listed are those among the stores
+pub holders_in_stores : (stores : List Store) (x : Item) (rows : List Holding) → AreHoldersOf x (content_at (store_contents stores)) rows → AreHoldersOf x (elements_of stores) rows
+holders_in_stores stores x rows = subst (λ contents. AreHoldersOf x contents rows) (λ i n. content_is stores n i)
+
+-- each listed store is short, and no more are listed than there are
+pub few_listed : (stores : List Store) → HaveFewElements stores → All (λ (elements : List Element). length elements ≤ STORE_ELEMENTS) (store_contents stores)
+few_listed stores few = All-map (λ (elements : List Element). length elements ≤ STORE_ELEMENTS) (λ (store : Store). store.elements) stores few
 
 -- one store more is listed
 pub one_listed : (all left rest : List Store) (store : Store) (listed more : List (List Element)) (elements : List Element)

@@ -1,34 +1,40 @@
 -- An index for each group, of its records.
-use Rattle.std.specs.Prelude.{◌≡◌, ℕ, min, List, [], length, map, slice_get, slice_index_or, Some}
+use Rattle.std.specs.Prelude.{◌≡◌, ℕ, min, List, [], length, map, slice_get, slice_index_or, Some, Vec}
 use Rattle.rule_model.specs.declared.tables.Group.{Group}
-use Rattle.rule_model.specs.declared.tables.Rule.{Rule}
+use Rattle.rule_model.specs.declared.tables.Pat.{Pat}
 use Rattle.rule_model.specs.Hold.{pattern_count}
 use Rattle.rule_model.specs.Tab.{tab_pattern, tab_rule}
 use Rattle.rule_index.specs.declared.row.Row.{Row}
 use Rattle.rule_index.specs.Classes.{rule_class}
 use Rattle.rule_index.specs.Rows.{IsIndexOf}
 
--- the rows of a group's records, and for each record how many items of the text its context takes
+-- the rows of a group's records, and for each record its context and how many items of the text that takes
 pub record RuleIndexValue : Type 0 where
   pub rows : List Row
+  pub contexts : List (List Pat)
   pub counts : List ℕ
 
 -- what each record of a group can be met by
 abbrev pub record_classes : Group → List ℕ
 record_classes group = map (λ rule. rule_class (tab_rule [] group.using_keys rule)) group.rules
 
--- how many items of the text the context of a record takes, as far as a byte counts: no more than 60 where it can be played
-abbrev pub context_count : Rule → ℕ
-context_count rule = min (pattern_count (map (tab_pattern []) rule.context)) 255
+-- the context of each record of a group
+abbrev pub record_contexts : Group → List (List Pat)
+record_contexts group = map (λ rule. rule.context) group.rules
 
--- the count of each record of a group
-abbrev pub record_counts : Group → List ℕ
-record_counts group = map context_count group.rules
+-- contexts as lists of their items
+abbrev pub listed : {A : Type 0} → List (Vec Pat A) → List (List Pat)
+listed contexts = map (λ context. context.items) contexts
 
--- the rows are those of the group's records, and so are the counts
+-- how many items of the text a context takes, as far as a byte counts: no more than 60 where it can be played
+abbrev pub context_count : List Pat → ℕ
+context_count context = min (pattern_count (map (tab_pattern []) context)) 255
+
+-- the rows are those of the group's records, and so are the contexts and their counts
 pub record IsRuleIndexOf (group : Group) (index : RuleIndexValue) : Type 0 where
   pub records : IsIndexOf (record_classes group) index.rows
-  pub counts : index.counts ≡ record_counts group
+  pub contexts : index.contexts ≡ record_contexts group
+  pub counts : index.counts ≡ map context_count (record_contexts group)
 
 -- the index at a group's number is that of its records
 pub record AreIndexesOf (groups : List Group) (indexes : List RuleIndexValue) : Type 0 where

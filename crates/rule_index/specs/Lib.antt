@@ -1,6 +1,7 @@
 pub mod Classes
 pub mod Elements
 pub mod Groups
+pub mod Holdings
 pub mod Laws
 pub mod Next
 pub mod OwnNames

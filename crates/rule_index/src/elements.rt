@@ -1,4 +1,4 @@
-ghost use Rattle.std.specs.Prelude.{◌≡◌, map, IfOk};
+ghost use Rattle.std.specs.Prelude.{◌≡◌, ◌<◌, All, map, IfOk};
 ghost use Rattle.rule_index.specs.Elements.{element_number, item_number};
 
 use crate::class::Class;
@@ -7,7 +7,8 @@ use std::alloc::Global;
 
 /// The number of an element.
 fn element_number(element: Element) -> Class
-    ensures { result ≡ element_number element }
+    ensures value { result ≡ element_number element }
+    ensures small { result < 4194304 }
 {
     match element {
         Element::Char(c) => Class::of(1 + 2 * u64::from(c as u32)),
@@ -17,18 +18,20 @@ fn element_number(element: Element) -> Class
 }
 
 /// The number of an item.
-pub fn item_number(item: Item) -> Class
-    ensures { result ≡ item_number item }
+pub fn item_number(item: Item) -> u32
+    ensures value { result ≡ item_number item }
+    ensures small { result < 4194304 }
 {
     match item {
-        Item::Char(c) => Class::of(1 + 2 * u64::from(c as u32)),
-        Item::Mark(m) => Class::of(2 + 2 * u64::from(m)),
+        Item::Char(c) => 1 + 2 * u32::from(c),
+        Item::Mark(m) => 2 + 2 * u32::from(m),
     }
 }
 
 /// The numbers of elements, in their order.
 pub fn element_numbers(alloc: Global, elements: &[Element]) -> Result<Vec<Class>, Memory>
-    ensures { IfOk result (λ numbers. numbers.items ≡ map element_number elements.now) }
+    ensures value { IfOk result (λ numbers. numbers.items ≡ map element_number elements.now) }
+    ensures small { IfOk result (λ numbers. All (λ number. number < 4194304) numbers.items) }
 {
     let mut numbers = Vec::new(alloc);
     for element in elements {

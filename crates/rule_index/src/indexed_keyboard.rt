@@ -1,6 +1,6 @@
 ghost use Rattle.std.specs.Prelude.{◌≡◌, ◌≤◌, All, IfOk, IfSome, length, option_copied, option_map, slice_get};
 ghost use Rattle.std.specs.Option.{option_flatten};
-ghost use Rattle.kmn_base.specs.declared.limits.TheConstants.{FILE_BYTES, RECORDS};
+ghost use Rattle.kmn_base.specs.declared.limits.TheConstants.{FILE_BYTES, RECORDS, STORES};
 ghost use Rattle.virtual_keys.specs.Dictionary.{name_in};
 ghost use Rattle.rule_model.specs.Content.{option_number};
 ghost use Rattle.rule_model.specs.Keyboard.{Numbered};
@@ -8,27 +8,30 @@ ghost use Rattle.rule_model.specs.Match.{place_of, same_value};
 ghost use Rattle.rule_model.specs.Plain.{option_numbers};
 ghost use Rattle.rule_model.specs.Tab.{elements_of, tab};
 ghost use Rattle.rule_index.specs.Groups.{AreIndexesOf, IsRuleIndexOf};
+ghost use Rattle.rule_index.specs.Holdings.{AreHoldersOf};
 ghost use Rattle.rule_index.specs.Stores.{store_contents, HaveFewElements};
 
-use crate::indexed_store::{IndexedStore, copied};
+use crate::holding::Holding;
+use crate::holdings::Holdings;
 use crate::options::option_numbers;
 use crate::own_names::own_keys;
 use crate::rule_index::RuleIndex;
 use crate::values::{number_for, store_numbers};
 use file_parts::{Elements, FileGroup, FileTables, Parts};
-use kmn_base::{Element, Item, Memory};
+use kmn_base::{Element, Item, Memory, Seq};
 use std::alloc::Global;
 use std::marker::Model;
 use virtual_keys::KeyDictionary;
 
-/// A file with what an engine looks up: each store by place and by element, its option number, a number that the stores
-/// with the same elements have, an index of each group's records, and the names of own keys. Nothing of the file is copied
-/// but elements and these names. Contracts see the file's tables.
+/// A file with what an engine looks up: each store by place, its option number, the stores that have an item, a number that
+/// the stores with the same elements have, an index of each group's records, and the names of own keys. Nothing of the file
+/// is copied but elements and these names. Contracts see the file's tables.
 #[derive(Drop)]
 pub struct IndexedKeyboard<'a> {
     alloc: Global,
     file: FileTables<'a>,
-    stores: Vec<IndexedStore>,
+    stores: Vec<Seq<Element>>,
+    holdings: Holdings,
     values: Vec<usize>,
     numbers: Vec<Option<usize>>,
     indexes: Vec<RuleIndex>,
@@ -41,6 +44,7 @@ impl<'a> Model for IndexedKeyboard<'a> {
     ghost use Rattle.rule_model.specs.Plain.{option_numbers};
     ghost use Rattle.rule_model.specs.Tab.{tab};
     ghost use Rattle.rule_index.specs.Groups.{AreIndexesOf};
+    ghost use Rattle.rule_index.specs.Holdings.{AreHoldings};
     ghost use Rattle.rule_index.specs.Stores.{store_contents};
     ghost use Rattle.rule_index.specs.Values.{value_code, AreNumbersOf};
 
@@ -53,18 +57,28 @@ impl<'a> Model for IndexedKeyboard<'a> {
         × AreIndexesOf keyboard.file.groups keyboard.indexes.items
         × (keyboard.names ≡ (tab keyboard.file).dictionary)
         × (keyboard.stores.items ≡ store_contents keyboard.file.stores)
+        × AreHoldings (store_contents keyboard.file.stores) keyboard.holdings
         × AreNumbersOf (map value_code ([] ∷ store_contents keyboard.file.stores)) keyboard.values.items };
 }
 
-/// Each store by place and by element.
-fn stores_of(alloc: Global, file: &FileTables<'_>) -> Result<Vec<IndexedStore>, Memory>
-    requires { HaveFewElements file.now.stores }
+/// A copy of elements that lie in a file.
+fn copied(alloc: Global, elements: Elements<'_>) -> Result<Seq<Element>, Memory>
+    ensures { IfOk result (λ copied. copied ≡ elements.entry) }
+{
+    let mut copied = Seq::new(alloc);
+    for element in elements {
+        copied.add(element)?;
+    }
+    Ok(copied)
+}
+
+/// What each store has.
+fn stores_of(alloc: Global, file: &FileTables<'_>) -> Result<Vec<Seq<Element>>, Memory>
     ensures { IfOk result (λ stores. stores.items ≡ store_contents file.now.stores) }
 {
     let mut stores = Vec::new(alloc);
     for store in file.stores() {
-        let elements = copied(alloc, store.elements())?;
-        stores.push(IndexedStore::new(alloc, elements)?)?;
+        stores.push(copied(alloc, store.elements())?)?;
     }
     Ok(stores)
 }
@@ -95,10 +109,12 @@ impl<'a> IndexedKeyboard<'a> {
     pub fn new(alloc: Global, file: FileTables<'a>) -> Result<IndexedKeyboard<'a>, Memory>
         requires records { All (λ group. length group.rules ≤ RECORDS) file.groups }
         requires elements { HaveFewElements file.stores }
+        requires stores { length file.stores ≤ STORES }
         ensures { IfOk result (λ keyboard. keyboard ≡ file.entry) }
     {
         let stores = stores_of(alloc, &file)?;
         let values = store_numbers(alloc, stores.as_slice())?;
+        let holdings = Holdings::of(alloc, stores.as_slice())?;
         let numbers = option_numbers(alloc, &file)?;
         let indexes = indexes_of(alloc, &file)?;
         let names = own_keys(alloc, &file)?;
@@ -106,6 +122,7 @@ impl<'a> IndexedKeyboard<'a> {
             alloc,
             file,
             stores,
+            holdings,
             values,
             numbers,
             indexes,
@@ -183,15 +200,22 @@ impl<'a> IndexedKeyboard<'a> {
             None => Parts::none(),
         }
     }
+
     /// The first place of an item in a store.
-    #[tactic(auto, using(crate::proofs::StoreIndexes::contents_found, crate::proofs::StoreIndexes::contents_absent))]
     pub fn place_of(&self, store: u32, item: Item) -> Option<usize>
         ensures { result ≡ place_of item (elements_of self.now.stores store) }
     {
-        match self.stores.get(store as usize) {
-            Some(store) => store.place_of(item),
-            None => None,
+        match u16::try_from(store) {
+            Ok(store) => self.holdings.place_of(store, item),
+            Err(_) => None,
         }
+    }
+
+    /// The stores that have an item, each with its first place there, by a search.
+    pub fn holders(&self, item: Item) -> &[Holding]
+        ensures { AreHoldersOf item (elements_of self.now.stores) result.now }
+    {
+        self.holdings.holders(item)
     }
 
     /// The element at a place of a store.
@@ -200,10 +224,11 @@ impl<'a> IndexedKeyboard<'a> {
         ensures { result ≡ slice_get (elements_of self.now.stores store) place }
     {
         match self.stores.get(store as usize) {
-            Some(store) => store.elements().get(place).copied(),
+            Some(store) => store.as_slice().get(place).copied(),
             None => None,
         }
     }
+
     /// Whether two stores have the same elements.
     #[tactic(auto, using(crate::proofs::StoreValues::some_numbers, crate::proofs::StoreValues::same_number))]
     pub fn same_elements(&self, store: u32, other: u32) -> bool

@@ -2,7 +2,6 @@ ghost use Rattle.std.specs.Prelude.{◌≡◌, ◌≤◌, ◌+◌, ◌*◌, ℕ,
 ghost use Rattle.std.specs.List.Sorted.{IsNonDecreasingBy};
 ghost use Rattle.kmn_base.specs.declared.limits.TheConstants.{RECORDS};
 ghost use Rattle.rule_index.specs.Rows.{rank, ranked, AreNumbered, AreBefore, IsIndexOf, StartsAt, number_if};
-ghost use Rattle.rule_index.specs.Next.{IsFirstOf};
 
 use crate::class::Class;
 use crate::row::Row;
@@ -93,13 +92,4 @@ pub fn place_behind(rows: &[Row], passed: usize, start: u64) -> usize
         place += 1;
     }
     place
-}
-
-/// The first number from one on that has a class.
-#[tactic(auto, using(crate::proofs::Finding::first_found))]
-pub fn first_from(rows: &[Row], class: Class, from: u32) -> Option<u32>
-    requires { from ≤ RECORDS }
-    ensures { (classes : List ℕ) → IsIndexOf classes rows.now → IsFirstOf class classes from result }
-{
-    number_if(row_at(rows, place_from(rows, rank_of(class, from))), class)
 }

@@ -1,31 +1,33 @@
-ghost use Rattle.std.specs.Prelude.{◌≡◌, ◌≤◌, length, slice_index_or, IfOk};
+ghost use Rattle.std.specs.Prelude.{◌≡◌, ◌≤◌, [], length, slice_index_or, IfOk};
 ghost use Rattle.kmn_base.specs.declared.limits.TheConstants.{RECORDS};
 ghost use Rattle.rule_index.specs.Groups.{IsRuleIndexOf};
 
 use crate::candidates::Candidates;
 use crate::class::Class;
 use crate::classes::record_classes;
-use crate::counts::record_counts;
+use crate::contexts::{counts, record_contexts};
 use crate::row::Row;
 use crate::rows::rows_of;
 use file_parts::FileGroup;
 use kmn_base::Memory;
+use rule_model::Pat;
 use std::alloc::Global;
 use std::marker::Model;
 
-/// The records of a group by what they can be met by, and how many items of the text each takes.
+/// The records of a group by what they can be met by, the context of each, and how many items of the text it takes.
 #[derive(Drop)]
 pub struct RuleIndex {
     rows: Vec<Row>,
+    contexts: Vec<Vec<Pat>>,
     counts: Vec<u8>,
 }
 
 impl Model for RuleIndex {
-    ghost use Rattle.rule_index.specs.Groups.{RuleIndexValue};
+    ghost use Rattle.rule_index.specs.Groups.{listed, RuleIndexValue};
 
     ghost Value = { RuleIndexValue };
 
-    ghost view = { λ index. record { rows = index.rows.items; counts = index.counts.items } };
+    ghost view = { λ index. record { rows = index.rows.items; contexts = listed index.contexts.items; counts = index.counts.items } };
 }
 
 impl RuleIndex {
@@ -35,9 +37,13 @@ impl RuleIndex {
         ensures { IfOk result (λ index. IsRuleIndexOf group.now index) }
     {
         let classes = record_classes(alloc, group)?;
+        let rows = rows_of(alloc, classes.as_slice())?;
+        let contexts = record_contexts(alloc, group)?;
+        let counts = counts(alloc, contexts.as_slice())?;
         Ok(RuleIndex {
-            rows: rows_of(alloc, classes.as_slice())?,
-            counts: record_counts(alloc, group)?,
+            rows,
+            contexts,
+            counts,
         })
     }
 
@@ -46,6 +52,16 @@ impl RuleIndex {
         ensures { result ≡ record { rows = self.now.rows; wanted = wanted.now; from = 0 } }
     {
         Candidates::of(self.rows.as_slice(), wanted)
+    }
+
+    /// The context of a record; empty where there is no such record.
+    pub fn context(&self, number: u32) -> &[Pat]
+        ensures { result.now ≡ slice_index_or self.now.contexts number [] }
+    {
+        match self.contexts.get(number as usize) {
+            Some(context) => context.as_slice(),
+            None => &[],
+        }
     }
 
     /// How many items of the text the context of a record takes; none where there is no such record.

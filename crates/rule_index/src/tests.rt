@@ -1,15 +1,21 @@
-//! The records that can hold for a press and a last item, one after the other, what is looked up of a file, the first
-//! places of items, and the numbers of what stores have.
+//! The records that can hold for a press and a last item, one after the other, what is looked up of a file, the stores that
+//! have items and the first places there, and the numbers of what stores have.
 
-use crate::indexed_store::IndexedStore;
+ghost use Rattle.std.specs.Prelude.{IfOk};
+ghost use Rattle.std.specs.List.Sorted.{IsNonDecreasingBy};
+ghost use Rattle.rule_index.specs.Holdings.{holding_rank};
+
+use crate::holding::Holding;
+use crate::holdings::Holdings;
 use crate::options::option_numbers;
 use crate::own_names::own_keys;
 use crate::values::store_numbers;
 use crate::{RuleIndex, wanted_classes};
 use file_parts::FileTables;
 use kmn_base::Item::{Char, Mark};
-use kmn_base::limits::{RECORDS, STORE_ELEMENTS};
-use kmn_base::{Element, Item, KeyPress, Memory};
+use kmn_base::limits::{RECORDS, STORE_ELEMENTS, STORES};
+use kmn_base::{Element, Item, KeyPress, Memory, Seq};
+use rule_model::Pat;
 use std::alloc::Global;
 use std::test::Fail;
 
@@ -38,7 +44,7 @@ const FILE: [u8; 360] = [
 /// Whether the group has keys, a press by code and modifiers, the list before the caret, and all candidates.
 type Asked = (bool, u16, u16, &'static [Item], &'static [u32]);
 
-const CANDIDATES: [Asked; 7] = [
+const CANDIDATES: &[Asked] = &[
     (true, 65, 0, &[Char('x')], &[0, 1, 4, 5]),
     (true, 65, 0, &[], &[0, 4]),
     (true, 65, 16, &[Char('x'), Mark(1)], &[2, 3, 4]),
@@ -51,26 +57,26 @@ const CANDIDATES: [Asked; 7] = [
 /// How many items of the text each record takes, and one behind them none.
 const COUNTS: [usize; 7] = [0, 1, 1, 2, 1, 1, 0];
 
-/// Items and their first places among `ab`, mark 1, a virtual key, and `ab` again.
-const PLACES: [(Item, Option<usize>); 4] = [
-    (Char('a'), Some(0)),
-    (Char('b'), Some(1)),
-    (Mark(1), Some(2)),
-    (Mark(2), None),
+/// What stores have.
+const CONTENTS: &[&[Element]] = &[
+    &[Element::Char('a'), Element::Char('b'), Element::Char('a')],
+    &[],
+    &[Element::Key { flags: 0, code: 65 }, Element::Char('b')],
+    &[Element::Mark(1), Element::Char('a')],
+    &[Element::Char('a'), Element::Char('b'), Element::Char('a')],
+    &[Element::Key { flags: 0, code: 66 }, Element::Char('b')],
 ];
 
-/// What stores have, and the numbers of no elements and of each store's: of what is the same, the first place.
-const VALUES: ([&[Element]; 6], [usize; 7]) = (
-    [
-        &[Element::Char('a')],
-        &[],
-        &[Element::Key { flags: 0, code: 65 }],
-        &[Element::Mark(1), Element::Char('a')],
-        &[Element::Char('a')],
-        &[Element::Key { flags: 0, code: 66 }],
-    ],
-    [0, 1, 0, 3, 4, 1, 6],
-);
+/// Items and the stores that have them, each with the first place there.
+const HOLDERS: &[(Item, &'static [(u16, u16)])] = &[
+    (Char('a'), &[(0, 0), (3, 1), (4, 0)]),
+    (Char('b'), &[(0, 1), (2, 1), (4, 1), (5, 1)]),
+    (Mark(1), &[(3, 0)]),
+    (Mark(2), &[]),
+];
+
+/// The numbers of no elements and of each store's: of what is the same, the first place.
+const NUMBERS: &[usize] = &[0, 1, 0, 3, 4, 1, 6];
 
 /// The index of a group's records, where there are not too many.
 fn index_of(alloc: Global, file: &FileTables<'_>, number: u32) -> Result<RuleIndex, Memory> {
@@ -81,8 +87,8 @@ fn index_of(alloc: Global, file: &FileTables<'_>, number: u32) -> Result<RuleInd
 }
 
 /// Whether the candidates of a row of the table are those that it has.
-fn answers(with_keys: &RuleIndex, without_keys: &RuleIndex, asked: Asked) -> bool {
-    let (using_keys, code, mods, left, numbers) = asked;
+fn answers(with_keys: &RuleIndex, without_keys: &RuleIndex, asked: &Asked) -> bool {
+    let (using_keys, code, mods, left, numbers) = *asked;
     let index = if using_keys { with_keys } else { without_keys };
     let mut candidates = index.candidates(&wanted_classes(KeyPress { code, mods }, left));
     for number in numbers {
@@ -93,12 +99,37 @@ fn answers(with_keys: &RuleIndex, without_keys: &RuleIndex, asked: Asked) -> boo
     candidates.next().is_none()
 }
 
-/// The store of these elements, where there are not too many.
-fn store_of(alloc: Global, elements: &[Element]) -> Result<IndexedStore, Memory> {
-    if elements.len() > STORE_ELEMENTS {
+/// Stores with these elements.
+fn stores_of(alloc: Global, contents: &[&[Element]]) -> Result<Vec<Seq<Element>>, Memory> {
+    let mut stores = Vec::new(alloc);
+    for elements in contents {
+        stores.push(Seq::from_slice(alloc, elements)?)?;
+    }
+    Ok(stores)
+}
+
+/// Which of these stores have an item, where there are not too many of them, and none has too many elements.
+fn holdings_of(alloc: Global, contents: &[&[Element]]) -> Result<Holdings, Memory>
+    ensures { IfOk result (λ holdings. IsNonDecreasingBy holding_rank holdings) }
+{
+    let stores = stores_of(alloc, contents)?;
+    if stores.len() > STORES
+        || !stores
+            .iter()
+            .all(|elements| elements.len() <= STORE_ELEMENTS)
+    {
         return Err(Memory);
     }
-    IndexedStore::new(alloc, Vec::from_slice(alloc, elements)?)
+    Holdings::of(alloc, stores.as_slice())
+}
+
+/// Whether rows are of these stores and places.
+fn are_rows(rows: &[Holding], wanted: &[(u16, u16)]) -> bool {
+    rows.len() == wanted.len()
+        && rows
+            .iter()
+            .zip(wanted)
+            .all(|(row, pair)| (row.store, row.place) == *pair)
 }
 
 #[test]
@@ -106,7 +137,7 @@ fn candidates_of_a_press(rt: HostRuntime) -> Result<(), Fail> {
     let file = FileTables::of(&FILE);
     let with_keys = index_of(rt.alloc(), &file, 0)?;
     let without_keys = index_of(rt.alloc(), &file, 1)?;
-    for asked in CANDIDATES {
+    for asked in CANDIDATES.iter() {
         assert!(rt; answers(&with_keys, &without_keys, asked));
     }
     Ok(())
@@ -118,6 +149,15 @@ fn items_that_records_take(rt: HostRuntime) -> Result<(), Fail> {
     for number in 0..7u32 {
         assert!(rt; index.pattern_count(number) == COUNTS[number as usize]);
     }
+    Ok(())
+}
+
+#[test]
+fn contexts_of_records(rt: HostRuntime) -> Result<(), Fail> {
+    let index = index_of(rt.alloc(), &FileTables::of(&FILE), 0)?;
+    assert!(rt; index.context(3) == [Pat::Char('x'), Pat::Any(0)].as_slice());
+    assert!(rt; index.context(4) == [Pat::NotAny(0)].as_slice());
+    assert!(rt; index.context(6).is_empty());
     Ok(())
 }
 
@@ -138,30 +178,27 @@ fn names_of_own_keys(rt: HostRuntime) -> Result<(), Fail> {
 }
 
 #[test]
-fn first_places(rt: HostRuntime) -> Result<(), Fail> {
-    let elements = [
-        Element::Char('a'),
-        Element::Char('b'),
-        Element::Mark(1),
-        Element::Key { flags: 0, code: 65 },
-        Element::Char('a'),
-        Element::Char('b'),
-    ];
-    let store = store_of(rt.alloc(), &elements)?;
-    for (item, place) in PLACES {
-        assert!(rt; store.place_of(item) == place);
+fn holders_of_items(rt: HostRuntime) -> Result<(), Fail> {
+    let holdings = holdings_of(rt.alloc(), CONTENTS)?;
+    for (item, rows) in HOLDERS.iter() {
+        assert!(rt; are_rows(holdings.holders(*item), rows));
     }
-    assert!(rt; store.elements() == elements.as_slice());
+    Ok(())
+}
+
+#[test]
+fn first_places(rt: HostRuntime) -> Result<(), Fail> {
+    let holdings = holdings_of(rt.alloc(), CONTENTS)?;
+    assert!(rt; holdings.place_of(0, Char('a')) == Some(0));
+    assert!(rt; holdings.place_of(3, Char('a')) == Some(1));
+    assert!(rt; holdings.place_of(2, Char('a')).is_none());
+    assert!(rt; holdings.place_of(6, Char('a')).is_none());
     Ok(())
 }
 
 #[test]
 fn numbers_of_stores(rt: HostRuntime) -> Result<(), Fail> {
-    let (values, numbers) = VALUES;
-    let mut stores = Vec::new(rt.alloc());
-    for elements in values {
-        stores.push(store_of(rt.alloc(), elements)?)?;
-    }
-    assert!(rt; store_numbers(rt.alloc(), stores.as_slice())?.as_slice() == numbers.as_slice());
+    let stores = stores_of(rt.alloc(), CONTENTS)?;
+    assert!(rt; store_numbers(rt.alloc(), stores.as_slice())?.as_slice() == NUMBERS);
     Ok(())
 }

@@ -1,7 +1,6 @@
 ghost use Rattle.std.specs.Prelude.{◌≡◌, ◌++◌, ◌<◌, [], ◌∷◌, IfOk, OnOk, length, map};
 ghost use Rattle.rule_index.specs.Values.{element_code, number_for, value_code, AreNumbersOf, known_in, IsNumbered};
 
-use crate::indexed_store::IndexedStore;
 use kmn_base::{Element, Memory, Seq};
 use std::alloc::Global;
 use std::collections::BTreeMap;
@@ -32,13 +31,13 @@ fn value_code(alloc: Global, elements: &[Element]) -> Result<Seq<u32>, Memory>
 }
 
 /// The codes of no elements and, behind it, of each store's.
-fn value_codes(alloc: Global, stores: &[IndexedStore]) -> Result<Vec<Seq<u32>>, Memory>
+fn value_codes(alloc: Global, stores: &[Seq<Element>]) -> Result<Vec<Seq<u32>>, Memory>
     ensures { IfOk result (λ codes. codes.items ≡ map value_code ([] ∷ stores.now)) }
 {
     let mut codes = Vec::new(alloc);
     codes.push(Seq::new(alloc))?;
     for store in stores {
-        codes.push(value_code(alloc, store.elements())?)?;
+        codes.push(value_code(alloc, store.as_slice())?)?;
     }
     Ok(codes)
 }
@@ -72,7 +71,7 @@ fn value_numbers(alloc: Global, values: &[Seq<u32>]) -> Result<Vec<usize>, Memor
 }
 
 /// The numbers of no elements and, behind it, of each store's.
-pub fn store_numbers(alloc: Global, stores: &[IndexedStore]) -> Result<Vec<usize>, Memory>
+pub fn store_numbers(alloc: Global, stores: &[Seq<Element>]) -> Result<Vec<usize>, Memory>
     ensures { IfOk result (λ numbers. AreNumbersOf (map value_code ([] ∷ stores.now)) numbers.items) }
 {
     let codes = value_codes(alloc, stores)?;

@@ -1,6 +1,7 @@
 -- What is known of the places of a list's items stays right, and what a context catches item by item.
-use Rattle.std.proofs.Common.{◌≡◌, ℕ, zero, suc, ◌+◌, ◌-◌, ◌<◌, ◌≤◌, ◌⊎◌, Bool, true, false, List, [], ◌∷◌, ◌++◌, length, drop, get_or, Option, Some, None, refl, sym, ◌∙◌, ap, inl, inr, arith}
-use Rattle.std.specs.Prelude.{if◌then◌else◌, is_some, option_and_then, slice_get}
+use Rattle.std.proofs.Common.{◌≡◌, ℕ, zero, suc, ◌+◌, ◌-◌, ◌<◌, ◌≤◌, ◌⊎◌, Bool, true, false, List, [], ◌∷◌, ◌++◌, length, drop, get_or, Option, Some, None, refl, sym, ◌∙◌, ap, subst, inl, inr, arith}
+use Rattle.std.specs.Prelude.{if◌then◌else◌, option_and_then, slice_get}
+use Rattle.std.proofs.lemmas.Bool.{le-ltb, lt-ltb}
 use Rattle.std.proofs.lemmas.List.{drop_all, drop_more}
 use Rattle.std.proofs.lemmas.Option.{get_or_from_slice_get}
 use Rattle.kmn_base.specs.declared.items.Item.{Item}
@@ -8,41 +9,41 @@ use Rattle.rule_model.specs.declared.event_state.Catch.{Catch}
 use Rattle.rule_model.specs.declared.tables.Pat.{Pat}
 use Rattle.rule_model.specs.declared.tables.Pat.TheVariants as pattern
 use Rattle.rule_model.specs.declared.tables.Store.{Store}
-use Rattle.rule_model.specs.Keyboard.{Ref, Pattern, IsAny}
+use Rattle.rule_model.specs.Keyboard.{Numbered, Pattern}
 use Rattle.rule_model.specs.Match.{Content, takes_item, catch_item, catches_from, matches, nothing_caught, place_for, place_of}
 use Rattle.rule_model.specs.Tab.{tab_pattern}
-use Rattle.rule_matching.specs.Matching.{catch_of, item_before, place_before, RemembersRight}
-use Rattle.rule_matching.specs.PlaceMemory.{Remembered, known_place}
-
--- nothing that is known is wrong
-pub nothing_is_wrong : (content : Content) (left : List Item) (memory : Remembered) → ((store distance : ℕ) → known_place memory store distance ≡ None)
-    → RemembersRight content left memory
-nothing_is_wrong content left memory unknown = record { right = λ s d p known. absurd (let none = unknown s d in cc) }
+use Rattle.rule_matching.specs.declared.place_memory.PlaceMemory.{PlaceMemory}
+use Rattle.rule_matching.specs.KnownPlaces.{known_place}
+use Rattle.rule_matching.specs.Matching.{catch_of, item_before, place_before, IsMarkedRight, RemembersRight}
+use Rattle.rule_matching.specs.Moment.{MomentValue, content_at}
 
 -- what is known stays right where a right place is remembered
-pub still_right : (content : Content) (left : List Item) (store distance : ℕ) (place : Option ℕ) (before after : Remembered)
-    → ((s d : ℕ) (p : Option ℕ) → known_place after s d ≡ Some p → (known_place before s d ≡ Some p) ⊎ ((s ≡ store) × (d ≡ distance) × (p ≡ place)))
-    → place ≡ place_before content left store distance → RemembersRight content left before → RemembersRight content left after
-still_right content left store distance place before after only is right =
+pub still_right : (moment : MomentValue) (left : List Item) (store distance : ℕ) (place : Option ℕ) (before after : PlaceMemory)
+    → ((s d : ℕ) (p : Option ℕ) → known_place after.found s d ≡ Some p → (known_place before.found s d ≡ Some p) ⊎ ((s ≡ store) × (d ≡ distance) × (p ≡ place)))
+    → before.marks ≡ after.marks
+    → place ≡ place_before (content_at moment) left store distance → RemembersRight moment left before → RemembersRight moment left after
+still_right moment left store distance place before after only same is right =
     record {
       right = λ s d p known. elim (only s d p known) [
         | inl was ↦ right.right s d p was
-        | inr this ↦ this.2 ∙ (is ∙ (λ i. place_before content left (sym this.0 i) (sym this.1 i)))
+        | inr this ↦ this.2 ∙ (is ∙ (λ i. place_before (content_at moment) left (sym this.0 i) (sym this.1 i)))
       ];
+      marks = subst (IsMarkedRight moment.tables left) same right.marks;
     }
 
--- what an `any` catches, by the item's place
-pub any_found : (content : Content) (seen : List Catch) (store : Ref) (item : Item) (asked : Option ℕ) (place : ℕ) → asked ≡ place_of item (content store) → asked ≡ Some place
-    → Some (record { item = Some item; place = Some place }) ≡ catch_of content seen (IsAny store) item
-any_found content seen store item asked place is found =
-    let caught : Option ℕ → Option Catch = λ (p : Option ℕ). if is_some p then Some (record { item = Some item; place = p }) else None in
-    ap caught (sym found ∙ is)
+-- there is an item before the caret for each distance below the list's length, and none behind them
+pub item_within : (left : List Item) (distance : ℕ) → distance < length left → item_before left distance ≡ slice_get left (length left - (distance + 1))
+item_within left distance within =
+    ap (λ (b : Bool). if b then slice_get left (length left - (distance + 1)) else None) (lt-ltb distance (length left) within)
 
-pub any_not_found : (content : Content) (seen : List Catch) (store : Ref) (item : Item) (asked : Option ℕ) → asked ≡ place_of item (content store) → asked ≡ None
-    → None ≡ catch_of content seen (IsAny store) item
-any_not_found content seen store item asked is none =
-    let caught : Option ℕ → Option Catch = λ (p : Option ℕ). if is_some p then Some (record { item = Some item; place = p }) else None in
-    ap caught (sym none ∙ is)
+pub item_beyond : (left : List Item) (distance : ℕ) → length left ≤ distance → item_before left distance ≡ None
+item_beyond left distance beyond =
+    ap (λ (b : Bool). if b then slice_get left (length left - (distance + 1)) else None) (le-ltb distance (length left) beyond)
+
+-- so no place of such an item is in a store
+pub place_beyond : (content : Content) (left : List Item) (store distance : ℕ) → length left ≤ distance → None ≡ place_before content left store distance
+place_beyond content left store distance beyond =
+    sym (ap (option_and_then (λ (item : Item). place_of item (content (Numbered store)))) (item_beyond left distance beyond))
 
 -- a list has an element at each place below its length
 there : {X : Type 0} (xs : List X) (n : ℕ) → n < length xs → (x : X) × (slice_get xs n ≡ Some x)
@@ -53,7 +54,8 @@ there (x ∷ xs) (suc n) within = there xs n (omega arith)
 -- the last items begin with the first of them
 one_ahead : (left : List Item) (distance : ℕ) (item : Item) → distance < length left → item_before left distance ≡ Some item
     → drop (length left - (distance + 1)) left ≡ item ∷ drop (length left - distance) left
-one_ahead left distance item within is =
+one_ahead left distance item within given =
+    let is : slice_get left (length left - (distance + 1)) ≡ Some item = sym (item_within left distance within) ∙ given in
     let inside : length left - (distance + 1) < length left = omega (arith, within) in
     let here : get_or left (length left - (distance + 1)) item ≡ item = get_or_from_slice_get left (length left - (distance + 1)) item item is in
     let behind : (length left - (distance + 1)) + 1 ≡ length left - distance = omega (arith, within) in
@@ -111,8 +113,9 @@ module _ (content : Content) (seen : List Catch) (pattern : Pattern) (patterns :
       → catches_from content seen (pattern ∷ patterns) (drop (length left - (distance + 1)) left) ≡ catches_from content (seen ++ catch ∷ []) patterns (drop (length left - distance) left)
   caught_ahead distance catch within is =
       let found = there left (length left - (distance + 1)) (omega (arith, within)) in
-      let caught : Some catch ≡ catch_of content seen pattern found.0 = is ∙ ap (option_and_then (catch_of content seen pattern)) found.1 in
-      first distance found.0 within found.1
+      let here : item_before left distance ≡ Some found.0 = item_within left distance within ∙ found.1 in
+      let caught : Some catch ≡ catch_of content seen pattern found.0 = is ∙ ap (option_and_then (catch_of content seen pattern)) here in
+      first distance found.0 within here
       ∙ if_caught (matches content seen pattern found.0) (one found.0) catch (λ c. rest c (drop (length left - distance) left)) caught
 
   -- or it doesn't, and then nothing is caught
@@ -120,8 +123,9 @@ module _ (content : Content) (seen : List Catch) (pattern : Pattern) (patterns :
       → catches_from content seen (pattern ∷ patterns) (drop (length left - (distance + 1)) left) ≡ None
   uncaught_ahead distance within is =
       let found = there left (length left - (distance + 1)) (omega (arith, within)) in
-      let uncaught : None ≡ catch_of content seen pattern found.0 = is ∙ ap (option_and_then (catch_of content seen pattern)) found.1 in
-      first distance found.0 within found.1
+      let here : item_before left distance ≡ Some found.0 = item_within left distance within ∙ found.1 in
+      let uncaught : None ≡ catch_of content seen pattern found.0 = is ∙ ap (option_and_then (catch_of content seen pattern)) here in
+      first distance found.0 within here
       ∙ if_uncaught (matches content seen pattern found.0) (one found.0) (λ c. rest c (drop (length left - distance) left)) uncaught
 
   -- or there is no item

@@ -2,7 +2,10 @@ pub mod AllowedContexts
 pub mod Candidates
 pub mod Catches
 pub mod Contexts
+pub mod Holders
 pub mod KnownPlaces
 pub mod Lying
+pub mod Marking
 pub mod Remembering
 pub mod StoreContents
+pub mod TakenItems

@@ -3,8 +3,8 @@ use Rattle.std.proofs.Common.{◌≡◌, ◌≢◌, ℕ, zero, suc, ◌<◌, ◌
 use Rattle.std.specs.Prelude.{Option, Some, None}
 use Rattle.std.proofs.lemmas.Bool.{cases_Bool, eqb-true, eq-eqb}
 use Rattle.kmn_base.specs.declared.limits.TheConstants.{STORE_ELEMENTS}
-use Rattle.rule_matching.specs.declared.place_memory.StorePlaces.{StorePlaces}
-use Rattle.rule_matching.specs.PlaceMemory.{said, said_by, known_of, memorable, IsBlank}
+use Rattle.rule_matching.specs.declared.known_places.StorePlaces.{StorePlaces}
+use Rattle.rule_matching.specs.KnownPlaces.{said, said_by, known_of, memorable, IsBlank}
 
 -- a written element is there
 pub written_there : {X : Type 0} (xs : List X) (n : ℕ) (x : X) → n < length xs → slice_get (set xs n x) n ≡ Some x
@@ -27,7 +27,7 @@ each_is_the_one (suc n) zero x y is = cc
 each_is_the_one (suc n) (suc k) x y is = each_is_the_one n k x y is
 
 -- two numbers are the same, or not
-same_or_other : (a b : ℕ) → (a ≡ b) ⊎ (a ≢ b)
+pub same_or_other : (a b : ℕ) → (a ≡ b) ⊎ (a ≢ b)
 same_or_other a b = elim (cases_Bool (eqb a b)) [
   | inl same ↦ inl (eqb-true a b same)
   | inr other ↦ inr (λ (same : a ≡ b). let is : eqb a b ≡ true = eq-eqb a b same in cc)

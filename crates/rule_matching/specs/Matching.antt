@@ -1,31 +1,51 @@
--- What a pattern catches of an item of a list, which is told by how many items stand behind it, and when what is known of the
--- items' places is right. What a context catches where each of its conditions and each `nul` stands.
-use Rattle.std.specs.Prelude.{◌≡◌, ℕ, ◌+◌, ◌-◌, Bool, not, ◌&&◌, ◌||◌, if◌then◌else◌, List, length, Option, Some, None, slice_get, option_and_then}
+-- What a pattern catches of an item of a list, which is told by how many items stand behind it, and by what is kept of it; when
+-- what is known of the items' places and of their stores is right. What a context catches where each of its conditions and each
+-- `nul` stands.
+use Rattle.std.specs.Prelude.{◌≡◌, ℕ, zero, suc, ltb, ◌+◌, ◌-◌, ◌<◌, Bool, true, not, ◌&&◌, ◌||◌, if◌then◌else◌, List, length, Option, Some, None, slice_get, is_some, option_and_then}
 use Rattle.std.specs.List.{list_all}
 use Rattle.kmn_base.specs.declared.items.Item.{Item}
 use Rattle.rule_model.specs.declared.event_state.Catch.{Catch}
-use Rattle.rule_model.specs.Keyboard.{Numbered, Pattern, IsAny, IsNotAny}
+use Rattle.rule_model.specs.declared.tables.Tables.{Tables}
+use Rattle.rule_model.specs.Keyboard.{Numbered, Pattern}
 use Rattle.rule_model.specs.Match.{Content, catches_from, matches, place_for, place_of}
 use Rattle.rule_model.specs.Hold.{is_true, is_at_start}
-use Rattle.rule_matching.specs.PlaceMemory.{Remembered, known_place}
+use Rattle.rule_model.specs.Tab.{elements_of}
+use Rattle.rule_matching.specs.declared.place_memory.PlaceMemory.{PlaceMemory}
+use Rattle.rule_matching.specs.declared.taken.Taken.{Taken}
+use Rattle.rule_matching.specs.KnownPlaces.{known_place}
+use Rattle.rule_matching.specs.Moment.{MomentValue, content_at}
+use Rattle.rule_matching.specs.StoreMarks.{Marking, is_known, is_marked, marked_room}
 
--- the item that so many items stand behind, where there are more than so many
+-- the item that so many items stand behind; None where there are no more than so many
 abbrev pub item_before : List Item → ℕ → Option Item
-item_before left distance = slice_get left (length left - (distance + 1))
+item_before left distance = if ltb distance (length left) then slice_get left (length left - (distance + 1)) else None
 
 -- its first place in what a store has
 abbrev pub place_before : Content → List Item → ℕ → ℕ → Option ℕ
 place_before content left store distance = option_and_then (λ item. place_of item (content (Numbered store))) (item_before left distance)
 
--- whatever place of an item is known is its first
-pub record RemembersRight (content : Content) (left : List Item) (memory : Remembered) : Type 0 where
-  pub right : (store distance : ℕ) (place : Option ℕ) → known_place memory store distance ≡ Some place → place ≡ place_before content left store distance
+-- its first place in a store of the file
+abbrev pub place_in_file : Tables → List Item → ℕ → ℕ → Option ℕ
+place_in_file tables left store distance = option_and_then (λ item. place_of item (elements_of tables.stores store)) (item_before left distance)
 
--- the place of an item in the store of a pattern that looks for it in one
-abbrev pub place_asked : Content → Pattern → Item → Option ℕ
-place_asked content (IsAny store) x = place_of x (content store)
-place_asked content (IsNotAny store) x = place_of x (content store)
-place_asked content pattern x = None
+-- where it is known in which stores an item stands, a store that there is room for is marked if the item stands there
+pub record IsMarkedRight (tables : Tables) (left : List Item) (marking : Marking) : Type 0 where
+  pub right : (store distance : ℕ) → is_known marking distance ≡ true → store < marked_room marking
+      → is_marked marking store distance ≡ is_some (place_in_file tables left store distance)
+
+-- whatever place of an item is known is its first in what the store has at this moment, and the stores are marked right
+pub record RemembersRight (moment : MomentValue) (left : List Item) (memory : PlaceMemory) : Type 0 where
+  pub right : (store distance : ℕ) (place : Option ℕ) → known_place memory.found store distance ≡ Some place → place ≡ place_before (content_at moment) left store distance
+  pub marks : IsMarkedRight moment.tables left memory.marks
+
+-- what was taken at an offset, which counts from 1
+abbrev pub taken_at : List Taken → ℕ → Option Taken
+taken_at taken zero = None
+taken_at taken (suc before) = slice_get taken before
+
+-- what is caught by what an item of a context takes: of an `any` the place of that item in its store
+abbrev pub caught_by_taken : Content → List Item → Taken → Catch
+caught_by_taken content left taken = record { item = taken.item; place = option_and_then (λ store. place_before content left store taken.distance) taken.store }
 
 -- what a pattern catches of an item, where the item stands to it as it asks
 abbrev pub catch_of : Content → List Catch → Pattern → Item → Option Catch

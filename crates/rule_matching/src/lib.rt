@@ -4,19 +4,26 @@
 //! lie, on `rule_index` for what is looked up in the tables, and on `option_store` for the values of options. The layer above
 //! lends a `Moment`, the keyboard with what its stores hold, the last items before the caret, and a `PlaceMemory`: `first_held`
 //! answers the first record of a group that holds then, and what it has caught. A moment is seen as a `MomentValue`, and what
-//! each store has then is `content_at` of it. What the memory knows doesn't matter to the layer above: `first_held` forgets it
-//! first. Memory is taken by `PlaceMemory::new` and by the copy of a `StoreValue` alone.
+//! each store has then is `content_at` of it. The memory knows in which stores of the file the items before the caret stand, a
+//! mark for each store and distance (`specs/StoreMarks`), and the places that were looked for (`specs/KnownPlaces`). What it
+//! knows doesn't matter to the layer above: `first_held` forgets it first. Of each item of a context that is walked over only
+//! what it takes is kept (`Taken`): places are looked up for an `index` and for the record that holds. Memory is taken by
+//! `PlaceMemory::new` and by the copy of a `StoreValue` alone.
 #![tactic(auto)]
 
 mod caught;
 mod contents;
 mod elements;
 mod host_text;
+mod known_places;
+mod marked;
 mod matching;
 mod moment;
 mod place_memory;
 mod places;
+mod store_marks;
 mod store_value;
+mod taken;
 
 pub use caught::{Caught, Found};
 pub use contents::{content, elements_of, saved_of};

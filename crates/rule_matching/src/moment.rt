@@ -1,8 +1,9 @@
-ghost use Rattle.std.specs.Prelude.{◌≡◌, length, slice_get};
+ghost use Rattle.std.specs.Prelude.{◌≡◌, IfSome, length, slice_get};
 ghost use Rattle.option_store.specs.Meaning.{option_values};
 ghost use Rattle.rule_model.specs.Keyboard.{Numbered};
 ghost use Rattle.rule_model.specs.Match.{element_at, place_of, same_value};
 ghost use Rattle.rule_model.specs.Tab.{elements_of, tab};
+ghost use Rattle.rule_index.specs.Holdings.{AreHoldersOf};
 ghost use Rattle.rule_matching.specs.Moment.{content_at};
 
 use crate::contents::{elements_of, held_now};
@@ -10,7 +11,7 @@ use crate::host_text::{element_in_text, place_in_text};
 use crate::store_value::StoreValue;
 use kmn_base::{Element, Item};
 use option_store::{Held, Options};
-use rule_index::IndexedKeyboard;
+use rule_index::{Holding, IndexedKeyboard};
 use std::marker::Model;
 
 /// A keyboard at a moment: the file with what is looked up in it, and what its stores hold.
@@ -46,6 +47,23 @@ impl<'a> Moment<'a> {
         } }
     {
         Moment { indexed, options }
+    }
+
+    /// The store of the file whose elements a store has now, None where it has a text of the host.
+    pub fn held_store(&self, store: u32) -> Option<u32>
+        ensures { IfSome result (λ held. content_at self.now (Numbered store) ≡ elements_of self.now.tables.stores held) }
+    {
+        match held_now(self.indexed, self.options, store) {
+            Held::Store(value) => Some(value),
+            Held::Host => None,
+        }
+    }
+
+    /// The stores of the file that have an item.
+    pub fn holders(&self, item: Item) -> &[Holding]
+        ensures { AreHoldersOf item (elements_of self.now.tables.stores) result.now }
+    {
+        self.indexed.holders(item)
     }
 
     /// The first place of an item in what a store has.

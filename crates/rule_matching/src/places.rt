@@ -1,14 +1,19 @@
-ghost use Rattle.std.specs.Prelude.{◌≡◌, ◌<◌, Some, length, option_and_then};
-ghost use Rattle.rule_model.specs.Tab.{tab_pattern};
-ghost use Rattle.rule_matching.specs.Matching.{item_before, place_asked, place_before, RemembersRight};
+ghost use Rattle.std.specs.Prelude.{◌≡◌, ◌≤◌, ◌<◌, Some, is_some, length, map};
+ghost use Rattle.rule_model.specs.Match.{place_caught};
+ghost use Rattle.rule_matching.specs.Matching.{caught_by_taken, item_before, place_before, RemembersRight};
 ghost use Rattle.rule_matching.specs.Moment.{content_at};
 
+use crate::caught::Found;
+use crate::marked::is_marked;
 use crate::moment::Moment;
 use crate::place_memory::PlaceMemory;
+use crate::taken::{Taken, taken_at};
+use arrayvec::ArrayVec;
 use kmn_base::Item;
-use rule_model::Pat;
+use kmn_base::limits::WINDOW_ITEMS;
 
 /// The item that so many items stand behind.
+#[tactic(auto, using(crate::proofs::KnownPlaces::item_within))]
 pub fn item_before(left: &[Item], distance: usize) -> Item
     requires { distance < length left.now }
     ensures { Some result ≡ item_before left.now distance }
@@ -16,7 +21,9 @@ pub fn item_before(left: &[Item], distance: usize) -> Item
     left[left.len() - (distance + 1)]
 }
 
-/// The first place of that item in what a store has. It is looked for once while the moment and the list stand still.
+/// The first place of that item in what a store has, None where there is no such item. It is looked for once while the moment
+/// and the list stand still.
+#[tactic(auto, using(crate::proofs::KnownPlaces::place_beyond))]
 fn place_before(
     moment: &Moment<'_>,
     left: &[Item],
@@ -24,35 +31,92 @@ fn place_before(
     store: u32,
     places: &mut PlaceMemory,
 ) -> Option<usize>
-    requires within { distance < length left.now }
-    requires right { RemembersRight (content_at moment.now) left.now places.old }
+    requires { RemembersRight moment.now left.now places.old }
     ensures place { result ≡ place_before (content_at moment.now) left.now store distance }
-    ensures right { RemembersRight (content_at moment.now) left.now places.new }
+    ensures right { RemembersRight moment.now left.now places.new }
 {
-    if let Some(place) = places.known(store, distance) {
+    if distance >= left.len() {
+        return None;
+    }
+    if let Some(place) = places.found.known(store, distance) {
         return place;
     }
     let place = moment.place_of(store, item_before(left, distance));
-    places.remember(store, distance, place);
+    places.found.remember(store, distance, place);
     place
 }
 
-/// The place of that item in the store of a pattern that looks for it in one.
-pub fn place_asked(
+/// Whether that item is in what a store has.
+#[tactic(auto, using(crate::proofs::Holders::in_what_is_held))]
+pub fn is_in_store(
     moment: &Moment<'_>,
     left: &[Item],
     distance: usize,
-    pattern: Pat,
+    store: u32,
+    places: &mut PlaceMemory,
+) -> bool
+    requires within { distance < length left.now }
+    requires right { RemembersRight moment.now left.now places.old }
+    ensures value { result ≡ is_some (place_before (content_at moment.now) left.now store distance) }
+    ensures right { RemembersRight moment.now left.now places.new }
+{
+    match moment.held_store(store) {
+        Some(value) if distance < WINDOW_ITEMS && places.marks.has_room(value) => {
+            is_marked(moment, left, distance, value, places)
+        }
+        _ => place_before(moment, left, distance, store, places).is_some(),
+    }
+}
+
+/// The place in its store of what was taken, where an `any` took it.
+fn place_of_taken(
+    moment: &Moment<'_>,
+    left: &[Item],
+    taken: Taken,
     places: &mut PlaceMemory,
 ) -> Option<usize>
-    requires within { distance < length left.now }
-    requires right { RemembersRight (content_at moment.now) left.now places.old }
-    ensures place { result ≡ option_and_then
-        (place_asked (content_at moment.now) (tab_pattern moment.now.tables.stores pattern)) (item_before left.now distance) }
-    ensures right { RemembersRight (content_at moment.now) left.now places.new }
+    requires { RemembersRight moment.now left.now places.old }
+    ensures place { result ≡ (caught_by_taken (content_at moment.now) left.now taken).place }
+    ensures right { RemembersRight moment.now left.now places.new }
 {
-    match pattern {
-        Pat::Any(store) | Pat::NotAny(store) => place_before(moment, left, distance, store, places),
-        _ => None,
+    place_before(moment, left, taken.distance, taken.store?, places)
+}
+
+/// The place in its store of what was taken at an offset, where an `any` took it.
+#[tactic(auto, using(crate::proofs::TakenItems::place_is_caught))]
+pub fn place_taken(
+    moment: &Moment<'_>,
+    left: &[Item],
+    taken: &[Taken],
+    offset: u32,
+    places: &mut PlaceMemory,
+) -> Option<usize>
+    requires { RemembersRight moment.now left.now places.old }
+    ensures place { result ≡ place_caught (map (caught_by_taken (content_at moment.now) left.now) taken.now) offset }
+    ensures right { RemembersRight moment.now left.now places.new }
+{
+    place_of_taken(moment, left, taken_at(taken, offset)?, places)
+}
+
+/// What was found by what was taken: of each `any` the place too.
+pub fn found_of(
+    moment: &Moment<'_>,
+    left: &[Item],
+    taken: &[Taken],
+    places: &mut PlaceMemory,
+) -> ArrayVec<Found, 60>
+    requires few { length taken.now ≤ 60 }
+    requires right { RemembersRight moment.now left.now places.old }
+    ensures found { result.items ≡ map (caught_by_taken (content_at moment.now) left.now) taken.now }
+    ensures right { RemembersRight moment.now left.now places.new }
+{
+    let mut found = ArrayVec::new();
+    for one in taken {
+        let place = place_of_taken(moment, left, *one, places);
+        found.push(Found {
+            item: one.item,
+            place,
+        });
     }
+    found
 }

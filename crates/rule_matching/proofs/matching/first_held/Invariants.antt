@@ -12,7 +12,7 @@ invariant-loop-number l = record {
   within : l.candidates.from ≤ length l.group.rules;
   same : first_from (content_at l.moment) l.left l.press l.moment.tables.stores l.group.using_keys l.group.rules l.candidates.from
       ≡ first_from (content_at l.moment) l.left l.press l.moment.tables.stores l.group.using_keys l.group.rules 0;
-  right : RemembersRight (content_at l.moment) l.left l.places;
+  right : RemembersRight l.moment l.left l.places;
 }
 
 abbrev pub decreases-loop-number : goal.decreases-loop-number

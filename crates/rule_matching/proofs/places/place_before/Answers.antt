@@ -1,4 +1,4 @@
-use Rattle.std.proofs.Common.{◌≡◌, ◌∙◌, ap}
+use Rattle.std.proofs.Common.{◌≡◌, ◌∙◌, ap, refl}
 use Rattle.std.specs.Prelude.{option_and_then}
 use Rattle.kmn_base.specs.declared.items.Item.{Item}
 use Rattle.rule_model.specs.Keyboard.{Numbered}
@@ -13,5 +13,5 @@ returns-clause-right c =
     let found : c.place_of-place.result ≡ place_before (content_at c.args.moment.now) c.args.left.now c.args.store c.args.distance
     = c.place_of-place.ensures
     ∙ ap (option_and_then (λ (item : Item). place_of item (content_at c.args.moment.now (Numbered c.args.store)))) c.item_before.ensures in
-    still_right (content_at c.args.moment.now) c.args.left.now c.args.store c.args.distance c.place_of-place.result c.args.places.now c.remember.new.self
-    c.remember.ensures.only found c.requires.right
+    still_right c.args.moment.now c.args.left.now c.args.store c.args.distance c.place_of-place.result c.args.places.now _
+    c.remember.ensures.only refl found c.requires

@@ -1,0 +1,5 @@
+use Rattle.std.proofs.Common.{◌≡◌, ◌++◌}
+use Rattle.rule_index.proofs.indexed_keyboard.copied.Given as goal
+
+abbrev pub invariant-loop-element : goal.invariant-loop-element
+invariant-loop-element l = l.copied ++ l.element-iterator ≡ l.fn.elements

@@ -1,0 +1,100 @@
+-- What is caught by what the items of a context take, item by item.
+use Rattle.std.proofs.Common.{◌≡◌, ℕ, zero, suc, ◌+◌, ◌-◌, ◌<◌, ◌≤◌, Bool, true, List, [], ◌∷◌, ◌++◌, length, drop, get_or, map, Option, Some, None, refl, sym, ◌∙◌, ap, inl, inr, arith}
+use Rattle.std.specs.Prelude.{if◌then◌else◌, nat_eq, option_and_then, option_map}
+use Rattle.std.proofs.lemmas.Bool.{cases_Bool, eqb-true, eqb-false}
+use Rattle.std.proofs.lemmas.List.{drop_all, drop_more, map-append}
+use Rattle.std.proofs.lemmas.Option.{slice_get-map}
+use Rattle.kmn_base.specs.declared.items.Item.{Item}
+use Rattle.rule_model.specs.declared.event_state.Catch.{Catch}
+use Rattle.rule_model.specs.declared.tables.Pat.{Pat}
+use Rattle.rule_model.specs.declared.tables.Pat.TheVariants.{Char}
+use Rattle.rule_model.specs.declared.tables.Store.{Store}
+use Rattle.rule_model.specs.Keyboard.{Pattern}
+use Rattle.rule_model.specs.Match.{Content, catch_at, place_caught, takes_item}
+use Rattle.rule_model.specs.Tab.{tab_pattern}
+use Rattle.rule_matching.specs.declared.taken.Taken.{Taken}
+use Rattle.rule_matching.specs.Matching.{allowed_catches, catch_of, caught_by_taken, item_before, taken_at}
+use Rattle.rule_matching.proofs.AllowedContexts.{allowed_catches_none, allowed_with_item}
+use Rattle.rule_matching.proofs.KnownPlaces.{caught_ahead, some_ahead, takes_same, uncaught_ahead}
+
+module _ (content : Content) (left : List Item) where
+  abbrev caught : Taken → Catch
+  caught = caught_by_taken content left
+
+  -- what is caught at an offset is what is caught by what was taken there
+  caught_at : (taken : List Taken) (offset : ℕ) → catch_at (map caught taken) offset ≡ option_map caught (taken_at taken offset)
+  caught_at taken zero = refl
+  caught_at taken (suc before) = slice_get-map caught taken before
+
+  place_of_one : (one : Option Taken) → option_and_then (λ (catch : Catch). catch.place) (option_map caught one) ≡ option_and_then (λ (t : Taken). (caught t).place) one
+  place_of_one None = refl
+  place_of_one (Some one) = refl
+
+  -- so is its place
+  pub place_is_caught : (taken : List Taken) (offset : ℕ)
+      → option_and_then (λ (t : Taken). (caught t).place) (taken_at taken offset) ≡ place_caught (map caught taken) offset
+  place_is_caught taken offset =
+      sym (ap (option_and_then (λ (catch : Catch). catch.place)) (caught_at taken offset) ∙ place_of_one (taken_at taken offset))
+
+  module _ (whole : Bool) (stores : List Store) (context : List Pat) (index ahead : ℕ) (taken : List Taken) (all : Option (List Catch))
+      (few : ahead ≤ length left)
+      (same : allowed_catches content whole (map caught taken) (map (tab_pattern stores) (drop index context)) (drop (length left - ahead) left) ≡ all) where
+    abbrev here : Pattern
+    here = tab_pattern stores (get_or context index (Char 0))
+
+    abbrev behind : List Pattern
+    behind = map (tab_pattern stores) (drop (index + 1) context)
+
+    -- what a pattern catches of the next item
+    abbrev next : Option Catch
+    next = option_and_then (catch_of content (map caught taken) here) (item_before left (ahead - 1))
+
+    -- the pattern and those behind it catch what all do
+    from_here : index < length context → 0 < ahead → allowed_catches content whole (map caught taken) (here ∷ behind) (drop (length left - (ahead - 1 + 1)) left) ≡ all
+    from_here within some =
+        let one : ahead - 1 + 1 ≡ ahead = omega (arith, some) in
+        ap (λ (n : ℕ). allowed_catches content whole (map caught taken) (here ∷ behind) (drop (length left - n) left)) one
+        ∙ (ap (λ (patterns : List Pat). allowed_catches content whole (map caught taken) (map (tab_pattern stores) patterns) (drop (length left - ahead) left))
+        (sym (drop_more context index (Char 0) within))
+        ∙ same)
+
+    -- where the pattern takes an item, the others catch it behind that
+    pub one_is_taken : index < length context → 0 < ahead → true ≡ takes_item (tab_pattern [] (get_or context index (Char 0)))
+        → (one : Taken) (more : List Taken) → Some (caught one) ≡ next → more ≡ taken ++ one ∷ []
+        → allowed_catches content whole (map caught more) behind (drop (length left - (ahead - 1)) left) ≡ all
+    one_is_taken within some takes one more is grown =
+        let item : takes_item here ≡ true = takes_same stores (get_or context index (Char 0)) ∙ sym takes in
+        let inside : ahead - 1 < length left = omega (arith, some, few) in
+        ap (λ (seen : List Catch). allowed_catches content whole seen behind (drop (length left - (ahead - 1)) left))
+        (ap (map caught) grown ∙ map-append caught taken (one ∷ []))
+        ∙ (sym (allowed_with_item content whole (map caught taken) here behind (drop (length left - (ahead - 1 + 1)) left) item (caught one) (drop (length left - (ahead - 1)) left)
+        (caught_ahead content (map caught taken) here behind left item (ahead - 1) (caught one) inside is))
+        ∙ from_here within some)
+
+    -- where it takes none, nothing is caught
+    pub none_is_taken : index < length context → 0 < ahead → true ≡ takes_item (tab_pattern [] (get_or context index (Char 0))) → None ≡ next → None ≡ all
+    none_is_taken within some takes is =
+        let item : takes_item here ≡ true = takes_same stores (get_or context index (Char 0)) ∙ sym takes in
+        let inside : ahead - 1 < length left = omega (arith, some, few) in
+        sym (allowed_catches_none content whole (map caught taken) (here ∷ behind) (drop (length left - (ahead - 1 + 1)) left)
+        (uncaught_ahead content (map caught taken) here behind left item (ahead - 1) inside is))
+        ∙ from_here within some
+
+    -- behind the last pattern all is caught where no item is left
+    pub all_is_taken : length context ≤ index → (if nat_eq ahead 0 then Some (map caught taken) else None) ≡ all
+    all_is_taken beyond =
+        let text : ℕ → List Item = λ (n : ℕ). drop (length left - n) left in
+        let last : allowed_catches content whole (map caught taken) [] (text ahead) ≡ all
+        = ap (λ (patterns : List Pat). allowed_catches content whole (map caught taken) (map (tab_pattern stores) patterns) (text ahead)) (sym (drop_all index context beyond))
+        ∙ same in
+        elim (cases_Bool (nat_eq ahead 0)) [
+          | inl ended ↦
+              let none : ahead ≡ 0 = eqb-true ahead 0 ended in
+              let empty : text ahead ≡ [] = ap text none ∙ drop_all (length left - 0) left (omega arith) in
+              ap (λ (b : Bool). if b then Some (map caught taken) else None) ended
+              ∙ (ap (allowed_catches content whole (map caught taken) []) (sym empty) ∙ last)
+          | inr left_over ↦
+              let more : 0 < ahead = (let other = eqb-false ahead 0 left_over in omega arith) in
+              ap (λ (b : Bool). if b then Some (map caught taken) else None) left_over
+              ∙ (sym (some_ahead content (map caught taken) left ahead more few) ∙ last)
+        ]

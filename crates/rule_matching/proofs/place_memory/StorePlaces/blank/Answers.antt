@@ -1,5 +1,0 @@
-use Rattle.rule_matching.proofs.Remembering.{zeros_say_nothing}
-use Rattle.rule_matching.proofs.place_memory.StorePlaces.blank.Goals as goal
-
-pub returns-clause-blank : goal.returns-clause-blank
-returns-clause-blank c = zeros_say_nothing 64

@@ -1,0 +1,144 @@
+ghost use Rattle.std.specs.Prelude.{◌≡◌, ◌≢◌, ◌⊎◌, ◌≤◌, ◌<◌, ℕ, Option, IfOk};
+ghost use Rattle.kmn_base.specs.declared.limits.TheConstants.{STORES, WINDOW_ITEMS};
+ghost use Rattle.rule_matching.specs.KnownPlaces.{known_place, room, memorable, said, known_of, IsBlank};
+
+use kmn_base::Memory;
+use kmn_base::limits::{STORE_ELEMENTS, WINDOW_ITEMS};
+use std::alloc::Global;
+use std::marker::Model;
+
+/// What is known of one store: the choice at which it was last asked for, and a cell for each distance from the caret: 0
+/// says nothing, 1 that the item has no place, and `place + 2` its place.
+#[derive(Clone, Copy, Drop)]
+pub struct StorePlaces {
+    asked: u64,
+    cells: [u32; 64],
+}
+
+impl StorePlaces {
+    /// Nothing is known of the store at a choice.
+    fn blank(choice: u64) -> StorePlaces
+        ensures asked { result.asked ≡ choice }
+        ensures blank { IsBlank result }
+    {
+        StorePlaces {
+            asked: choice,
+            cells: [0; 64],
+        }
+    }
+
+    /// What was known at another choice is forgotten.
+    #[tactic(auto, using(crate::proofs::Remembering::blank_is_unknown, crate::proofs::Remembering::other_choice_is_unknown))]
+    fn ask(&mut self, choice: u64)
+        ensures asked { self.new.asked ≡ choice }
+        ensures kept { (d : ℕ) → known_of choice (Some self.new) d ≡ known_of choice (Some self.old) d }
+    {
+        if self.asked == choice {
+            return;
+        }
+        *self = StorePlaces::blank(choice);
+    }
+
+    /// Writes the cell of a distance at a choice.
+    fn write(&mut self, choice: u64, distance: usize, cell: u32)
+        requires { distance < WINDOW_ITEMS }
+        ensures asked { self.new.asked ≡ choice }
+        ensures written { known_of choice (Some self.new) distance ≡ said cell }
+        ensures others { (d : ℕ) → d ≢ distance → known_of choice (Some self.new) d ≡ known_of choice (Some self.old) d }
+    {
+        self.ask(choice);
+        self.cells[distance] = cell;
+    }
+}
+
+/// The cell that says a place, where it can be remembered.
+fn cell_of(place: Option<usize>) -> u32
+    ensures { said result ≡ memorable place }
+{
+    match place {
+        None => 1,
+        Some(place) if place < STORE_ELEMENTS => place as u32 + 2,
+        Some(_) => 0,
+    }
+}
+
+/// What is known of the items of a window: for a store and an item's distance from the caret, the first place of that item
+/// in what the store has. A choice is the time while the window and the stores stand still; nothing is known beyond it.
+#[derive(Drop)]
+pub struct KnownPlaces {
+    choice: u64,
+    stores: Vec<StorePlaces>,
+}
+
+impl Model for KnownPlaces {
+    ghost use Rattle.rule_matching.specs.KnownPlaces.{Remembered, AreAskedUntil};
+
+    ghost Value = { Remembered };
+
+    ghost view = { λ memory. record { choice = memory.choice; stores = memory.stores.items } };
+
+    ghost invariant = { λ memory. AreAskedUntil memory.choice memory.stores.items };
+}
+
+impl KnownPlaces {
+    /// Room for so many stores, of which nothing is known.
+    pub fn new(alloc: Global, stores: usize) -> Result<KnownPlaces, Memory>
+        requires { stores ≤ STORES }
+        ensures unknown { IfOk result (λ memory. (store distance : ℕ) → known_place memory store distance ≡ None) }
+        ensures room { IfOk result (λ memory. room memory ≡ stores) }
+    {
+        Ok(KnownPlaces {
+            choice: 0,
+            stores: vec![in alloc; StorePlaces::blank(0); stores]?,
+        })
+    }
+
+    /// Room for no store, without any memory.
+    pub fn without_room(alloc: Global) -> KnownPlaces
+        ensures { (store distance : ℕ) → known_place result store distance ≡ None }
+    {
+        KnownPlaces {
+            choice: 0,
+            stores: Vec::new(alloc),
+        }
+    }
+
+    /// Begins another choice, of which nothing is known.
+    pub fn forget(&mut self)
+        ensures { (store distance : ℕ) → known_place self.new store distance ≡ None }
+    {
+        match self.choice.checked_add(1) {
+            Some(choice) => self.choice = choice,
+            None => self.stores.clear(),
+        }
+    }
+
+    /// What is known of the place in a store of the item at a distance from the caret: nothing, that it has none, or its place.
+    pub fn known(&self, store: u32, distance: usize) -> Option<Option<usize>>
+        ensures { result ≡ known_place self.now store distance }
+    {
+        let places = self.stores.get(store as usize)?;
+        if places.asked != self.choice {
+            return None;
+        }
+        match *places.cells.get(distance)? {
+            0 => None,
+            1 => Some(None),
+            cell => Some(Some(cell as usize - 2)),
+        }
+    }
+
+    /// The place in a store of the item at a distance from the caret, or that it has none, is known until the next choice, where
+    /// there is room for it.
+    pub fn remember(&mut self, store: u32, distance: usize, place: Option<usize>)
+        ensures only { (s d : ℕ) (p : Option ℕ) → known_place self.new s d ≡ Some p
+            → (known_place self.old s d ≡ Some p) ⊎ ((s ≡ store) × (d ≡ distance) × (p ≡ place)) }
+        ensures known { store < room self.old → distance < WINDOW_ITEMS → known_place self.new store distance ≡ memorable place }
+        ensures room { room self.new ≡ room self.old }
+    {
+        let store = store as usize;
+        if store < self.stores.len() && distance < WINDOW_ITEMS {
+            self.stores[store].write(self.choice, distance, cell_of(place));
+        }
+    }
+}

@@ -1,0 +1,44 @@
+ghost use Rattle.std.specs.Prelude.{◌≡◌, ◌<◌, true, length, is_some};
+ghost use Rattle.kmn_base.specs.declared.limits.TheConstants.{WINDOW_ITEMS};
+ghost use Rattle.rule_matching.specs.Matching.{place_in_file, IsMarkedRight, RemembersRight};
+ghost use Rattle.rule_matching.specs.StoreMarks.{is_known, marked_room};
+
+use crate::moment::Moment;
+use crate::place_memory::PlaceMemory;
+use crate::places::item_before;
+use crate::store_marks::StoreMarks;
+use kmn_base::Item;
+
+/// Marks the stores of the file that have the item which so many items stand behind, once while the list stands still.
+fn mark_distance(moment: &Moment<'_>, left: &[Item], distance: usize, marks: &mut StoreMarks)
+    requires within { distance < length left.now }
+    requires near { distance < WINDOW_ITEMS }
+    requires right { IsMarkedRight moment.now.tables left.now marks.old }
+    ensures known { is_known marks.new distance ≡ true }
+    ensures room { marked_room marks.new ≡ marked_room marks.old }
+    ensures right { IsMarkedRight moment.now.tables left.now marks.new }
+{
+    if marks.is_known(distance) {
+        return;
+    }
+    marks.mark(distance, moment.holders(item_before(left, distance)));
+}
+
+/// Whether that item is in a store of the file that there are marks of.
+pub fn is_marked(
+    moment: &Moment<'_>,
+    left: &[Item],
+    distance: usize,
+    store: u32,
+    places: &mut PlaceMemory,
+) -> bool
+    requires within { distance < length left.now }
+    requires near { distance < WINDOW_ITEMS }
+    requires room { store < marked_room places.old.marks }
+    requires right { RemembersRight moment.now left.now places.old }
+    ensures value { result ≡ is_some (place_in_file moment.now.tables left.now store distance) }
+    ensures right { RemembersRight moment.now left.now places.new }
+{
+    mark_distance(moment, left, distance, &mut places.marks);
+    places.marks.is_marked(store, distance)
+}

@@ -1,0 +1,189 @@
+ghost use Rattle.std.specs.Prelude.{◌≡◌, ◌≢◌, ◌⊎◌, ◌≤◌, ◌<◌, ◌||◌, ℕ, true, false, length, IfOk, nat_lt};
+ghost use Rattle.kmn_base.specs.declared.limits.TheConstants.{STORES, WINDOW_ITEMS};
+ghost use Rattle.rule_matching.specs.StoreMarks.{has_distance, has_holder, is_known, is_marked, is_marked_among, is_marked_by, marked_room, AreMarkedUntil};
+
+use kmn_base::Memory;
+use kmn_base::limits::WINDOW_ITEMS;
+use rule_index::Holding;
+use std::alloc::Global;
+use std::marker::Model;
+
+/// The marks of one store: the choice at which they were last set, and a bit for each distance from the caret.
+#[derive(Clone, Copy, Drop)]
+pub struct Marks {
+    choice: u64,
+    distances: u64,
+}
+
+/// Whether a word has the bit of a distance.
+#[tactic(auto, using(crate::proofs::Marking::has_no_bit))]
+fn has_distance(distances: u64, distance: usize) -> bool
+    ensures { result ≡ has_distance distances distance }
+{
+    distance < WINDOW_ITEMS && (distances >> distance) & 1 == 1
+}
+
+/// A word with the bit of a distance too.
+fn with_distance(distances: u64, distance: usize) -> u64
+    requires { distance < WINDOW_ITEMS }
+    ensures set { has_distance result distance ≡ true }
+    ensures others { (d : ℕ) → d ≢ distance → has_distance result d ≡ has_distance distances d }
+{
+    distances | (1u64 << distance)
+}
+
+impl Marks {
+    /// No mark at a choice.
+    fn none(choice: u64) -> Marks
+        ensures { result ≡ record { choice = choice; distances = 0 } }
+    {
+        Marks {
+            choice,
+            distances: 0,
+        }
+    }
+
+    /// The marks of another choice are gone.
+    #[tactic(auto, using(crate::proofs::Marking::no_marks, crate::proofs::Marking::other_choice))]
+    fn renew(&mut self, choice: u64)
+        ensures choice { self.new.choice ≡ choice }
+        ensures kept { (d : ℕ) → is_marked_by choice (Some self.new) d ≡ is_marked_by choice (Some self.old) d }
+    {
+        if self.choice == choice {
+            return;
+        }
+        *self = Marks::none(choice);
+    }
+
+    /// Sets the mark of a distance at a choice.
+    fn set(&mut self, choice: u64, distance: usize)
+        requires { distance < WINDOW_ITEMS }
+        ensures choice { self.new.choice ≡ choice }
+        ensures set { is_marked_by choice (Some self.new) distance ≡ true }
+        ensures others { (d : ℕ) → d ≢ distance → is_marked_by choice (Some self.new) d ≡ is_marked_by choice (Some self.old) d }
+    {
+        self.renew(choice);
+        self.distances = with_distance(self.distances, distance);
+    }
+}
+
+/// Marks a store, where there are marks of it.
+fn mark_store(marks: &mut [Marks], choice: u64, distance: usize, store: usize)
+    requires { distance < WINDOW_ITEMS }
+    ensures set { store < length marks.old → is_marked_among choice marks.new store distance ≡ true }
+    ensures others { (s d : ℕ) → (s ≢ store) ⊎ (d ≢ distance) → is_marked_among choice marks.new s d ≡ is_marked_among choice marks.old s d }
+    ensures until { AreMarkedUntil choice marks.old → AreMarkedUntil choice marks.new }
+{
+    if store < marks.len() {
+        marks[store].set(choice, distance);
+    }
+}
+
+/// Marks each store that has an item.
+fn mark_holders(marks: &mut [Marks], choice: u64, distance: usize, holders: &[Holding])
+    requires { distance < WINDOW_ITEMS }
+    ensures set { (s : ℕ) → s < length marks.old → is_marked_among choice marks.new s distance
+        ≡ (is_marked_among choice marks.old s distance || has_holder holders.now s) }
+    ensures others { (s d : ℕ) → d ≢ distance → is_marked_among choice marks.new s d ≡ is_marked_among choice marks.old s d }
+    ensures until { AreMarkedUntil choice marks.old → AreMarkedUntil choice marks.new }
+{
+    for holding in holders {
+        mark_store(marks, choice, distance, holding.store as usize);
+    }
+}
+
+/// In which stores the items before the caret stand, by their distance from it. A choice is the time while the window stands
+/// still; nothing is known beyond it.
+#[derive(Drop)]
+pub struct StoreMarks {
+    choice: u64,
+    known: u64,
+    marks: Vec<Marks>,
+}
+
+impl Model for StoreMarks {
+    ghost use Rattle.rule_matching.specs.StoreMarks.{Marking, IsMarking};
+
+    ghost Value = { Marking };
+
+    ghost view = { λ marks. record { choice = marks.choice; known = marks.known; marks = marks.marks.items } };
+
+    ghost invariant = { λ marks. IsMarking (record { choice = marks.choice; known = marks.known; marks = marks.marks.items }) };
+}
+
+impl StoreMarks {
+    /// Room for so many stores, of which nothing is known.
+    pub fn new(alloc: Global, stores: usize) -> Result<StoreMarks, Memory>
+        requires { stores ≤ STORES }
+        ensures unknown { IfOk result (λ marks. (distance : ℕ) → is_known marks distance ≡ false) }
+        ensures room { IfOk result (λ marks. marked_room marks ≡ stores) }
+    {
+        Ok(StoreMarks {
+            choice: 0,
+            known: 0,
+            marks: vec![in alloc; Marks::none(0); stores]?,
+        })
+    }
+
+    /// Room for no store, without any memory.
+    pub fn without_room(alloc: Global) -> StoreMarks
+        ensures { (distance : ℕ) → is_known result distance ≡ false }
+    {
+        StoreMarks {
+            choice: 0,
+            known: 0,
+            marks: Vec::new(alloc),
+        }
+    }
+
+    /// Begins another choice, of which nothing is known.
+    pub fn forget(&mut self)
+        ensures { (distance : ℕ) → is_known self.new distance ≡ false }
+    {
+        self.known = 0;
+        match self.choice.checked_add(1) {
+            Some(choice) => self.choice = choice,
+            None => self.marks.clear(),
+        }
+    }
+
+    /// Whether there are marks of a store.
+    pub fn has_room(&self, store: u32) -> bool
+        ensures { result ≡ nat_lt store (marked_room self.now) }
+    {
+        (store as usize) < self.marks.len()
+    }
+
+    /// Whether it is known in which stores the item at a distance stands.
+    pub fn is_known(&self, distance: usize) -> bool
+        ensures { result ≡ is_known self.now distance }
+    {
+        has_distance(self.known, distance)
+    }
+
+    /// Whether a store is marked as one in which the item at a distance stands.
+    pub fn is_marked(&self, store: u32, distance: usize) -> bool
+        ensures { result ≡ is_marked self.now store distance }
+    {
+        match self.marks.get(store as usize) {
+            Some(marks) => {
+                marks.choice == self.choice && has_distance(marks.distances, distance)
+            }
+            None => false,
+        }
+    }
+
+    /// Marks each store that has the item at a distance, which wasn't known so far.
+    pub fn mark(&mut self, distance: usize, holders: &[Holding])
+        requires within { distance < WINDOW_ITEMS }
+        requires unknown { is_known self.old distance ≡ false }
+        ensures known { is_known self.new distance ≡ true }
+        ensures others_known { (d : ℕ) → d ≢ distance → is_known self.new d ≡ is_known self.old d }
+        ensures marked { (store : ℕ) → store < marked_room self.old → is_marked self.new store distance ≡ has_holder holders.now store }
+        ensures others_marked { (store d : ℕ) → d ≢ distance → is_marked self.new store d ≡ is_marked self.old store d }
+        ensures room { marked_room self.new ≡ marked_room self.old }
+    {
+        mark_holders(self.marks.as_mut_slice(), self.choice, distance, holders);
+        self.known = with_distance(self.known, distance);
+    }
+}
