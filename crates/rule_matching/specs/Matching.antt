@@ -1,10 +1,11 @@
 -- What a pattern catches of an item of a list, which is told by how many items stand behind it, and by what is kept of it; when
 -- what is known of the items' places and of their stores is right. What a context catches where each of its conditions and each
 -- `nul` stands.
-use Rattle.std.specs.Prelude.{◌≡◌, ℕ, zero, suc, ltb, ◌+◌, ◌-◌, ◌<◌, Bool, true, not, ◌&&◌, ◌||◌, if◌then◌else◌, List, length, Option, Some, None, slice_get, is_some, option_and_then}
+use Rattle.std.specs.Prelude.{◌≡◌, ℕ, zero, suc, ltb, ◌+◌, ◌-◌, ◌<◌, Bool, true, not, ◌&&◌, ◌||◌, if◌then◌else◌, List, length, map, Option, Some, None, slice_get, is_some, option_and_then}
 use Rattle.std.specs.List.{list_all}
 use Rattle.kmn_base.specs.declared.items.Item.{Item}
 use Rattle.rule_model.specs.declared.event_state.Catch.{Catch}
+use Rattle.rule_model.specs.declared.event_state.Caught.{Caught}
 use Rattle.rule_model.specs.declared.tables.Tables.{Tables}
 use Rattle.rule_model.specs.Keyboard.{Numbered, Pattern}
 use Rattle.rule_model.specs.Match.{Content, catches_from, matches, place_for, place_of}
@@ -46,6 +47,10 @@ taken_at taken (suc before) = slice_get taken before
 -- what is caught by what an item of a context takes: of an `any` the place of that item in its store
 abbrev pub caught_by_taken : Content → List Item → Taken → Catch
 caught_by_taken content left taken = record { item = taken.item; place = option_and_then (λ store. place_before content left store taken.distance) taken.store }
+
+-- what a record has caught by what the items of its context take
+abbrev pub caught_by_all : Content → List Item → List Taken → Caught
+caught_by_all content left taken = record { catches = map (caught_by_taken content left) taken; key_place = None }
 
 -- what a pattern catches of an item, where the item stands to it as it asks
 abbrev pub catch_of : Content → List Catch → Pattern → Item → Option Catch

@@ -10,6 +10,7 @@ use crate::store_marks::StoreMarks;
 use kmn_base::Item;
 
 /// Marks the stores of the file that have the item which so many items stand behind, once while the list stands still.
+#[inline(always)]
 fn mark_distance(moment: &Moment<'_>, left: &[Item], distance: usize, marks: &mut StoreMarks)
     requires within { distance < length left.now }
     requires near { distance < WINDOW_ITEMS }
@@ -25,6 +26,7 @@ fn mark_distance(moment: &Moment<'_>, left: &[Item], distance: usize, marks: &mu
 }
 
 /// Whether that item is in a store of the file that there are marks of.
+#[inline(always)]
 pub fn is_marked(
     moment: &Moment<'_>,
     left: &[Item],

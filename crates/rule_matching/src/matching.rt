@@ -5,7 +5,7 @@ ghost use Rattle.rule_model.specs.Hold.{pattern_count, holds};
 ghost use Rattle.rule_model.specs.Choose.{first};
 ghost use Rattle.rule_model.specs.Tab.{tab_pattern, tab_rule};
 ghost use Rattle.rule_index.specs.Groups.{IsRuleIndexOf};
-ghost use Rattle.rule_matching.specs.Matching.{allowed_catches, catch_of, caught_by_taken, is_allowed, item_before, RemembersRight};
+ghost use Rattle.rule_matching.specs.Matching.{allowed_catches, catch_of, caught_by_all, caught_by_taken, is_allowed, item_before, RemembersRight};
 ghost use Rattle.rule_matching.specs.Moment.{content_at, held_record, AreShort};
 
 use crate::caught::Caught;
@@ -146,7 +146,7 @@ fn key_of(using_keys: bool, rule: &FileRule<'_>) -> RuleKey
     if using_keys { rule.key() } else { RuleKey::Any }
 }
 
-/// What a record, whose context takes so many items, has caught where it holds on a list at a moment.
+/// Whether a record, whose context takes so many items, holds on a list at a moment. Then this is what its items take.
 #[tactic(auto, using(crate::proofs::AllowedContexts::unfitting_holds_not, crate::proofs::AllowedContexts::short_holds_not))]
 fn holds(
     moment: &Moment<'_>,
@@ -158,24 +158,22 @@ fn holds(
     left: &[Item],
     places: &mut PlaceMemory,
     taken: &mut ArrayVec<Taken, 60>,
-) -> Option<Caught>
+) -> bool
     requires short { length rule.now.context ≤ CONTEXT_ITEMS }
     requires context { context.now ≡ rule.now.context }
     requires count { count ≡ pattern_count (map (tab_pattern []) rule.now.context) }
     requires right { RemembersRight moment.now left.now places.old }
-    ensures holds { result ≡ holds (content_at moment.now) left.now press (tab_rule moment.now.tables.stores using_keys rule.now) }
+    ensures holds { (if result then Some (caught_by_all (content_at moment.now) left.now taken.new.items) else None)
+        ≡ holds (content_at moment.now) left.now press (tab_rule moment.now.tables.stores using_keys rule.now) }
     ensures right { RemembersRight moment.now left.now places.new }
 {
     if !fits(key_of(using_keys, rule), press) || left.len() < count {
-        return None;
+        return false;
     }
-    if !takes_context(moment, context, left, count, places, taken) {
-        return None;
-    }
-    Some(Caught::of(found_of(moment, left, taken.as_slice(), places)))
+    takes_context(moment, context, left, count, places, taken)
 }
 
-/// The record of a number with what it has caught, where there is one that holds on a list at a moment.
+/// The record of a number, where there is one that holds on a list at a moment. Then this is what its items take.
 #[tactic(auto, using(crate::proofs::Contexts::short_in_rules, rule_index::proofs::ContextCounts::context_found, rule_index::proofs::ContextCounts::count_found))]
 fn held_record<'g>(
     moment: &Moment<'_>,
@@ -186,29 +184,25 @@ fn held_record<'g>(
     left: &[Item],
     places: &mut PlaceMemory,
     taken: &mut ArrayVec<Taken, 60>,
-) -> Option<(FileRule<'g>, Caught)>
+) -> Option<FileRule<'g>>
     requires short { AreShort group.now.rules }
     requires index { IsRuleIndexOf group.now records.now }
     requires right { RemembersRight moment.now left.now places.old }
-    ensures held { option_map (λ c. (tab_rule moment.now.tables.stores group.now.using_keys c.0, c.1)) result ≡ held_record
-        (content_at moment.now) left.now press (option_map (tab_rule moment.now.tables.stores group.now.using_keys) (slice_get group.now.rules number)) }
+    ensures held { option_map (λ rule. (tab_rule moment.now.tables.stores group.now.using_keys rule, caught_by_all (content_at moment.now) left.now taken.new.items)) result
+        ≡ held_record (content_at moment.now) left.now press (option_map (tab_rule moment.now.tables.stores group.now.using_keys) (slice_get group.now.rules number)) }
     ensures right { RemembersRight moment.now left.now places.new }
 {
     let rule = group.rule(number)?;
     let context = records.context(number);
     let count = records.pattern_count(number);
-    let caught = holds(
-        moment,
-        press,
-        group.using_keys(),
-        &rule,
-        context,
-        count,
-        left,
-        places,
-        taken,
-    )?;
-    Some((rule, caught))
+    let using_keys = group.using_keys();
+    if holds(
+        moment, press, using_keys, &rule, context, count, left, places, taken,
+    ) {
+        Some(rule)
+    } else {
+        None
+    }
 }
 
 /// The first record of a group that holds on a list at a moment, and what it has caught. Only those are tried that their
@@ -230,10 +224,11 @@ pub fn first_held<'g>(
     let mut taken = ArrayVec::new();
     let mut candidates = records.candidates(&wanted_classes(press, left));
     while let Some(number) = candidates.next() {
-        if let Some(chosen) = held_record(
+        if let Some(rule) = held_record(
             moment, press, group, records, number, left, places, &mut taken,
         ) {
-            return Some(chosen);
+            let found = found_of(moment, left, taken.as_slice(), places);
+            return Some((rule, Caught::of(found)));
         }
     }
     None

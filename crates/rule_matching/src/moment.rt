@@ -50,6 +50,7 @@ impl<'a> Moment<'a> {
     }
 
     /// The store of the file whose elements a store has now, None where it has a text of the host.
+    #[inline(always)]
     pub fn held_store(&self, store: u32) -> Option<u32>
         ensures { IfSome result (λ held. content_at self.now (Numbered store) ≡ elements_of self.now.tables.stores held) }
     {
@@ -60,6 +61,7 @@ impl<'a> Moment<'a> {
     }
 
     /// The stores of the file that have an item.
+    #[inline(never)]
     pub fn holders(&self, item: Item) -> &[Holding]
         ensures { AreHoldersOf item (elements_of self.now.tables.stores) result.now }
     {

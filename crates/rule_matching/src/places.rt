@@ -23,6 +23,7 @@ pub fn item_before(left: &[Item], distance: usize) -> Item
 
 /// The first place of that item in what a store has, None where there is no such item. It is looked for once while the moment
 /// and the list stand still.
+#[inline(never)]
 #[tactic(auto, using(crate::proofs::KnownPlaces::place_beyond))]
 fn place_before(
     moment: &Moment<'_>,
@@ -47,6 +48,7 @@ fn place_before(
 }
 
 /// Whether that item is in what a store has.
+#[inline(always)]
 #[tactic(auto, using(crate::proofs::Holders::in_what_is_held))]
 pub fn is_in_store(
     moment: &Moment<'_>,

@@ -174,6 +174,7 @@ impl StoreMarks {
     }
 
     /// Marks each store that has the item at a distance, which wasn't known so far.
+    #[inline(never)]
     pub fn mark(&mut self, distance: usize, holders: &[Holding])
         requires within { distance < WINDOW_ITEMS }
         requires unknown { is_known self.old distance ≡ false }

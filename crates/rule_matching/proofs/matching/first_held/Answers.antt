@@ -1,7 +1,14 @@
-use Rattle.std.proofs.Common.{◌≡◌, ◌+◌, ◌-◌, ◌<◌, ◌≤◌, Some, None, length, sym, ◌∙◌, ap, arith}
+use Rattle.std.proofs.Common.{◌≡◌, ◌+◌, ◌-◌, ◌<◌, ◌≤◌, List, map, Option, Some, None, length, sym, ◌∙◌, ap, arith}
 use Rattle.rule_index.specs.Classes.{wanted_classes}
 use Rattle.rule_index.specs.Next.{IsNext}
 use Rattle.rule_index.specs.Walk.{CandidatesValue}
+use Rattle.rule_model.specs.declared.event_state.Catch.{Catch}
+use Rattle.rule_model.specs.declared.event_state.Caught.{Caught}
+use Rattle.rule_model.specs.Choose.{Chosen}
+use Rattle.rule_model.specs.Match.{Content}
+use Rattle.rule_model.specs.Tab.{tab_rule}
+use Rattle.rule_matching.specs.declared.taken.Taken.{Taken}
+use Rattle.rule_matching.specs.Matching.{caught_by_taken}
 use Rattle.rule_matching.specs.Moment.{content_at}
 use Rattle.rule_matching.proofs.Candidates.{classes_of, first_from, walked, candidate_within, candidate_holds, candidate_passed, none_left}
 use Rattle.rule_matching.proofs.matching.first_held.Goals as goal
@@ -24,9 +31,14 @@ forth c = ap (λ (walk : CandidatesValue). walk.from) c.in-Some.ensures.rest
 
 pub returns-in-Some-held_record : goal.returns-in-Some-held_record
 returns-in-Some-held_record c =
-    sym (candidate_holds (content_at c.args.moment.now) c.args.left.now c.args.press c.args.moment.now.tables.stores c.args.group.now.using_keys c.args.group.now.rules
+    let content : Content = content_at c.args.moment.now in
+    let caught : List Taken → List Catch = map (caught_by_taken content c.args.left.now) in
+    let whole : List Catch → Option Chosen = λ (catches : List Catch). Some (tab_rule c.args.moment.now.tables.stores c.args.group.now.using_keys c.in-Some-held_record.rule, record { catches = catches; key_place = None }) in
+    ap (λ (all : Caught). Some (tab_rule c.args.moment.now.tables.stores c.args.group.now.using_keys c.in-Some-held_record.rule, all)) c.of.ensures
+    ∙ (ap whole (c.found_of-found.ensures.found ∙ ap caught c.as_slice.ensures.value)
+    ∙ (sym (candidate_holds content c.args.left.now c.args.press c.args.moment.now.tables.stores c.args.group.now.using_keys c.args.group.now.rules
     c.loop-number.candidates.from c.in-Some.number (next (goal.at.returns-in-Some-held_record c).In-Some) _ (sym c.in-Some-held_record.ensures.held))
-    ∙ c.loop-number.invariant.same
+    ∙ c.loop-number.invariant.same))
 
 pub loop-number-smaller : goal.loop-number-smaller
 loop-number-smaller c =
