@@ -44,9 +44,9 @@ abbrev pub taken_at : List Taken → ℕ → Option Taken
 taken_at taken zero = None
 taken_at taken (suc before) = slice_get taken before
 
--- what is caught by what an item of a context takes: of an `any` the place of that item in its store
+-- what is caught by what an item of a context takes: the item, and of an `any` the place of that in its store
 abbrev pub caught_by_taken : Content → List Item → Taken → Catch
-caught_by_taken content left taken = record { item = taken.item; place = option_and_then (λ store. place_before content left store taken.distance) taken.store }
+caught_by_taken content left taken = record { item = item_before left taken.distance; place = option_and_then (λ store. place_before content left store taken.distance) taken.store }
 
 -- what a record has caught by what the items of its context take
 abbrev pub caught_by_all : Content → List Item → List Taken → Caught

@@ -29,13 +29,12 @@ fn takes_item(pattern: Pat) -> bool
 }
 
 /// An item that is taken of no store, where it stands to its pattern as that asks.
-fn storeless(fits: bool, item: Item, distance: usize) -> Option<Taken>
-    ensures { result ≡ (if fits then Some (record { item = Some item; store = None; distance = distance }) else None) }
+fn storeless(fits: bool, distance: usize) -> Option<Taken>
+    ensures { result ≡ (if fits then Some (record { distance = distance; store = None }) else None) }
 {
     fits.then_some(Taken {
-        item: Some(item),
-        store: None,
         distance,
+        store: None,
     })
 }
 
@@ -58,27 +57,25 @@ fn taken_by(
     let item = item_before(left, distance);
     match pattern {
         Pat::Any(store) => is_in_store(moment, left, distance, store, places).then_some(Taken {
-            item: Some(item),
-            store: Some(store),
             distance,
+            store: Some(store),
         }),
         Pat::NotAny(store) => {
             let is_there = is_in_store(moment, left, distance, store, places);
-            storeless(!is_there, item, distance)
+            storeless(!is_there, distance)
         }
-        Pat::Char(c) => storeless(is_item(item, Element::Char(c)), item, distance),
-        Pat::Mark(m) => storeless(is_item(item, Element::Mark(m)), item, distance),
+        Pat::Char(c) => storeless(is_item(item, Element::Char(c)), distance),
+        Pat::Mark(m) => storeless(is_item(item, Element::Mark(m)), distance),
         Pat::Index(store, offset) => {
             let place = place_taken(moment, left, taken, offset, places);
             let wanted = moment.element_at(store, place);
-            storeless(is_element(item, wanted), item, distance)
+            storeless(is_element(item, wanted), distance)
         }
         Pat::ContextAt(offset) => storeless(
-            is_same(item, item_taken(taken, offset)),
-            item,
+            is_same(item, item_taken(left, taken, offset)),
             distance,
         ),
-        Pat::Equal(..) | Pat::Unequal(..) | Pat::Nul => storeless(true, item, distance),
+        Pat::Equal(..) | Pat::Unequal(..) | Pat::Nul => storeless(true, distance),
     }
 }
 
@@ -97,6 +94,7 @@ fn stands(moment: &Moment<'_>, pattern: Pat, is_whole: bool) -> bool
 
 /// Whether a context stands on so many of the last items of a list: each pattern takes one, and each condition and each `nul`
 /// stands. Then this is what its items take.
+#[inline(never)]
 fn takes_context(
     moment: &Moment<'_>,
     context: &[Pat],
@@ -121,9 +119,8 @@ fn takes_context(
                 return false;
             }
             taken.push(Taken {
-                item: None,
+                distance: left.len(),
                 store: None,
-                distance: 0,
             });
             continue;
         }

@@ -21,6 +21,17 @@ pub fn item_before(left: &[Item], distance: usize) -> Item
     left[left.len() - (distance + 1)]
 }
 
+/// The item that so many items stand behind, where there is one.
+pub fn item_at(left: &[Item], distance: usize) -> Option<Item>
+    ensures { result ≡ item_before left.now distance }
+{
+    if distance < left.len() {
+        Some(item_before(left, distance))
+    } else {
+        None
+    }
+}
+
 /// The first place of that item in what a store has, None where there is no such item. It is looked for once while the moment
 /// and the list stand still.
 #[inline(never)]
@@ -116,7 +127,7 @@ pub fn found_of(
     for one in taken {
         let place = place_of_taken(moment, left, *one, places);
         found.push(Found {
-            item: one.item,
+            item: item_at(left, one.distance),
             place,
         });
     }

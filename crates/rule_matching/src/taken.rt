@@ -1,15 +1,15 @@
 ghost use Rattle.std.specs.Prelude.{◌≡◌, option_and_then};
-ghost use Rattle.rule_matching.specs.Matching.{taken_at};
+ghost use Rattle.rule_matching.specs.Matching.{item_before, taken_at};
 
+use crate::places::item_at;
 use kmn_base::Item;
 
-/// What an item of a context takes: an item of the text where it is a pattern, with the count of items behind it, and of an
-/// `any` the store that has the item.
+/// What an item of a context takes, told by how many items of the text stand behind what it takes, and of an `any` by the store
+/// that has it too. Where it takes none, that is the count of all items, which none stands behind.
 #[derive(Clone, Copy, Default, Drop)]
 pub struct Taken {
-    pub item: Option<Item>,
-    pub store: Option<u32>,
     pub distance: usize,
+    pub store: Option<u32>,
 }
 
 /// What was taken at an offset, which counts from 1.
@@ -20,8 +20,8 @@ pub fn taken_at(taken: &[Taken], offset: u32) -> Option<Taken>
 }
 
 /// The item that was taken at an offset.
-pub fn item_taken(taken: &[Taken], offset: u32) -> Option<Item>
-    ensures { result ≡ option_and_then (λ one. one.item) (taken_at taken.now offset) }
+pub fn item_taken(left: &[Item], taken: &[Taken], offset: u32) -> Option<Item>
+    ensures { result ≡ option_and_then (λ one. item_before left.now one.distance) (taken_at taken.now offset) }
 {
-    taken_at(taken, offset)?.item
+    item_at(left, taken_at(taken, offset)?.distance)
 }
