@@ -32,9 +32,26 @@ pub fn item_at(left: &[Item], distance: usize) -> Option<Item>
     }
 }
 
-/// The first place of that item in what a store has, None where there is no such item. It is looked for once while the moment
-/// and the list stand still.
+/// Looks for the first place of that item in what a store has, which is known then while the moment and the list stand still.
 #[inline(never)]
+fn look_for(
+    moment: &Moment<'_>,
+    left: &[Item],
+    distance: usize,
+    store: u32,
+    places: &mut PlaceMemory,
+) -> Option<usize>
+    requires within { distance < length left.now }
+    requires right { RemembersRight moment.now left.now places.old }
+    ensures place { result ≡ place_before (content_at moment.now) left.now store distance }
+    ensures right { RemembersRight moment.now left.now places.new }
+{
+    let place = moment.place_of(store, item_before(left, distance));
+    places.found.remember(store, distance, place);
+    place
+}
+
+/// The first place of that item in what a store has, None where there is no such item. It is looked for once.
 #[tactic(auto, using(crate::proofs::KnownPlaces::place_beyond))]
 fn place_before(
     moment: &Moment<'_>,
@@ -50,12 +67,10 @@ fn place_before(
     if distance >= left.len() {
         return None;
     }
-    if let Some(place) = places.found.known(store, distance) {
-        return place;
+    match places.found.known(store, distance) {
+        Some(place) => place,
+        None => look_for(moment, left, distance, store, places),
     }
-    let place = moment.place_of(store, item_before(left, distance));
-    places.found.remember(store, distance, place);
-    place
 }
 
 /// Whether that item is in what a store has.

@@ -6,7 +6,7 @@ use Rattle.rule_model.specs.Match.{place_of}
 use Rattle.rule_matching.specs.Matching.{place_before}
 use Rattle.rule_matching.specs.Moment.{content_at}
 use Rattle.rule_matching.proofs.KnownPlaces.{still_right}
-use Rattle.rule_matching.proofs.places.place_before.Goals as goal
+use Rattle.rule_matching.proofs.places.look_for.Goals as goal
 
 pub returns-clause-right : goal.returns-clause-right
 returns-clause-right c =
@@ -14,4 +14,4 @@ returns-clause-right c =
     = c.place_of-place.ensures
     ∙ ap (option_and_then (λ (item : Item). place_of item (content_at c.args.moment.now (Numbered c.args.store)))) c.item_before.ensures in
     still_right c.args.moment.now c.args.left.now c.args.store c.args.distance c.place_of-place.result c.args.places.now _
-    c.remember.ensures.only refl found c.requires
+    c.remember.ensures.only refl found c.requires.right
