@@ -51,6 +51,12 @@ there [] n within = absurd (omega arith)
 there (x ∷ xs) zero within = (x, refl)
 there (x ∷ xs) (suc n) within = there xs n (omega arith)
 
+-- so there is an item
+pub item_there : (left : List Item) (distance : ℕ) → distance < length left → (x : Item) × (item_before left distance ≡ Some x)
+item_there left distance within =
+    let found = there left (length left - (distance + 1)) (omega (arith, within)) in
+    (found.0, item_within left distance within ∙ found.1)
+
 -- the last items begin with the first of them
 one_ahead : (left : List Item) (distance : ℕ) (item : Item) → distance < length left → item_before left distance ≡ Some item
     → drop (length left - (distance + 1)) left ≡ item ∷ drop (length left - distance) left

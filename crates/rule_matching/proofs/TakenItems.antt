@@ -1,6 +1,6 @@
 -- What is caught by what the items of a context take, item by item.
-use Rattle.std.proofs.Common.{◌≡◌, ℕ, zero, suc, ◌+◌, ◌-◌, ◌<◌, ◌≤◌, Bool, true, List, [], ◌∷◌, ◌++◌, length, drop, get_or, map, Option, Some, None, refl, sym, ◌∙◌, ap, inl, inr, arith}
-use Rattle.std.specs.Prelude.{if◌then◌else◌, nat_eq, option_and_then, option_map}
+use Rattle.std.proofs.Common.{◌≡◌, ℕ, zero, suc, ◌+◌, ◌-◌, ◌<◌, ◌≤◌, Bool, true, false, List, [], ◌∷◌, ◌++◌, length, drop, get_or, map, Option, Some, None, refl, sym, ◌∙◌, ap, inl, inr, arith}
+use Rattle.std.specs.Prelude.{if◌then◌else◌, is_some, nat_eq, not, option_and_then, option_map}
 use Rattle.std.proofs.lemmas.Bool.{cases_Bool, eqb-true, eqb-false}
 use Rattle.std.proofs.lemmas.List.{drop_all, drop_more, map-append}
 use Rattle.std.proofs.lemmas.Option.{slice_get-map}
@@ -9,13 +9,13 @@ use Rattle.rule_model.specs.declared.event_state.Catch.{Catch}
 use Rattle.rule_model.specs.declared.tables.Pat.{Pat}
 use Rattle.rule_model.specs.declared.tables.Pat.TheVariants.{Char}
 use Rattle.rule_model.specs.declared.tables.Store.{Store}
-use Rattle.rule_model.specs.Keyboard.{Pattern}
-use Rattle.rule_model.specs.Match.{Content, catch_at, place_caught, takes_item}
+use Rattle.rule_model.specs.Keyboard.{IsAny, IsNotAny, Numbered, Pattern}
+use Rattle.rule_model.specs.Match.{Content, catch_at, place_caught, place_of, takes_item}
 use Rattle.rule_model.specs.Tab.{tab_pattern}
 use Rattle.rule_matching.specs.declared.taken.Taken.{Taken}
-use Rattle.rule_matching.specs.Matching.{allowed_catches, catch_of, caught_by_taken, item_before, taken_at}
+use Rattle.rule_matching.specs.Matching.{allowed_catches, catch_of, caught_by_taken, item_before, place_before, taken_at}
 use Rattle.rule_matching.proofs.AllowedContexts.{allowed_catches_none, allowed_with_item}
-use Rattle.rule_matching.proofs.KnownPlaces.{caught_ahead, some_ahead, takes_same, uncaught_ahead}
+use Rattle.rule_matching.proofs.KnownPlaces.{caught_ahead, item_there, some_ahead, takes_same, uncaught_ahead}
 
 module _ (content : Content) (left : List Item) where
   abbrev caught : Taken → Catch
@@ -35,6 +35,36 @@ module _ (content : Content) (left : List Item) where
       → option_and_then (λ (t : Taken). (caught t).place) (taken_at taken offset) ≡ place_caught (map caught taken) offset
   place_is_caught taken offset =
       sym (ap (option_and_then (λ (catch : Catch). catch.place)) (caught_at taken offset) ∙ place_of_one (taken_at taken offset))
+
+  taken_if : (b : Bool) (one : Taken) → option_map caught (if b then Some one else None) ≡ (if b then Some (caught one) else None)
+  taken_if true one = refl
+  taken_if false one = refl
+
+  module _ (seen : List Catch) (store distance : ℕ) (b : Bool) (within : distance < length left) (is : b ≡ is_some (place_before content left store distance)) where
+    abbrev place : Option Item → Option ℕ
+    place given = option_and_then (λ (x : Item). place_of x (content (Numbered store))) given
+
+    -- an `any` takes an item that its store has, with that store
+    pub any_is_taken : option_map caught (if b then Some (record { distance = distance; store = Some store }) else None)
+        ≡ option_and_then (catch_of content seen (IsAny (Numbered store))) (item_before left distance)
+    any_is_taken =
+        let found = item_there left distance within in
+        let whole : Option Item → Catch = λ (given : Option Item). record { item = given; place = place given } in
+        taken_if b (record { distance = distance; store = Some store })
+        ∙ (ap (λ (c : Bool). if c then Some (whole (item_before left distance)) else None) is
+        ∙ (ap (λ (given : Option Item). if is_some (place given) then Some (whole given) else None) found.1
+        ∙ sym (ap (option_and_then (catch_of content seen (IsAny (Numbered store)))) found.1)))
+
+    -- a `notany` takes one that its store doesn't have
+    pub not_any_is_taken : option_map caught (if not b then Some (record { distance = distance; store = None }) else None)
+        ≡ option_and_then (catch_of content seen (IsNotAny (Numbered store))) (item_before left distance)
+    not_any_is_taken =
+        let found = item_there left distance within in
+        let whole : Option Item → Catch = λ (given : Option Item). record { item = given; place = None } in
+        taken_if (not b) (record { distance = distance; store = None })
+        ∙ (ap (λ (c : Bool). if not c then Some (whole (item_before left distance)) else None) is
+        ∙ (ap (λ (given : Option Item). if not (is_some (place given)) then Some (whole given) else None) found.1
+        ∙ sym (ap (option_and_then (catch_of content seen (IsNotAny (Numbered store)))) found.1)))
 
   module _ (whole : Bool) (stores : List Store) (context : List Pat) (index ahead : ℕ) (taken : List Taken) (all : Option (List Catch))
       (few : ahead ≤ length left)

@@ -1,4 +1,4 @@
-ghost use Rattle.std.specs.Prelude.{◌≡◌, ◌≤◌, ◌<◌, ◌-◌, [], Some, None, drop, length, map, nat_eq, option_and_then, option_map, slice_get, if◌then◌else◌};
+ghost use Rattle.std.specs.Prelude.{◌≡◌, ◌≤◌, ◌<◌, ◌-◌, [], Some, None, drop, length, map, nat_eq, option_and_then, option_map, slice_get, true, if◌then◌else◌};
 ghost use Rattle.kmn_base.specs.declared.limits.TheConstants.{CONTEXT_ITEMS};
 ghost use Rattle.rule_model.specs.Match.{takes_item};
 ghost use Rattle.rule_model.specs.Hold.{pattern_count, holds};
@@ -38,7 +38,9 @@ fn storeless(fits: bool, distance: usize) -> Option<Taken>
     })
 }
 
-/// What a pattern takes of the item that so many items stand behind, behind what was taken so far.
+/// What a pattern that looks at an item takes of the one that so many items stand behind, behind what was taken so far.
+#[inline(always)]
+#[tactic(auto, using(crate::proofs::TakenItems::any_is_taken, crate::proofs::TakenItems::not_any_is_taken))]
 fn taken_by(
     moment: &Moment<'_>,
     left: &[Item],
@@ -48,13 +50,13 @@ fn taken_by(
     places: &mut PlaceMemory,
 ) -> Option<Taken>
     requires within { distance < length left.now }
+    requires takes { takes_item (tab_pattern [] pattern) ≡ true }
     requires right { RemembersRight moment.now left.now places.old }
     ensures taken { option_map (caught_by_taken (content_at moment.now) left.now) result ≡ option_and_then
         (catch_of (content_at moment.now) (map (caught_by_taken (content_at moment.now) left.now) taken.now) (tab_pattern moment.now.tables.stores pattern))
         (item_before left.now distance) }
     ensures right { RemembersRight moment.now left.now places.new }
 {
-    let item = item_before(left, distance);
     match pattern {
         Pat::Any(store) => is_in_store(moment, left, distance, store, places).then_some(Taken {
             distance,
@@ -64,18 +66,24 @@ fn taken_by(
             let is_there = is_in_store(moment, left, distance, store, places);
             storeless(!is_there, distance)
         }
-        Pat::Char(c) => storeless(is_item(item, Element::Char(c)), distance),
-        Pat::Mark(m) => storeless(is_item(item, Element::Mark(m)), distance),
+        Pat::Char(c) => {
+            let item = item_before(left, distance);
+            storeless(is_item(item, Element::Char(c)), distance)
+        }
+        Pat::Mark(m) => {
+            let item = item_before(left, distance);
+            storeless(is_item(item, Element::Mark(m)), distance)
+        }
         Pat::Index(store, offset) => {
             let place = place_taken(moment, left, taken, offset, places);
             let wanted = moment.element_at(store, place);
-            storeless(is_element(item, wanted), distance)
+            storeless(is_element(item_before(left, distance), wanted), distance)
         }
-        Pat::ContextAt(offset) => storeless(
-            is_same(item, item_taken(left, taken, offset)),
-            distance,
-        ),
-        Pat::Equal(..) | Pat::Unequal(..) | Pat::Nul => storeless(true, distance),
+        Pat::ContextAt(offset) => {
+            let wanted = item_taken(left, taken, offset);
+            storeless(is_same(item_before(left, distance), wanted), distance)
+        }
+        Pat::Equal(..) | Pat::Unequal(..) | Pat::Nul => unreachable!(),
     }
 }
 
