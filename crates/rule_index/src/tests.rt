@@ -24,22 +24,15 @@ use std::test::Fail;
 /// 0x4010 behind the first mark; `A` behind `x` and any of the first store; code 65 with flags 0x4000 behind none of it;
 /// and `a` behind `x`, where the second store equals the second. The second group's match output saves a fourth store,
 /// which isn't there, and the third.
-const FILE: [u8; 360] = [
-    0x4B, 0x58, 0x54, 0x53, 0, 0x0A, 0, 0, 0, 0, 0, 0, 0, 0, 0, 0, 0, 0, 0, 0, 0, 0, 0, 0, 3, 0, 0,
-    0, 2, 0, 0, 0, 0x40, 0, 0, 0, 0x64, 0, 0, 0, 0xFF, 0xFF, 0xFF, 0xFF, 0, 0, 0, 0, 0, 0, 0, 0, 0,
-    0, 0, 0, 0, 0, 0, 0, 0, 0, 0, 0, 0, 0, 0, 0, 0, 0, 0, 0, 0x0C, 1, 0, 0, 0, 0, 0, 0, 0, 0, 0, 0,
-    0x10, 1, 0, 0, 0x22, 0, 0, 0, 0, 0, 0, 0, 0x14, 1, 0, 0, 0, 0, 0, 0, 0x94, 0, 0, 0, 0, 0, 0, 0,
-    0, 0, 0, 0, 6, 0, 0, 0, 1, 0, 0, 0, 0, 0, 0, 0, 0x94, 0, 0, 0, 0x5A, 1, 0, 0, 0, 0, 0, 0, 6, 0,
-    0, 0, 0, 0, 0, 0, 0x61, 0, 0, 0, 1, 0, 0, 0, 0, 0, 0, 0, 0, 0, 0, 0, 0, 0, 0, 0, 0x61, 0, 0, 0,
-    1, 0, 0, 0, 0, 0, 0, 0, 0, 0, 0, 0, 0x2E, 1, 0, 0, 0x41, 0, 0, 0, 1, 0, 0, 0, 0x10, 0x40, 0, 0,
-    0, 0, 0, 0, 0x32, 1, 0, 0, 0x41, 0, 0, 0, 1, 0, 0, 0, 0, 0, 0, 0, 0, 0, 0, 0, 0x3A, 1, 0, 0,
-    0x41, 0, 0, 0, 1, 0, 0, 0, 0, 0x40, 0, 0, 0, 0, 0, 0, 0x44, 1, 0, 0, 0x61, 0, 0, 0, 1, 0, 0, 0,
-    0, 0, 0, 0, 0, 0, 0, 0, 0x4C, 1, 0, 0, 0x61, 0, 0, 0, 0x62, 0, 0, 0, 0x4B, 0, 0x31, 0, 0x20, 0,
-    0x20, 0, 0x6B, 0, 0x32, 0, 0x20, 0, 0x4B, 0, 0x31, 0, 0x20, 0, 0x6B, 0, 0x31, 0, 0, 0, 0x78, 0,
-    0, 0, 0xFF, 0xFF, 8, 0, 1, 0, 0, 0, 0x78, 0, 0xFF, 0xFF, 1, 0, 1, 0, 0, 0, 0xFF, 0xFF, 0x12, 0,
-    1, 0, 0, 0, 0x78, 0, 0xFF, 0xFF, 0x14, 0, 2, 0, 2, 0, 1, 0, 0, 0, 0xFF, 0xFF, 0x15, 0, 4, 0,
-    0xFF, 0xFF, 0x15, 0, 3, 0, 0, 0,
-];
+const FILE: &[u8; 360] = b"\
+    KXTS\0\x0A\0\0\0\0\0\0\0\0\0\0\0\0\0\0\0\0\0\0\x03\0\0\0\x02\0\0\0@\0\0\0d\0\0\0\xFF\xFF\xFF\xFF\0\0\0\0\0\0\0\0\
+    \0\0\0\0\0\0\0\0\0\0\0\0\0\0\0\0\0\0\0\0\x0C\x01\0\0\0\0\0\0\0\0\0\0\x10\x01\0\0\x22\0\0\0\0\0\0\0\x14\x01\0\0\0\
+    \0\0\0\x94\0\0\0\0\0\0\0\0\0\0\0\x06\0\0\0\x01\0\0\0\0\0\0\0\x94\0\0\0Z\x01\0\0\0\0\0\0\x06\0\0\0\0\0\0\0a\0\0\0\
+    \x01\0\0\0\0\0\0\0\0\0\0\0\0\0\0\0a\0\0\0\x01\0\0\0\0\0\0\0\0\0\0\0.\x01\0\0A\0\0\0\x01\0\0\0\x10@\0\0\0\0\0\02\
+    \x01\0\0A\0\0\0\x01\0\0\0\0\0\0\0\0\0\0\0:\x01\0\0A\0\0\0\x01\0\0\0\0@\0\0\0\0\0\0D\x01\0\0a\0\0\0\x01\0\0\0\0\0\
+    \0\0\0\0\0\0L\x01\0\0a\0\0\0b\0\0\0K\01\0 \0 \0k\02\0 \0K\01\0 \0k\01\0\0\0x\0\0\0\xFF\xFF\x08\0\x01\0\0\0x\0\
+    \xFF\xFF\x01\0\x01\0\0\0\xFF\xFF\x12\0\x01\0\0\0x\0\xFF\xFF\x14\0\x02\0\x02\0\x01\0\0\0\xFF\xFF\x15\0\x04\0\xFF\
+    \xFF\x15\0\x03\0\0\0";
 
 /// Whether the group has keys, a press by code and modifiers, the list before the caret, and all candidates.
 type Asked = (bool, u16, u16, &'static [Item], &'static [u32]);
@@ -53,9 +46,6 @@ const CANDIDATES: &[Asked] = &[
     (true, 66, 0, &[Char('x')], &[]),
     (false, 112, 0, &[Char('x')], &[0, 1, 3, 4, 5]),
 ];
-
-/// How many items of the text each record takes, and one behind them none.
-const COUNTS: [usize; 7] = [0, 1, 1, 2, 1, 1, 0];
 
 /// What stores have.
 const CONTENTS: &[&[Element]] = &[
@@ -113,11 +103,10 @@ fn holdings_of(alloc: Global, contents: &[&[Element]]) -> Result<Holdings, Memor
     ensures { IfOk result (λ holdings. IsNonDecreasingBy holding_rank holdings) }
 {
     let stores = stores_of(alloc, contents)?;
-    if stores.len() > STORES
-        || !stores
-            .iter()
-            .all(|elements| elements.len() <= STORE_ELEMENTS)
-    {
+    let are_few = stores
+        .iter()
+        .all(|elements| elements.len() <= STORE_ELEMENTS);
+    if stores.len() > STORES || !are_few {
         return Err(Memory);
     }
     Holdings::of(alloc, stores.as_slice())
@@ -134,7 +123,7 @@ fn are_rows(rows: &[Holding], wanted: &[(u16, u16)]) -> bool {
 
 #[test]
 fn candidates_of_a_press(rt: HostRuntime) -> Result<(), Fail> {
-    let file = FileTables::of(&FILE);
+    let file = FileTables::of(FILE);
     let with_keys = index_of(rt.alloc(), &file, 0)?;
     let without_keys = index_of(rt.alloc(), &file, 1)?;
     for asked in CANDIDATES.iter() {
@@ -144,17 +133,12 @@ fn candidates_of_a_press(rt: HostRuntime) -> Result<(), Fail> {
 }
 
 #[test]
-fn items_that_records_take(rt: HostRuntime) -> Result<(), Fail> {
-    let index = index_of(rt.alloc(), &FileTables::of(&FILE), 0)?;
-    for number in 0..7u32 {
-        assert!(rt; index.pattern_count(number) == COUNTS[number as usize]);
-    }
-    Ok(())
-}
-
-#[test]
 fn contexts_of_records(rt: HostRuntime) -> Result<(), Fail> {
-    let index = index_of(rt.alloc(), &FileTables::of(&FILE), 0)?;
+    let index = index_of(rt.alloc(), &FileTables::of(FILE), 0)?;
+    let counts = [0, 1, 1, 2, 1, 1, 0];
+    for number in 0..7u32 {
+        assert!(rt; index.pattern_count(number) == counts[number as usize]);
+    }
     assert!(rt; index.context(3) == [Pat::Char('x'), Pat::Any(0)].as_slice());
     assert!(rt; index.context(4) == [Pat::NotAny(0)].as_slice());
     assert!(rt; index.context(6).is_empty());
@@ -162,15 +146,10 @@ fn contexts_of_records(rt: HostRuntime) -> Result<(), Fail> {
 }
 
 #[test]
-fn options_of_a_file(rt: HostRuntime) -> Result<(), Fail> {
-    let numbers = option_numbers(rt.alloc(), &FileTables::of(&FILE))?;
+fn options_and_own_keys_of_a_file(rt: HostRuntime) -> Result<(), Fail> {
+    let numbers = option_numbers(rt.alloc(), &FileTables::of(FILE))?;
     assert!(rt; numbers.as_slice() == [None, Some(0), Some(1)].as_slice());
-    Ok(())
-}
-
-#[test]
-fn names_of_own_keys(rt: HostRuntime) -> Result<(), Fail> {
-    let names = own_keys(rt.alloc(), &FileTables::of(&FILE))?;
+    let names = own_keys(rt.alloc(), &FileTables::of(FILE))?;
     assert!(rt; names.name_at(256) == Some(b"K1".as_slice()));
     assert!(rt; names.name_at(257) == Some(b"k2".as_slice()));
     assert!(rt; names.name_at(258).is_none());
@@ -183,12 +162,6 @@ fn holders_of_items(rt: HostRuntime) -> Result<(), Fail> {
     for (item, rows) in HOLDERS.iter() {
         assert!(rt; are_rows(holdings.holders(*item), rows));
     }
-    Ok(())
-}
-
-#[test]
-fn first_places(rt: HostRuntime) -> Result<(), Fail> {
-    let holdings = holdings_of(rt.alloc(), CONTENTS)?;
     assert!(rt; holdings.place_of(0, Char('a')) == Some(0));
     assert!(rt; holdings.place_of(3, Char('a')) == Some(1));
     assert!(rt; holdings.place_of(2, Char('a')).is_none());
