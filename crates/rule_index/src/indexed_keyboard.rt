@@ -24,8 +24,8 @@ use std::marker::Model;
 use virtual_keys::KeyDictionary;
 
 /// A file with what an engine looks up: each store by place, its option number, the stores that have an item, a number that
-/// the stores with the same elements have, an index of each group's records, and the names of own keys. Nothing of the file
-/// is copied but elements and these names. Contracts see the file's tables.
+/// the stores with the same elements have, an index of each group's records, and the names of own keys. Elements, contexts
+/// and these names are copied, and nothing else of the file. Contracts see the file's tables.
 #[derive(Drop)]
 pub struct IndexedKeyboard<'a> {
     alloc: Global,
