@@ -1,2 +1,3 @@
+pub mod ContextItems
 pub mod Counts
 pub mod Reading

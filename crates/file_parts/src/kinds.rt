@@ -1,8 +1,10 @@
 //! What an item of a string is as an element of a store, in a context and in an output.
 
-ghost use Rattle.std.specs.Prelude.{◌≡◌, ◌-◌};
+ghost use Rattle.std.specs.Prelude.{◌≡◌, ◌-◌, option_map};
 ghost use Rattle.kmx_format.specs.TablesOf.{comparison_of};
+ghost use Rattle.file_parts.specs.ContextItems.{item_of};
 
+use crate::context_item::ContextItem;
 use kmn_base::{Element, UnitItem};
 use rule_model::{Out, Pat};
 
@@ -18,19 +20,26 @@ pub trait Part: Drop {
         ensures { result ≡ of_unit_item item };
 }
 
-/// A store or group number as tables have it, from 0.
-fn from_zero(number: u16) -> u32
+/// A store or group number from 0, which a file counts from 1.
+fn from_zero(number: u16) -> u16
     ensures { result ≡ number - 1 }
 {
-    u32::from(number.saturating_sub(1))
+    number.saturating_sub(1)
 }
 
-fn comparison_of(store: u16, comparison: u16, value: u16) -> Option<Pat>
-    ensures { result ≡ comparison_of store comparison value }
+/// A store or group number as tables have it.
+fn number(number: u16) -> u32
+    ensures { result ≡ number - 1 }
+{
+    u32::from(from_zero(number))
+}
+
+fn comparison_of(store: u16, comparison: u16, value: u16) -> Option<ContextItem>
+    ensures { result ≡ option_map item_of (comparison_of store comparison value) }
 {
     match comparison {
-        1 => Some(Pat::Unequal(from_zero(store), from_zero(value))),
-        2 => Some(Pat::Equal(from_zero(store), from_zero(value))),
+        1 => Some(ContextItem::Unequal(from_zero(store), from_zero(value))),
+        2 => Some(ContextItem::Equal(from_zero(store), from_zero(value))),
         _ => None,
     }
 }
@@ -50,23 +59,35 @@ impl Part for Element {
     }
 }
 
+impl Part for ContextItem {
+    ghost use Rattle.file_parts.specs.ContextItems.{item_of_unit_item};
+
+    ghost of_unit_item = { item_of_unit_item };
+
+    fn of_unit_item(item: UnitItem) -> Option<ContextItem> {
+        match item {
+            UnitItem::Char(c) => Some(ContextItem::Char(c)),
+            UnitItem::Dead(mark) => Some(ContextItem::Mark(mark)),
+            UnitItem::Any(store) => Some(ContextItem::Any(from_zero(store))),
+            UnitItem::NotAny(store) => Some(ContextItem::NotAny(from_zero(store))),
+            UnitItem::Index(store, offset) => Some(ContextItem::Index(from_zero(store), offset)),
+            UnitItem::ContextAt(offset) => Some(ContextItem::ContextAt(offset)),
+            UnitItem::Test(store, comparison, value) => comparison_of(store, comparison, value),
+            UnitItem::Nul => Some(ContextItem::Nul),
+            _ => None,
+        }
+    }
+}
+
 impl Part for Pat {
     ghost use Rattle.kmx_format.specs.TablesOf.{pattern_of_unit_item};
 
     ghost of_unit_item = { pattern_of_unit_item };
 
+    #[tactic(auto, using(crate::proofs::ContextItems::pattern_read))]
     fn of_unit_item(item: UnitItem) -> Option<Pat> {
-        match item {
-            UnitItem::Char(c) => Some(Pat::Char(c)),
-            UnitItem::Dead(mark) => Some(Pat::Mark(mark)),
-            UnitItem::Any(store) => Some(Pat::Any(from_zero(store))),
-            UnitItem::NotAny(store) => Some(Pat::NotAny(from_zero(store))),
-            UnitItem::Index(store, offset) => Some(Pat::Index(from_zero(store), u32::from(offset))),
-            UnitItem::ContextAt(offset) => Some(Pat::ContextAt(u32::from(offset))),
-            UnitItem::Test(store, comparison, value) => comparison_of(store, comparison, value),
-            UnitItem::Nul => Some(Pat::Nul),
-            _ => None,
-        }
+        let item = ContextItem::of_unit_item(item)?;
+        Some(item.pattern())
     }
 }
 
@@ -79,13 +100,13 @@ impl Part for Out {
         match item {
             UnitItem::Char(c) => Some(Out::Char(c)),
             UnitItem::Dead(mark) => Some(Out::Mark(mark)),
-            UnitItem::Index(store, offset) => Some(Out::Index(from_zero(store), u32::from(offset))),
+            UnitItem::Index(store, offset) => Some(Out::Index(number(store), u32::from(offset))),
             UnitItem::Context => Some(Out::Context),
             UnitItem::ContextAt(offset) => Some(Out::ContextAt(u32::from(offset))),
-            UnitItem::Enter(group) => Some(Out::Enter(from_zero(group))),
-            UnitItem::Set(store, value) => Some(Out::Set(from_zero(store), from_zero(value))),
-            UnitItem::Save(store) => Some(Out::Save(from_zero(store))),
-            UnitItem::Reset(store) => Some(Out::Reset(from_zero(store))),
+            UnitItem::Enter(group) => Some(Out::Enter(number(group))),
+            UnitItem::Set(store, value) => Some(Out::Set(number(store), number(value))),
+            UnitItem::Save(store) => Some(Out::Save(number(store))),
+            UnitItem::Reset(store) => Some(Out::Reset(number(store))),
             UnitItem::Nul => Some(Out::Nul),
             UnitItem::Beep => Some(Out::Beep),
             UnitItem::Stop => Some(Out::Stop),

@@ -4,9 +4,11 @@
 //! It stands on `kmx_format`, whose `tables_of` says which tables bytes have, on `kmx_view`, which reads numbers and
 //! strings, and on `item_codec`, which walks the items of a string. The layer above makes `FileTables` of bytes, which
 //! contracts see as their tables, and asks them for stores, groups and key records: each is the one that the tables have
-//! there. What a string spells comes as an iterator, which contracts see as the list of what is left.
+//! there. What a string spells comes as an iterator, which contracts see as the list of what is left. An
+//! item of a context comes as the `Pat` that tables have, or as a `ContextItem`, which is the same in the numbers of a file.
 #![tactic(auto)]
 
+mod context_item;
 mod file;
 mod groups;
 mod kinds;
@@ -18,10 +20,11 @@ mod stores;
 mod tests;
 mod walks;
 
+pub use context_item::ContextItem;
 pub use file::FileTables;
 pub use groups::FileGroup;
 pub use kinds::Part;
 pub use lists::{Groups, Rules, Stores};
 pub use records::FileRule;
 pub use stores::FileStore;
-pub use walks::{Elements, Outputs, Parts, Patterns};
+pub use walks::{ContextItems, Elements, Outputs, Parts, Patterns};

@@ -1,10 +1,11 @@
 //! The key records of a file.
 
-ghost use Rattle.std.specs.Prelude.{◌≡◌, ◌<◌, ◌≤◌, ◌^◌, length};
+ghost use Rattle.std.specs.Prelude.{◌≡◌, ◌<◌, ◌≤◌, ◌^◌, length, map};
 ghost use Rattle.kmn_base.specs.declared.limits.TheConstants.{FILE_BYTES};
 ghost use Rattle.kmx_format.specs.TablesOf.{key_of, rule_at};
+ghost use Rattle.file_parts.specs.ContextItems.{pattern_of};
 
-use crate::walks::{Outputs, Patterns};
+use crate::walks::{ContextItems, Outputs, Patterns};
 use kmn_base::RuleKey;
 use kmx_view::{half_at, word_at};
 use std::marker::Model;
@@ -77,6 +78,14 @@ impl<'a> FileRule<'a> {
         ensures few { length result ≤ FILE_BYTES }
     {
         Patterns::at(self.bytes, word_at(self.bytes, self.place + 16))
+    }
+
+    /// The context in the numbers of the file.
+    #[tactic(auto, using(crate::proofs::ContextItems::patterns_of_items))]
+    pub fn context_items(&self) -> ContextItems<'a>
+        ensures { map pattern_of result ≡ self.now.context }
+    {
+        ContextItems::at(self.bytes, word_at(self.bytes, self.place + 16))
     }
 
     /// The output.

@@ -5,6 +5,7 @@ ghost use Rattle.std.specs.List.{filter_map};
 ghost use Rattle.kmn_base.specs.declared.limits.TheConstants.{FILE_BYTES};
 ghost use Rattle.kmx_format.specs.TablesOf.{string_at, items_of};
 
+use crate::context_item::ContextItem;
 use crate::kinds::Part;
 use item_codec::{Items, items_of};
 use kmn_base::Element;
@@ -24,6 +25,8 @@ pub struct Parts<'a, T: Part> {
 pub type Elements<'a> = Parts<'a, Element>;
 /// The items of a context.
 pub type Patterns<'a> = Parts<'a, Pat>;
+/// The items of a context in the numbers of the file.
+pub type ContextItems<'a> = Parts<'a, ContextItem>;
 /// The items of an output.
 pub type Outputs<'a> = Parts<'a, Out>;
 

@@ -15,7 +15,7 @@ use crate::elements::{
 use indexed_tables::IndexedTables;
 use kmn_base::{Element, Item, KeyPress, Memory, RuleKey, Seq};
 use rule_model::{Catch, Caught, EventState, Group, Pat, Rule};
-use virtual_keys::fits;
+use virtual_keys::Pressed;
 
 /// Whether a pattern looks at an item of the text, whatever the stores are.
 fn takes_item(pattern: Pat) -> bool
@@ -208,7 +208,7 @@ fn holds(
         (content_now (tab indexed.now) state.now) state.now.left press (tab_rule indexed.now.stores using_keys rule.now)) }
 {
     let context = rule.context.as_slice();
-    if !conditions_hold(indexed, state, context) || !fits(key_of(using_keys, rule), press) {
+    if !conditions_hold(indexed, state, context) || !Pressed::of(press).fits(key_of(using_keys, rule)) {
         return Ok(None);
     }
     Ok(with_catches(caught_last(indexed, state, context, state.left.as_slice())?))

@@ -4,6 +4,8 @@ use Rattle.rule_model.specs.declared.tables.Group.{Group}
 use Rattle.rule_model.specs.declared.tables.Pat.{Pat}
 use Rattle.rule_model.specs.Hold.{pattern_count}
 use Rattle.rule_model.specs.Tab.{tab_pattern, tab_rule}
+use Rattle.file_parts.specs.declared.context_item.ContextItem.{ContextItem}
+use Rattle.file_parts.specs.ContextItems.{pattern_of}
 use Rattle.rule_index.specs.declared.row.Row.{Row}
 use Rattle.rule_index.specs.Classes.{rule_class}
 use Rattle.rule_index.specs.Rows.{IsIndexOf}
@@ -22,9 +24,9 @@ record_classes group = map (λ rule. rule_class (tab_rule [] group.using_keys ru
 abbrev pub record_contexts : Group → List (List Pat)
 record_contexts group = map (λ rule. rule.context) group.rules
 
--- contexts as lists of their items
-abbrev pub listed : {A : Type 0} → List (Vec Pat A) → List (List Pat)
-listed contexts = map (λ context. context.items) contexts
+-- contexts in the numbers of a file, as lists of the patterns that their items are
+abbrev pub listed : {A : Type 0} → List (Vec ContextItem A) → List (List Pat)
+listed contexts = map (λ context. map pattern_of context.items) contexts
 
 -- how many items of the text a context takes, as far as a byte counts: no more than 60 where it can be played
 abbrev pub context_count : List Pat → ℕ

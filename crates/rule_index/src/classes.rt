@@ -1,14 +1,13 @@
 ghost use Rattle.std.specs.Prelude.{◌≡◌, ◌<◌, [], map, None, IfOk};
 ghost use Rattle.virtual_keys.specs.Fits.{char_of_press};
-ghost use Rattle.rule_model.specs.Match.{takes_item};
 ghost use Rattle.rule_model.specs.Tab.{tab_pattern, tab_rule};
+ghost use Rattle.file_parts.specs.ContextItems.{pattern_of};
 ghost use Rattle.rule_index.specs.Classes.{key_class, pattern_class, last_class, given_class, item_class, last_item, class_of, rule_class, wanted_classes};
 ghost use Rattle.rule_index.specs.Groups.{record_classes};
 
 use crate::class::Class;
-use file_parts::{FileGroup, FileRule, Patterns};
+use file_parts::{ContextItem, ContextItems, FileGroup, FileRule};
 use kmn_base::{Item, KeyPress, Memory, RuleKey};
-use rule_model::Pat;
 use std::alloc::Global;
 use virtual_keys::char_of;
 
@@ -24,34 +23,27 @@ fn key_class(key: RuleKey) -> u64
     }
 }
 
-/// What a pattern wants.
-fn pattern_class(pattern: Pat) -> u64
-    ensures value { result ≡ pattern_class (tab_pattern [] pattern) }
+/// What an item of a context wants.
+fn pattern_class(item: ContextItem) -> u64
+    ensures value { result ≡ pattern_class (tab_pattern [] (pattern_of item)) }
     ensures small { result < 2097152 }
 {
-    match pattern {
-        Pat::Char(c) => 1 + u64::from(c as u32),
-        Pat::Mark(m) => 1_114_113 + u64::from(m),
+    match item {
+        ContextItem::Char(c) => 1 + u64::from(c as u32),
+        ContextItem::Mark(m) => 1_114_113 + u64::from(m),
         _ => 0,
     }
 }
 
-/// Whether a pattern looks at an item of the text.
-pub fn takes_item(pattern: Pat) -> bool
-    ensures { result ≡ takes_item (tab_pattern [] pattern) }
-{
-    !matches!(&pattern, Pat::Equal(..) | Pat::Unequal(..) | Pat::Nul)
-}
-
-/// What the last pattern of a context wants.
-fn last_class(context: Patterns<'_>) -> u64
-    ensures value { result ≡ last_class 0 (map (tab_pattern []) context.entry) }
+/// What the last item of a context that looks at one of the text wants.
+fn last_class(context: ContextItems<'_>) -> u64
+    ensures value { result ≡ last_class 0 (map (tab_pattern []) (map pattern_of context.entry)) }
     ensures small { result < 2097152 }
 {
     let mut class = 0;
-    for pattern in context {
-        if takes_item(pattern) {
-            class = pattern_class(pattern);
+    for item in context {
+        if item.takes_item() {
+            class = pattern_class(item);
         }
     }
     class
@@ -71,7 +63,7 @@ fn rule_class(using_keys: bool, rule: &FileRule<'_>) -> Class
     ensures { result ≡ rule_class (tab_rule [] using_keys rule.now) }
 {
     let key = if using_keys { rule.key() } else { RuleKey::Any };
-    class_of(key_class(key), last_class(rule.context()))
+    class_of(key_class(key), last_class(rule.context_items()))
 }
 
 /// The classes of a group's records, in their order.

@@ -1,42 +1,41 @@
 ghost use Rattle.std.specs.Prelude.{◌≡◌, IfOk, map};
+ghost use Rattle.file_parts.specs.ContextItems.{pattern_of};
 ghost use Rattle.rule_index.specs.Groups.{context_count, listed, record_contexts};
 
-use crate::classes::takes_item;
-use file_parts::{FileGroup, Patterns};
+use file_parts::{ContextItem, ContextItems, FileGroup};
 use kmn_base::Memory;
-use rule_model::Pat;
 use std::alloc::Global;
 
 /// A copy of a context that lies in a file.
-fn copied(alloc: Global, context: Patterns<'_>) -> Result<Vec<Pat>, Memory>
+fn copied(alloc: Global, context: ContextItems<'_>) -> Result<Vec<ContextItem>, Memory>
     ensures { IfOk result (λ copied. copied.items ≡ context.entry) }
 {
     let mut copied = Vec::new(alloc);
-    for pattern in context {
-        copied.push(pattern)?;
+    for item in context {
+        copied.push(item)?;
     }
     Ok(copied)
 }
 
 /// The contexts of a group's records, in their order.
-pub fn record_contexts(alloc: Global, group: &FileGroup<'_>) -> Result<Vec<Vec<Pat>>, Memory>
+pub fn record_contexts(alloc: Global, group: &FileGroup<'_>) -> Result<Vec<Vec<ContextItem>>, Memory>
     ensures { IfOk result (λ contexts. listed contexts.items ≡ record_contexts group.now) }
 {
     let mut contexts = Vec::new(alloc);
     for rule in group.rules() {
-        contexts.push(copied(alloc, rule.context())?)?;
+        contexts.push(copied(alloc, rule.context_items())?)?;
     }
     Ok(contexts)
 }
 
 /// How many items of the text a context takes, as far as a byte counts.
 #[tactic(auto, using(crate::proofs::ContextCounts::counted, crate::proofs::ContextCounts::uncounted))]
-fn context_count(context: &[Pat]) -> u8
-    ensures { result ≡ context_count context.now }
+fn context_count(context: &[ContextItem]) -> u8
+    ensures { result ≡ context_count (map pattern_of context.now) }
 {
     let mut count = 0u8;
-    for pattern in context {
-        if takes_item(*pattern) {
+    for item in context {
+        if item.takes_item() {
             count = count.saturating_add(1);
         }
     }
@@ -44,7 +43,7 @@ fn context_count(context: &[Pat]) -> u8
 }
 
 /// The counts of contexts, in their order.
-pub fn counts(alloc: Global, contexts: &[Vec<Pat>]) -> Result<Vec<u8>, Memory>
+pub fn counts(alloc: Global, contexts: &[Vec<ContextItem>]) -> Result<Vec<u8>, Memory>
     ensures { IfOk result (λ counts. counts.items ≡ map context_count (listed contexts.now)) }
 {
     let mut counts = Vec::new(alloc);

@@ -17,7 +17,7 @@ use crate::options::option_numbers;
 use crate::own_names::own_keys;
 use crate::rule_index::RuleIndex;
 use crate::values::{number_for, store_numbers};
-use file_parts::{Elements, FileGroup, FileTables, Parts};
+use file_parts::{Elements, FileGroup, FileStore, FileTables, Parts};
 use kmn_base::{Element, Item, Memory, Seq};
 use std::alloc::Global;
 use std::marker::Model;
@@ -61,15 +61,15 @@ impl<'a> Model for IndexedKeyboard<'a> {
         × AreNumbersOf (map value_code ([] ∷ store_contents keyboard.file.stores)) keyboard.values.items };
 }
 
-/// A copy of elements that lie in a file.
-fn copied(alloc: Global, elements: Elements<'_>) -> Result<Seq<Element>, Memory>
-    ensures { IfOk result (λ copied. copied ≡ elements.entry) }
+/// A copy of the elements of a store, with room for no more: a file can have four million.
+fn copied(alloc: Global, store: &FileStore<'_>) -> Result<Seq<Element>, Memory>
+    ensures { IfOk result (λ copied. copied ≡ store.now.elements) }
 {
-    let mut copied = Seq::new(alloc);
-    for element in elements {
-        copied.add(element)?;
+    let mut copied = Vec::with_capacity(alloc, store.elements().count())?;
+    for element in store.elements() {
+        copied.push(element)?;
     }
-    Ok(copied)
+    Ok(Seq::from_vec(copied))
 }
 
 /// What each store has.
@@ -78,7 +78,7 @@ fn stores_of(alloc: Global, file: &FileTables<'_>) -> Result<Vec<Seq<Element>>, 
 {
     let mut stores = Vec::new(alloc);
     for store in file.stores() {
-        stores.push(copied(alloc, store.elements())?)?;
+        stores.push(copied(alloc, &store)?)?;
     }
     Ok(stores)
 }

@@ -9,7 +9,7 @@
 //! (`indexed_tables`), and the names of own keys (`specs/OwnNames`); it hands out groups as the file has them. The layer above
 //! asks `wanted_classes` of a press and the list before the caret, and tries the records that the `Candidates` of a group's
 //! `RuleIndex` answer, in the file's order: the rows are searched when the walk begins, and from then on passed one by one. The
-//! index has the context of each record, and has counted how many items of the text that takes. The layer above asks `holders`
+//! index has the context of each record, in the numbers of the file, and has counted how many items of the text that takes. The layer above asks `holders`
 //! for all stores that have an item, `place_of` for the place in one, `element_at` for what `index` takes, and `same_elements`
 //! in conditions. `specs/Classes` says by what a record can be met, `specs/Next` which record is the next candidate,
 //! `specs/Walk` from where a walk goes on. The laws stand in `laws`: a record that holds is among the wanted ones, so the first

@@ -1,5 +1,6 @@
-ghost use Rattle.std.specs.Prelude.{◌≡◌, ◌≤◌, [], length, slice_index_or, IfOk};
+ghost use Rattle.std.specs.Prelude.{◌≡◌, ◌≤◌, [], length, map, slice_index_or, IfOk};
 ghost use Rattle.kmn_base.specs.declared.limits.TheConstants.{RECORDS};
+ghost use Rattle.file_parts.specs.ContextItems.{pattern_of};
 ghost use Rattle.rule_index.specs.Groups.{IsRuleIndexOf};
 
 use crate::candidates::Candidates;
@@ -8,9 +9,8 @@ use crate::classes::record_classes;
 use crate::contexts::{counts, record_contexts};
 use crate::row::Row;
 use crate::rows::rows_of;
-use file_parts::FileGroup;
+use file_parts::{ContextItem, FileGroup};
 use kmn_base::Memory;
-use rule_model::Pat;
 use std::alloc::Global;
 use std::marker::Model;
 
@@ -18,7 +18,7 @@ use std::marker::Model;
 #[derive(Drop)]
 pub struct RuleIndex {
     rows: Vec<Row>,
-    contexts: Vec<Vec<Pat>>,
+    contexts: Vec<Vec<ContextItem>>,
     counts: Vec<u8>,
 }
 
@@ -54,9 +54,9 @@ impl RuleIndex {
         Candidates::of(self.rows.as_slice(), wanted)
     }
 
-    /// The context of a record; empty where there is no such record.
-    pub fn context(&self, number: u32) -> &[Pat]
-        ensures { result.now ≡ slice_index_or self.now.contexts number [] }
+    /// The context of a record in the numbers of the file; empty where there is no such record.
+    pub fn context(&self, number: u32) -> &[ContextItem]
+        ensures { map pattern_of result.now ≡ slice_index_or self.now.contexts number [] }
     {
         match self.contexts.get(number as usize) {
             Some(context) => context.as_slice(),

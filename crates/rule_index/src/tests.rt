@@ -11,11 +11,10 @@ use crate::options::option_numbers;
 use crate::own_names::own_keys;
 use crate::values::store_numbers;
 use crate::{RuleIndex, wanted_classes};
-use file_parts::FileTables;
+use file_parts::{ContextItem, FileTables};
 use kmn_base::Item::{Char, Mark};
 use kmn_base::limits::{RECORDS, STORE_ELEMENTS, STORES};
 use kmn_base::{Element, Item, KeyPress, Memory, Seq};
-use rule_model::Pat;
 use std::alloc::Global;
 use std::test::Fail;
 
@@ -139,8 +138,8 @@ fn contexts_of_records(rt: HostRuntime) -> Result<(), Fail> {
     for number in 0..7u32 {
         assert!(rt; index.pattern_count(number) == counts[number as usize]);
     }
-    assert!(rt; index.context(3) == [Pat::Char('x'), Pat::Any(0)].as_slice());
-    assert!(rt; index.context(4) == [Pat::NotAny(0)].as_slice());
+    assert!(rt; index.context(3) == [ContextItem::Char('x'), ContextItem::Any(0)].as_slice());
+    assert!(rt; index.context(4) == [ContextItem::NotAny(0)].as_slice());
     assert!(rt; index.context(6).is_empty());
     Ok(())
 }

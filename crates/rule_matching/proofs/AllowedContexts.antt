@@ -17,7 +17,7 @@ use Rattle.rule_model.specs.Match.{Content, takes_item, catches_from}
 use Rattle.rule_model.specs.Hold.{is_true, is_at_start, pattern_count, has_room, caught_by, holds}
 use Rattle.rule_model.specs.Tab.{tab_pattern, tab_rule}
 use Rattle.rule_matching.specs.Matching.{is_allowed, allowed, allowed_catches}
-use Rattle.rule_matching.proofs.KnownPlaces.{takes_same}
+use Rattle.rule_model.proofs.PlainContexts.{pattern_count_same}
 
 -- a pattern that looks at an item is allowed
 pub taking_is_allowed : (content : Content) (whole : Bool) (pattern : Pattern) → takes_item pattern ≡ true → is_allowed content whole pattern ≡ true
@@ -73,14 +73,6 @@ conditions_and_room content whole (pattern ∷ patterns) =
     one_and_others (is_true content pattern) (is_at_start pattern) (list_all (is_true content) patterns) (list_any is_at_start patterns) whole
     ∙ ap (λ (b : Bool). is_allowed content whole pattern && b) (conditions_and_room content whole patterns)
 
--- a context takes as many items whatever the stores are
-count_same : (stores : List Store) (context : List Pat) → pattern_count (map (tab_pattern stores) context) ≡ pattern_count (map (tab_pattern []) context)
-count_same stores [] = refl
-count_same stores (p ∷ ps) =
-    sum_by-cons (λ (q : Pattern). cond (takes_item q) 1 0) (tab_pattern stores p) (map (tab_pattern stores) ps)
-    ∙ (λ i. cond (takes_same stores p i) 1 0 + count_same stores ps i)
-    ∙ sym (sum_by-cons (λ (q : Pattern). cond (takes_item q) 1 0) (tab_pattern [] p) (map (tab_pattern []) ps))
-
 -- what was caught, where it may be
 caught_by_if : (b : Bool) (catches : Option (List Catch)) → caught_by (if b then catches else None) (Some None) ≡ (if b then caught_by catches (Some None) else None)
 caught_by_if true catches = refl
@@ -128,7 +120,7 @@ module _ (content : Content) (press : KeyPress) (stores : List Store) (using_key
       → None ≡ holds content left press (tab_rule stores using_keys rule)
   short_holds_not is short =
       let taken : ℕ = pattern_count patterns in
-      let less : length left < taken = omega (arith, short, is, count_same stores rule.context) in
+      let less : length left < taken = omega (arith, short, is, pattern_count_same stores rule.context) in
       let conditions : Bool = list_all (is_true content) patterns in
       let place : Option (Option ℕ) = if is_fitting then Some None else None in
       let roomless : has_room patterns left ≡ false
@@ -143,7 +135,7 @@ module _ (content : Content) (press : KeyPress) (stores : List Store) (using_key
       ≡ holds content left press (tab_rule stores using_keys rule)
   allowed_holds fit is few =
       let whole : Bool = nat_eq (length left) count in
-      let same : count ≡ pattern_count patterns = is ∙ sym (count_same stores rule.context) in
+      let same : count ≡ pattern_count patterns = is ∙ sym (pattern_count_same stores rule.context) in
       let enough : nat_le count (length left) ≡ true = le-leb count (length left) few in
       let start : Bool = list_any is_at_start patterns in
       let conditions : Bool = list_all (is_true content) patterns in

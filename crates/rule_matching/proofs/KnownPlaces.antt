@@ -75,18 +75,6 @@ some_ahead content seen left count some few =
     let found = there left (length left - count) inside in
     ap (catches_from content seen []) (drop_more left (length left - count) found.0 inside)
 
--- whether a pattern looks at an item, whatever the stores are
-pub takes_same : (stores : List Store) (p : Pat) → takes_item (tab_pattern stores p) ≡ takes_item (tab_pattern [] p)
-takes_same stores (pattern.Char c) = refl
-takes_same stores (pattern.Mark m) = refl
-takes_same stores (pattern.Any s) = refl
-takes_same stores (pattern.NotAny s) = refl
-takes_same stores (pattern.Index s offset) = refl
-takes_same stores (pattern.ContextAt offset) = refl
-takes_same stores (pattern.Equal s value) = refl
-takes_same stores (pattern.Unequal s value) = refl
-takes_same stores pattern.Nul = refl
-
 -- where an item stands to a pattern, or doesn't
 if_caught : (fits : Bool) (one catch : Catch) (rest : Catch → Option (List Catch)) → Some catch ≡ (if fits then Some one else None)
     → (if fits then rest one else None) ≡ rest catch

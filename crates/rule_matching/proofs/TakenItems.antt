@@ -6,16 +6,17 @@ use Rattle.std.proofs.lemmas.List.{drop_all, drop_more, map-append}
 use Rattle.std.proofs.lemmas.Option.{slice_get-map}
 use Rattle.kmn_base.specs.declared.items.Item.{Item}
 use Rattle.rule_model.specs.declared.event_state.Catch.{Catch}
-use Rattle.rule_model.specs.declared.tables.Pat.{Pat}
-use Rattle.rule_model.specs.declared.tables.Pat.TheVariants.{Char}
 use Rattle.rule_model.specs.declared.tables.Store.{Store}
 use Rattle.rule_model.specs.Keyboard.{IsAny, IsNotAny, Numbered, Pattern}
 use Rattle.rule_model.specs.Match.{Content, catch_at, place_caught, place_of, takes_item}
-use Rattle.rule_model.specs.Tab.{tab_pattern}
+use Rattle.file_parts.specs.declared.context_item.ContextItem.{ContextItem}
+use Rattle.file_parts.specs.declared.context_item.ContextItem.TheVariants.{Char}
+use Rattle.file_parts.specs.ContextItems.{pattern_of}
 use Rattle.rule_matching.specs.declared.taken.Taken.{Taken}
-use Rattle.rule_matching.specs.Matching.{allowed_catches, catch_of, caught_by_taken, item_before, place_before, taken_at}
+use Rattle.rule_matching.specs.Matching.{allowed_catches, catch_of, caught_by_taken, item_before, item_meaning, place_before, taken_at}
 use Rattle.rule_matching.proofs.AllowedContexts.{allowed_catches_none, allowed_with_item}
-use Rattle.rule_matching.proofs.KnownPlaces.{caught_ahead, item_there, some_ahead, takes_same, uncaught_ahead}
+use Rattle.rule_matching.proofs.KnownPlaces.{caught_ahead, item_there, some_ahead, uncaught_ahead}
+use Rattle.rule_model.proofs.PlainContexts.{takes_same}
 
 module _ (content : Content) (left : List Item) where
   abbrev caught : Taken → Catch
@@ -66,14 +67,14 @@ module _ (content : Content) (left : List Item) where
         ∙ (ap (λ (given : Option Item). if not (is_some (place given)) then Some (whole given) else None) found.1
         ∙ sym (ap (option_and_then (catch_of content seen (IsNotAny (Numbered store)))) found.1)))
 
-  module _ (whole : Bool) (stores : List Store) (context : List Pat) (index ahead : ℕ) (taken : List Taken) (all : Option (List Catch))
+  module _ (whole : Bool) (stores : List Store) (context : List ContextItem) (index ahead : ℕ) (taken : List Taken) (all : Option (List Catch))
       (few : ahead ≤ length left)
-      (same : allowed_catches content whole (map caught taken) (map (tab_pattern stores) (drop index context)) (drop (length left - ahead) left) ≡ all) where
+      (same : allowed_catches content whole (map caught taken) (map (item_meaning stores) (drop index context)) (drop (length left - ahead) left) ≡ all) where
     abbrev here : Pattern
-    here = tab_pattern stores (get_or context index (Char 0))
+    here = item_meaning stores (get_or context index (Char 0))
 
     abbrev behind : List Pattern
-    behind = map (tab_pattern stores) (drop (index + 1) context)
+    behind = map (item_meaning stores) (drop (index + 1) context)
 
     -- what a pattern catches of the next item
     abbrev next : Option Catch
@@ -84,16 +85,16 @@ module _ (content : Content) (left : List Item) where
     from_here within some =
         let one : ahead - 1 + 1 ≡ ahead = omega (arith, some) in
         ap (λ (n : ℕ). allowed_catches content whole (map caught taken) (here ∷ behind) (drop (length left - n) left)) one
-        ∙ (ap (λ (patterns : List Pat). allowed_catches content whole (map caught taken) (map (tab_pattern stores) patterns) (drop (length left - ahead) left))
+        ∙ (ap (λ (items : List ContextItem). allowed_catches content whole (map caught taken) (map (item_meaning stores) items) (drop (length left - ahead) left))
         (sym (drop_more context index (Char 0) within))
         ∙ same)
 
     -- where the pattern takes an item, the others catch it behind that
-    pub one_is_taken : index < length context → 0 < ahead → true ≡ takes_item (tab_pattern [] (get_or context index (Char 0)))
+    pub one_is_taken : index < length context → 0 < ahead → true ≡ takes_item (item_meaning [] (get_or context index (Char 0)))
         → (one : Taken) (more : List Taken) → Some (caught one) ≡ next → more ≡ taken ++ one ∷ []
         → allowed_catches content whole (map caught more) behind (drop (length left - (ahead - 1)) left) ≡ all
     one_is_taken within some takes one more is grown =
-        let item : takes_item here ≡ true = takes_same stores (get_or context index (Char 0)) ∙ sym takes in
+        let item : takes_item here ≡ true = takes_same stores (pattern_of (get_or context index (Char 0))) ∙ sym takes in
         let inside : ahead - 1 < length left = omega (arith, some, few) in
         ap (λ (seen : List Catch). allowed_catches content whole seen behind (drop (length left - (ahead - 1)) left))
         (ap (map caught) grown ∙ map-append caught taken (one ∷ []))
@@ -102,9 +103,9 @@ module _ (content : Content) (left : List Item) where
         ∙ from_here within some)
 
     -- where it takes none, nothing is caught
-    pub none_is_taken : index < length context → 0 < ahead → true ≡ takes_item (tab_pattern [] (get_or context index (Char 0))) → None ≡ next → None ≡ all
+    pub none_is_taken : index < length context → 0 < ahead → true ≡ takes_item (item_meaning [] (get_or context index (Char 0))) → None ≡ next → None ≡ all
     none_is_taken within some takes is =
-        let item : takes_item here ≡ true = takes_same stores (get_or context index (Char 0)) ∙ sym takes in
+        let item : takes_item here ≡ true = takes_same stores (pattern_of (get_or context index (Char 0))) ∙ sym takes in
         let inside : ahead - 1 < length left = omega (arith, some, few) in
         sym (allowed_catches_none content whole (map caught taken) (here ∷ behind) (drop (length left - (ahead - 1 + 1)) left)
         (uncaught_ahead content (map caught taken) here behind left item (ahead - 1) inside is))
@@ -115,7 +116,7 @@ module _ (content : Content) (left : List Item) where
     all_is_taken beyond =
         let text : ℕ → List Item = λ (n : ℕ). drop (length left - n) left in
         let last : allowed_catches content whole (map caught taken) [] (text ahead) ≡ all
-        = ap (λ (patterns : List Pat). allowed_catches content whole (map caught taken) (map (tab_pattern stores) patterns) (text ahead)) (sym (drop_all index context beyond))
+        = ap (λ (items : List ContextItem). allowed_catches content whole (map caught taken) (map (item_meaning stores) items) (text ahead)) (sym (drop_all index context beyond))
         ∙ same in
         elim (cases_Bool (nat_eq ahead 0)) [
           | inl ended ↦

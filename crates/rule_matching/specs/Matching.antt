@@ -6,11 +6,14 @@ use Rattle.std.specs.List.{list_all}
 use Rattle.kmn_base.specs.declared.items.Item.{Item}
 use Rattle.rule_model.specs.declared.event_state.Catch.{Catch}
 use Rattle.rule_model.specs.declared.event_state.Caught.{Caught}
+use Rattle.rule_model.specs.declared.tables.Store.{Store}
 use Rattle.rule_model.specs.declared.tables.Tables.{Tables}
 use Rattle.rule_model.specs.Keyboard.{Numbered, Pattern}
 use Rattle.rule_model.specs.Match.{Content, catches_from, matches, place_for, place_of}
 use Rattle.rule_model.specs.Hold.{is_true, is_at_start}
-use Rattle.rule_model.specs.Tab.{elements_of}
+use Rattle.rule_model.specs.Tab.{elements_of, tab_pattern}
+use Rattle.file_parts.specs.declared.context_item.ContextItem.{ContextItem}
+use Rattle.file_parts.specs.ContextItems.{pattern_of}
 use Rattle.rule_matching.specs.declared.place_memory.PlaceMemory.{PlaceMemory}
 use Rattle.rule_matching.specs.declared.taken.Taken.{Taken}
 use Rattle.rule_matching.specs.KnownPlaces.{known_place}
@@ -38,6 +41,10 @@ pub record IsMarkedRight (tables : Tables) (left : List Item) (marking : Marking
 pub record RemembersRight (moment : MomentValue) (left : List Item) (memory : PlaceMemory) : Type 0 where
   pub right : (store distance : ℕ) (place : Option ℕ) → known_place memory.found store distance ≡ Some place → place ≡ place_before (content_at moment) left store distance
   pub marks : IsMarkedRight moment.tables left memory.marks
+
+-- what an item of a context in the numbers of a file means
+abbrev pub item_meaning : List Store → ContextItem → Pattern
+item_meaning stores item = tab_pattern stores (pattern_of item)
 
 -- what was taken at an offset, which counts from 1
 abbrev pub taken_at : List Taken → ℕ → Option Taken

@@ -95,7 +95,8 @@ impl KnownPlaces {
 
     /// Room for no store, without any memory.
     pub fn without_room(alloc: Global) -> KnownPlaces
-        ensures { (store distance : ℕ) → known_place result store distance ≡ None }
+        ensures unknown { (store distance : ℕ) → known_place result store distance ≡ None }
+        ensures room { room result ≡ 0 }
     {
         KnownPlaces {
             choice: 0,
@@ -103,13 +104,23 @@ impl KnownPlaces {
         }
     }
 
-    /// Begins another choice, of which nothing is known.
+    /// Nothing is known of each store at the first choice.
+    fn begin_anew(&mut self)
+        ensures unknown { (store distance : ℕ) → known_place self.new store distance ≡ None }
+        ensures room { room self.new ≡ room self.old }
+    {
+        self.choice = 0;
+        self.stores.as_mut_slice().fill(StorePlaces::blank(0));
+    }
+
+    /// Begins another choice, of which nothing is known; where there is no further number for it, the first one again.
     pub fn forget(&mut self)
-        ensures { (store distance : ℕ) → known_place self.new store distance ≡ None }
+        ensures unknown { (store distance : ℕ) → known_place self.new store distance ≡ None }
+        ensures room { room self.new ≡ room self.old }
     {
         match self.choice.checked_add(1) {
             Some(choice) => self.choice = choice,
-            None => self.stores.clear(),
+            None => self.begin_anew(),
         }
     }
 

@@ -14,6 +14,7 @@
 #![tactic(auto)]
 
 mod caught;
+mod choice;
 mod contents;
 mod elements;
 mod host_text;

@@ -3,7 +3,7 @@ ghost use Rattle.kmn_base.specs.declared.limits.TheConstants.{WINDOW_ITEMS};
 ghost use Rattle.rule_matching.specs.Matching.{place_in_file, IsMarkedRight, RemembersRight};
 ghost use Rattle.rule_matching.specs.StoreMarks.{is_known, marked_room};
 
-use crate::moment::Moment;
+use crate::choice::Choice;
 use crate::place_memory::PlaceMemory;
 use crate::places::item_before;
 use crate::store_marks::StoreMarks;
@@ -11,36 +11,35 @@ use kmn_base::Item;
 
 /// Marks the stores of the file that have the item which so many items stand behind, once while the list stands still.
 #[inline(always)]
-fn mark_distance(moment: &Moment<'_>, left: &[Item], distance: usize, marks: &mut StoreMarks)
-    requires within { distance < length left.now }
+fn mark_distance(choice: &Choice<'_>, distance: usize, marks: &mut StoreMarks)
+    requires within { distance < length choice.now.left.now }
     requires near { distance < WINDOW_ITEMS }
-    requires right { IsMarkedRight moment.now.tables left.now marks.old }
+    requires right { IsMarkedRight choice.now.moment.now.tables choice.now.left.now marks.old }
     ensures known { is_known marks.new distance ≡ true }
     ensures room { marked_room marks.new ≡ marked_room marks.old }
-    ensures right { IsMarkedRight moment.now.tables left.now marks.new }
+    ensures right { IsMarkedRight choice.now.moment.now.tables choice.now.left.now marks.new }
 {
     if marks.is_known(distance) {
         return;
     }
-    marks.mark(distance, moment.holders(item_before(left, distance)));
+    marks.mark(distance, choice.moment.holders(item_before(choice.left, distance)));
 }
 
 /// Whether that item is in a store of the file that there are marks of.
 #[inline(always)]
 pub fn is_marked(
-    moment: &Moment<'_>,
-    left: &[Item],
+    choice: &Choice<'_>,
     distance: usize,
     store: u32,
     places: &mut PlaceMemory,
 ) -> bool
-    requires within { distance < length left.now }
+    requires within { distance < length choice.now.left.now }
     requires near { distance < WINDOW_ITEMS }
     requires room { store < marked_room places.old.marks }
-    requires right { RemembersRight moment.now left.now places.old }
-    ensures value { result ≡ is_some (place_in_file moment.now.tables left.now store distance) }
-    ensures right { RemembersRight moment.now left.now places.new }
+    requires right { RemembersRight choice.now.moment.now choice.now.left.now places.old }
+    ensures value { result ≡ is_some (place_in_file choice.now.moment.now.tables choice.now.left.now store distance) }
+    ensures right { RemembersRight choice.now.moment.now choice.now.left.now places.new }
 {
-    mark_distance(moment, left, distance, &mut places.marks);
+    mark_distance(choice, distance, &mut places.marks);
     places.marks.is_marked(store, distance)
 }

@@ -49,9 +49,10 @@ impl<'a> Moment<'a> {
         Moment { indexed, options }
     }
 
-    /// The store of the file whose elements a store has now, None where it has a text of the host.
+    /// The store of the file whose elements a store has now, None where it has a text of the host. To answer None always would
+    /// be right too, and cost the look-up of each place.
     #[inline(always)]
-    pub fn held_store(&self, store: u32) -> Option<u32>
+    pub(crate) fn held_store(&self, store: u32) -> Option<u32>
         ensures { IfSome result (λ held. content_at self.now (Numbered store) ≡ elements_of self.now.tables.stores held) }
     {
         match held_now(self.indexed, self.options, store) {
@@ -62,7 +63,7 @@ impl<'a> Moment<'a> {
 
     /// The stores of the file that have an item.
     #[inline(never)]
-    pub fn holders(&self, item: Item) -> &[Holding]
+    pub(crate) fn holders(&self, item: Item) -> &[Holding]
         ensures { AreHoldersOf item (elements_of self.now.tables.stores) result.now }
     {
         self.indexed.holders(item)

@@ -33,7 +33,9 @@ impl PlaceMemory {
 
     /// Room for no store, without any memory.
     pub fn without_room(alloc: Global) -> PlaceMemory
-        ensures { KnowsNothing result }
+        ensures unknown { KnowsNothing result }
+        ensures room { room result.found ≡ 0 }
+        ensures marked_room { marked_room result.marks ≡ 0 }
     {
         PlaceMemory {
             found: KnownPlaces::without_room(alloc),
@@ -43,7 +45,9 @@ impl PlaceMemory {
 
     /// Begins another choice, of which nothing is known.
     pub fn forget(&mut self)
-        ensures { KnowsNothing self.new }
+        ensures unknown { KnowsNothing self.new }
+        ensures room { room self.new.found ≡ room self.old.found }
+        ensures marked_room { marked_room self.new.marks ≡ marked_room self.old.marks }
     {
         self.found.forget();
         self.marks.forget();

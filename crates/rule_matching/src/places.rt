@@ -5,7 +5,7 @@ ghost use Rattle.rule_matching.specs.Moment.{content_at};
 
 use crate::caught::Found;
 use crate::marked::is_marked;
-use crate::moment::Moment;
+use crate::choice::Choice;
 use crate::place_memory::PlaceMemory;
 use crate::taken::{Taken, taken_at};
 use arrayvec::ArrayVec;
@@ -35,18 +35,17 @@ pub fn item_at(left: &[Item], distance: usize) -> Option<Item>
 /// Looks for the first place of that item in what a store has, which is known then while the moment and the list stand still.
 #[inline(never)]
 fn look_for(
-    moment: &Moment<'_>,
-    left: &[Item],
+    choice: &Choice<'_>,
     distance: usize,
     store: u32,
     places: &mut PlaceMemory,
 ) -> Option<usize>
-    requires within { distance < length left.now }
-    requires right { RemembersRight moment.now left.now places.old }
-    ensures place { result ≡ place_before (content_at moment.now) left.now store distance }
-    ensures right { RemembersRight moment.now left.now places.new }
+    requires within { distance < length choice.now.left.now }
+    requires right { RemembersRight choice.now.moment.now choice.now.left.now places.old }
+    ensures place { result ≡ place_before (content_at choice.now.moment.now) choice.now.left.now store distance }
+    ensures right { RemembersRight choice.now.moment.now choice.now.left.now places.new }
 {
-    let place = moment.place_of(store, item_before(left, distance));
+    let place = choice.moment.place_of(store, item_before(choice.left, distance));
     places.found.remember(store, distance, place);
     place
 }
@@ -54,22 +53,21 @@ fn look_for(
 /// The first place of that item in what a store has, None where there is no such item. It is looked for once.
 #[tactic(auto, using(crate::proofs::KnownPlaces::place_beyond))]
 fn place_before(
-    moment: &Moment<'_>,
-    left: &[Item],
+    choice: &Choice<'_>,
     distance: usize,
     store: u32,
     places: &mut PlaceMemory,
 ) -> Option<usize>
-    requires { RemembersRight moment.now left.now places.old }
-    ensures place { result ≡ place_before (content_at moment.now) left.now store distance }
-    ensures right { RemembersRight moment.now left.now places.new }
+    requires { RemembersRight choice.now.moment.now choice.now.left.now places.old }
+    ensures place { result ≡ place_before (content_at choice.now.moment.now) choice.now.left.now store distance }
+    ensures right { RemembersRight choice.now.moment.now choice.now.left.now places.new }
 {
-    if distance >= left.len() {
+    if distance >= choice.left.len() {
         return None;
     }
     match places.found.known(store, distance) {
         Some(place) => place,
-        None => look_for(moment, left, distance, store, places),
+        None => look_for(choice, distance, store, places),
     }
 }
 
@@ -77,72 +75,68 @@ fn place_before(
 #[inline(always)]
 #[tactic(auto, using(crate::proofs::Holders::in_what_is_held))]
 pub fn is_in_store(
-    moment: &Moment<'_>,
-    left: &[Item],
+    choice: &Choice<'_>,
     distance: usize,
     store: u32,
     places: &mut PlaceMemory,
 ) -> bool
-    requires within { distance < length left.now }
-    requires right { RemembersRight moment.now left.now places.old }
-    ensures value { result ≡ is_some (place_before (content_at moment.now) left.now store distance) }
-    ensures right { RemembersRight moment.now left.now places.new }
+    requires within { distance < length choice.now.left.now }
+    requires right { RemembersRight choice.now.moment.now choice.now.left.now places.old }
+    ensures value { result ≡ is_some (place_before (content_at choice.now.moment.now) choice.now.left.now store distance) }
+    ensures right { RemembersRight choice.now.moment.now choice.now.left.now places.new }
 {
-    match moment.held_store(store) {
+    match choice.moment.held_store(store) {
         Some(value) if distance < WINDOW_ITEMS && places.marks.has_room(value) => {
-            is_marked(moment, left, distance, value, places)
+            is_marked(choice, distance, value, places)
         }
-        _ => place_before(moment, left, distance, store, places).is_some(),
+        _ => place_before(choice, distance, store, places).is_some(),
     }
 }
 
 /// The place in its store of what was taken, where an `any` took it.
 fn place_of_taken(
-    moment: &Moment<'_>,
-    left: &[Item],
+    choice: &Choice<'_>,
     taken: Taken,
     places: &mut PlaceMemory,
 ) -> Option<usize>
-    requires { RemembersRight moment.now left.now places.old }
-    ensures place { result ≡ (caught_by_taken (content_at moment.now) left.now taken).place }
-    ensures right { RemembersRight moment.now left.now places.new }
+    requires { RemembersRight choice.now.moment.now choice.now.left.now places.old }
+    ensures place { result ≡ (caught_by_taken (content_at choice.now.moment.now) choice.now.left.now taken).place }
+    ensures right { RemembersRight choice.now.moment.now choice.now.left.now places.new }
 {
-    place_before(moment, left, taken.distance, taken.store?, places)
+    place_before(choice, taken.distance, taken.store?, places)
 }
 
 /// The place in its store of what was taken at an offset, where an `any` took it.
 #[tactic(auto, using(crate::proofs::TakenItems::place_is_caught))]
 pub fn place_taken(
-    moment: &Moment<'_>,
-    left: &[Item],
+    choice: &Choice<'_>,
     taken: &[Taken],
-    offset: u32,
+    offset: u16,
     places: &mut PlaceMemory,
 ) -> Option<usize>
-    requires { RemembersRight moment.now left.now places.old }
-    ensures place { result ≡ place_caught (map (caught_by_taken (content_at moment.now) left.now) taken.now) offset }
-    ensures right { RemembersRight moment.now left.now places.new }
+    requires { RemembersRight choice.now.moment.now choice.now.left.now places.old }
+    ensures place { result ≡ place_caught (map (caught_by_taken (content_at choice.now.moment.now) choice.now.left.now) taken.now) offset }
+    ensures right { RemembersRight choice.now.moment.now choice.now.left.now places.new }
 {
-    place_of_taken(moment, left, taken_at(taken, offset)?, places)
+    place_of_taken(choice, taken_at(taken, offset)?, places)
 }
 
 /// What was found by what was taken: of each `any` the place too.
 pub fn found_of(
-    moment: &Moment<'_>,
-    left: &[Item],
+    choice: &Choice<'_>,
     taken: &[Taken],
     places: &mut PlaceMemory,
 ) -> ArrayVec<Found, 60>
     requires few { length taken.now ≤ 60 }
-    requires right { RemembersRight moment.now left.now places.old }
-    ensures found { result.items ≡ map (caught_by_taken (content_at moment.now) left.now) taken.now }
-    ensures right { RemembersRight moment.now left.now places.new }
+    requires right { RemembersRight choice.now.moment.now choice.now.left.now places.old }
+    ensures found { result.items ≡ map (caught_by_taken (content_at choice.now.moment.now) choice.now.left.now) taken.now }
+    ensures right { RemembersRight choice.now.moment.now choice.now.left.now places.new }
 {
     let mut found = ArrayVec::new();
     for one in taken {
-        let place = place_of_taken(moment, left, *one, places);
+        let place = place_of_taken(choice, *one, places);
         found.push(Found {
-            item: item_at(left, one.distance),
+            item: item_at(choice.left, one.distance),
             place,
         });
     }

@@ -127,7 +127,8 @@ impl StoreMarks {
 
     /// Room for no store, without any memory.
     pub fn without_room(alloc: Global) -> StoreMarks
-        ensures { (distance : ℕ) → is_known result distance ≡ false }
+        ensures unknown { (distance : ℕ) → is_known result distance ≡ false }
+        ensures room { marked_room result ≡ 0 }
     {
         StoreMarks {
             choice: 0,
@@ -136,14 +137,27 @@ impl StoreMarks {
         }
     }
 
-    /// Begins another choice, of which nothing is known.
-    pub fn forget(&mut self)
-        ensures { (distance : ℕ) → is_known self.new distance ≡ false }
+    /// No store has a mark at the first choice.
+    fn begin_anew(&mut self)
+        ensures unknown { (distance : ℕ) → is_known self.new distance ≡ false }
+        ensures room { marked_room self.new ≡ marked_room self.old }
     {
         self.known = 0;
+        self.choice = 0;
+        self.marks.as_mut_slice().fill(Marks::none(0));
+    }
+
+    /// Begins another choice, of which nothing is known; where there is no further number for it, the first one again.
+    pub fn forget(&mut self)
+        ensures unknown { (distance : ℕ) → is_known self.new distance ≡ false }
+        ensures room { marked_room self.new ≡ marked_room self.old }
+    {
         match self.choice.checked_add(1) {
-            Some(choice) => self.choice = choice,
-            None => self.marks.clear(),
+            Some(choice) => {
+                self.known = 0;
+                self.choice = choice;
+            }
+            None => self.begin_anew(),
         }
     }
 

@@ -13,14 +13,14 @@ pub struct Taken {
 }
 
 /// What was taken at an offset, which counts from 1.
-pub fn taken_at(taken: &[Taken], offset: u32) -> Option<Taken>
+pub fn taken_at(taken: &[Taken], offset: u16) -> Option<Taken>
     ensures { result ≡ taken_at taken.now offset }
 {
-    taken.get((offset as usize).checked_sub(1)?).copied()
+    taken.get((usize::from(offset)).checked_sub(1)?).copied()
 }
 
 /// The item that was taken at an offset.
-pub fn item_taken(left: &[Item], taken: &[Taken], offset: u32) -> Option<Item>
+pub fn item_taken(left: &[Item], taken: &[Taken], offset: u16) -> Option<Item>
     ensures { result ≡ option_and_then (λ one. item_before left.now one.distance) (taken_at taken.now offset) }
 {
     item_at(left, taken_at(taken, offset)?.distance)

@@ -14,7 +14,8 @@ use Rattle.rule_model.specs.Hold.{is_at_start, pattern_count, has_room}
 use Rattle.rule_model.specs.Tab.{tab_pattern}
 use Rattle.rule_model.specs.Plain.{caught_last}
 
-takes_same : (stores : List Store) (p : Pat) → takes_item (tab_pattern stores p) ≡ takes_item (tab_pattern [] p)
+-- whether a pattern looks at an item, whatever the stores are
+pub takes_same : (stores : List Store) (p : Pat) → takes_item (tab_pattern stores p) ≡ takes_item (tab_pattern [] p)
 takes_same stores (pattern.Char c) = refl
 takes_same stores (pattern.Mark m) = refl
 takes_same stores (pattern.Any s) = refl
@@ -36,7 +37,8 @@ start_same stores (pattern.Equal s value) = refl
 start_same stores (pattern.Unequal s value) = refl
 start_same stores pattern.Nul = refl
 
-pattern_count_same : (stores : List Store) (context : List Pat) → pattern_count (map (tab_pattern stores) context) ≡ pattern_count (map (tab_pattern []) context)
+-- a context takes as many items whatever the stores are
+pub pattern_count_same : (stores : List Store) (context : List Pat) → pattern_count (map (tab_pattern stores) context) ≡ pattern_count (map (tab_pattern []) context)
 pattern_count_same stores [] = refl
 pattern_count_same stores (p ∷ ps) =
     sum_by-cons (λ q. cond (takes_item q) 1 0) (tab_pattern stores p) (map (tab_pattern stores) ps)

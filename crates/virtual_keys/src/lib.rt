@@ -2,14 +2,16 @@
 //! key of a rule fits, and the names of a keyboard's own keys.
 //!
 //! It stands on `kmn_base` for the types of keys and for comparing names, on `arrayvec` for the characters of a name
-//! and on `indexmap` for the dictionary. No look-up takes memory. The layer above uses `fits` and `char_of`, whose
-//! answers are `key_fits` and `char_of_press` of `specs/Fits`, the tables of `specs/Keys`, and `KeyDictionary`, which
-//! contracts see as the list of its names by the words of `specs/Dictionary`. `codes` names the keys that edit.
+//! and on `indexmap` for the dictionary. No look-up takes memory. The layer above asks `Pressed` whether a key
+//! fits and `char_of` for a press's character, whose answers are `key_fits` and `char_of_press` of `specs/Fits`. It uses the
+//! tables of `specs/Keys`, and `KeyDictionary`, which contracts see as the list of its names by the words of
+//! `specs/Dictionary`. `codes` names the keys that edit.
 #![tactic(auto)]
 
 pub mod codes;
 mod dictionary;
 mod names;
+mod pressed;
 mod presses;
 mod tables;
 #[cfg(test)]
@@ -18,5 +20,6 @@ mod unicode_names;
 
 pub use dictionary::KeyDictionary;
 pub use names::{key_named, modifier_named, name_of};
-pub use presses::{char_of, fits, is_plain};
+pub use pressed::Pressed;
+pub use presses::{char_of, is_plain};
 pub use unicode_names::named_chars;

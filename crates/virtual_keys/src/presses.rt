@@ -1,9 +1,9 @@
 ghost use Rattle.std.specs.Prelude.{◌≡◌, IsTrue};
-ghost use Rattle.virtual_keys.specs.Fits.{has, has_either, letter, is_letter, character_in, us_character, caps_fit, sides_fit, flags_fit, is_plain, char_of_press, key_fits};
+ghost use Rattle.virtual_keys.specs.Fits.{has, has_either, letter, is_letter, character_in, us_character, caps_fit, sides_fit, flags_fit, is_plain, char_of_press};
 ghost use Rattle.virtual_keys.specs.Keys.{us_characters};
 
 use crate::tables::US_CHARACTERS;
-use kmn_base::{KeyPress, RuleKey};
+use kmn_base::KeyPress;
 
 // The bits of shift flags. A press has the sides, shift and caps lock at the same bits.
 const LEFT_CONTROL: u32 = 0x0001;
@@ -126,24 +126,11 @@ fn sides_fit(either: u32, left: u32, right: u32, flags: u32, mods: u32) -> bool
 }
 
 /// Whether the held modifiers are those that the shift flags want.
-fn flags_fit(flags: u32, mods: u32) -> bool
+pub fn flags_fit(flags: u32, mods: u32) -> bool
     ensures { result ≡ flags_fit flags mods }
 {
     has(flags, SHIFT) == has(mods, SHIFT)
         && caps_fit(flags, mods)
         && sides_fit(EITHER_CONTROL, LEFT_CONTROL, RIGHT_CONTROL, flags, mods)
         && sides_fit(EITHER_ALT, LEFT_ALT, RIGHT_ALT, flags, mods)
-}
-
-/// Whether the key of a rule fits a press.
-#[tactic(auto, unfolding(crate::specs::Fits::key_fits))]
-pub fn fits(key: RuleKey, press: KeyPress) -> bool
-    ensures { result ≡ key_fits key press }
-{
-    match key {
-        RuleKey::Any => true,
-        RuleKey::Char(unit) => char_of(press).is_some_and(|given| given as u32 == u32::from(unit)),
-        RuleKey::Virtual { flags, code } => code == press.code
-            && flags_fit(flags, u32::from(press.mods)),
-    }
 }

@@ -1,7 +1,7 @@
 //! Keys by name and press, and the names of own keys.
 
 use crate::{
-    KeyDictionary, char_of, fits, is_plain, key_named, modifier_named, name_of, named_chars,
+    KeyDictionary, Pressed, char_of, is_plain, key_named, modifier_named, name_of, named_chars,
 };
 use kmn_base::{KeyPress, RuleKey};
 use std::alloc::Global;
@@ -30,7 +30,7 @@ fn is_right(row: (&str, u16, u16, Option<char>, u32, bool)) -> bool {
         && name_of(code) == Some(name.as_bytes())
         && char_of(press) == given
         && is_plain(press) == (mods % 16 == 0)
-        && fits(RuleKey::Virtual { flags, code }, press) == fit
+        && Pressed::of(press).fits(RuleKey::Virtual { flags, code }) == fit
 }
 
 /// Whether own names get the codes that they should.

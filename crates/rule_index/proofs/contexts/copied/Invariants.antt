@@ -1,5 +1,5 @@
 use Rattle.std.proofs.Common.{◌≡◌, ◌++◌}
 use Rattle.rule_index.proofs.contexts.copied.Given as goal
 
-abbrev pub invariant-loop-pattern : goal.invariant-loop-pattern
-invariant-loop-pattern l = l.copied.items ++ l.pattern-iterator ≡ l.fn.context
+abbrev pub invariant-loop-item : goal.invariant-loop-item
+invariant-loop-item l = l.copied.items ++ l.item-iterator ≡ l.fn.context

@@ -1,4 +1,6 @@
 use Rattle.std.proofs.Common.{◌≡◌, ◌+◌, ◌-◌, ◌<◌, ◌≤◌, List, map, Option, Some, None, length, sym, ◌∙◌, ap, arith}
+use Rattle.std.specs.Prelude.{option_map, slice_get}
+use Rattle.kmn_base.specs.declared.keys.KeyPress.{KeyPress}
 use Rattle.rule_index.specs.Classes.{wanted_classes}
 use Rattle.rule_index.specs.Next.{IsNext}
 use Rattle.rule_index.specs.Walk.{CandidatesValue}
@@ -9,7 +11,7 @@ use Rattle.rule_model.specs.Match.{Content}
 use Rattle.rule_model.specs.Tab.{tab_rule}
 use Rattle.rule_matching.specs.declared.taken.Taken.{Taken}
 use Rattle.rule_matching.specs.Matching.{caught_by_taken}
-use Rattle.rule_matching.specs.Moment.{content_at}
+use Rattle.rule_matching.specs.Moment.{content_at, held_record}
 use Rattle.rule_matching.proofs.Candidates.{classes_of, first_from, walked, candidate_within, candidate_holds, candidate_passed, none_left}
 use Rattle.rule_matching.proofs.matching.first_held.Goals as goal
 use Rattle.rule_matching.proofs.matching.first_held.Goals.{In-Some}
@@ -34,10 +36,11 @@ returns-in-Some-held_record c =
     let content : Content = content_at c.args.moment.now in
     let caught : List Taken → List Catch = map (caught_by_taken content c.args.left.now) in
     let whole : List Catch → Option Chosen = λ (catches : List Catch). Some (tab_rule c.args.moment.now.tables.stores c.args.group.now.using_keys c.in-Some-held_record.rule, record { catches = catches; key_place = None }) in
-    ap (λ (all : Caught). Some (tab_rule c.args.moment.now.tables.stores c.args.group.now.using_keys c.in-Some-held_record.rule, all)) c.of.ensures
+    ap (λ (all : Caught). Some (tab_rule c.args.moment.now.tables.stores c.args.group.now.using_keys c.in-Some-held_record.rule, all)) c.of-in-Some-held_record.ensures
     ∙ (ap whole (c.found_of-found.ensures.found ∙ ap caught c.as_slice.ensures.value)
     ∙ (sym (candidate_holds content c.args.left.now c.args.press c.args.moment.now.tables.stores c.args.group.now.using_keys c.args.group.now.rules
-    c.loop-number.candidates.from c.in-Some.number (next (goal.at.returns-in-Some-held_record c).In-Some) _ (sym c.in-Some-held_record.ensures.held))
+    c.loop-number.candidates.from c.in-Some.number (next (goal.at.returns-in-Some-held_record c).In-Some) _ (sym (c.in-Some-held_record.ensures.held ∙ ap (λ (press : KeyPress). held_record content c.args.left.now press (option_map (tab_rule c.args.moment.now.tables.stores c.args.group.now.using_keys)
+    (slice_get c.args.group.now.rules c.in-Some.number))) c.of.ensures)))
     ∙ c.loop-number.invariant.same))
 
 pub loop-number-smaller : goal.loop-number-smaller
@@ -58,7 +61,8 @@ loop-number-preserved c =
       within = omega (arith, here.1, on);
       same = ap (first_from (content_at c.args.moment.now) c.args.left.now c.args.press c.args.moment.now.tables.stores c.args.group.now.using_keys c.args.group.now.rules) on
           ∙ (sym (candidate_passed (content_at c.args.moment.now) c.args.left.now c.args.press c.args.moment.now.tables.stores c.args.group.now.using_keys c.args.group.now.rules
-          c.loop-number.candidates.from c.in-Some.number (next (goal.at.loop-number-preserved c).In-Some) (sym c.in_default-held_record.ensures.held))
+          c.loop-number.candidates.from c.in-Some.number (next (goal.at.loop-number-preserved c).In-Some) (sym (c.in_default-held_record.ensures.held ∙ ap (λ (press : KeyPress). held_record (content_at c.args.moment.now) c.args.left.now press (option_map (tab_rule c.args.moment.now.tables.stores c.args.group.now.using_keys)
+          (slice_get c.args.group.now.rules c.in-Some.number))) c.of.ensures)))
           ∙ c.loop-number.invariant.same);
       right = c.in_default-held_record.ensures.right;
     }

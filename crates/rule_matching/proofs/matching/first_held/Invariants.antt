@@ -8,11 +8,11 @@ use Rattle.rule_matching.proofs.matching.first_held.Given as goal
 abbrev pub invariant-loop-number : goal.invariant-loop-number
 invariant-loop-number l = record {
   rows : l.candidates.rows ≡ l.records.rows;
-  wanted : l.candidates.wanted ≡ wanted_classes l.press l.left;
+  wanted : l.candidates.wanted ≡ wanted_classes l.fn.press l.choice.left.now;
   within : l.candidates.from ≤ length l.group.rules;
-  same : first_from (content_at l.moment) l.left l.press l.moment.tables.stores l.group.using_keys l.group.rules l.candidates.from
-      ≡ first_from (content_at l.moment) l.left l.press l.moment.tables.stores l.group.using_keys l.group.rules 0;
-  right : RemembersRight l.moment l.left l.places;
+  same : first_from (content_at l.choice.moment.now) l.choice.left.now l.fn.press l.choice.moment.now.tables.stores l.group.using_keys l.group.rules l.candidates.from
+      ≡ first_from (content_at l.choice.moment.now) l.choice.left.now l.fn.press l.choice.moment.now.tables.stores l.group.using_keys l.group.rules 0;
+  right : RemembersRight l.choice.moment.now l.choice.left.now l.places;
 }
 
 abbrev pub decreases-loop-number : goal.decreases-loop-number

@@ -2,60 +2,59 @@ use Rattle.std.proofs.Common.{◌-◌, ◌+◌, ◌<◌, List, length, map, get_
 use Rattle.std.specs.Prelude.{nat_eq, option_and_then}
 use Rattle.kmn_base.specs.declared.items.Item.{Item}
 use Rattle.rule_model.specs.declared.event_state.Catch.{Catch}
-use Rattle.rule_model.specs.declared.tables.Pat.{Pat}
-use Rattle.rule_model.specs.declared.tables.Pat.TheVariants.{Char}
+use Rattle.file_parts.specs.declared.context_item.ContextItem.{ContextItem}
+use Rattle.file_parts.specs.declared.context_item.ContextItem.TheVariants.{Char}
 use Rattle.rule_model.specs.declared.tables.Store.{Store}
 use Rattle.rule_model.specs.Match.{Content}
-use Rattle.rule_model.specs.Tab.{tab_pattern}
 use Rattle.rule_matching.specs.declared.taken.Taken.{Taken}
-use Rattle.rule_matching.specs.Matching.{catch_of, caught_by_taken, item_before}
+use Rattle.rule_matching.specs.Matching.{catch_of, caught_by_taken, item_before, item_meaning}
 use Rattle.rule_matching.specs.Moment.{content_at}
 use Rattle.rule_matching.proofs.TakenItems.{one_is_taken, none_is_taken, all_is_taken}
 use Rattle.rule_matching.proofs.matching.takes_context.Goals as goal
 
-pub loop-pattern-preserved : goal.loop-pattern-preserved
-loop-pattern-preserved c =
-    let content : Content = content_at c.args.moment.now in
-    let stores : List Store = c.args.moment.now.tables.stores in
-    let left : List Item = c.args.left.now in
-    let context : List Pat = c.args.context.now in
-    let taken : List Taken = c.loop-pattern.taken.items in
-    let some : 0 < c.loop-pattern.ahead = omega (arith, c.if-ahead-eq0.false) in
+pub loop-item-preserved : goal.loop-item-preserved
+loop-item-preserved c =
+    let content : Content = content_at c.args.choice.now.moment.now in
+    let stores : List Store = c.args.choice.now.moment.now.tables.stores in
+    let left : List Item = c.args.choice.now.left.now in
+    let context : List ContextItem = c.args.context.now in
+    let taken : List Taken = c.loop-item.taken.items in
+    let some : 0 < c.loop-item.ahead = omega (arith, c.if-ahead-eq0.false) in
     let next : List Taken → Option Catch = λ (before : List Taken). option_and_then
-    (catch_of content (map (caught_by_taken content left) before) (tab_pattern stores (get_or context c.loop-pattern.pattern-index (Char 0))))
-    (item_before left (c.loop-pattern.ahead - 1)) in
+    (catch_of content (map (caught_by_taken content left) before) (item_meaning stores (get_or context c.loop-item.item-index (Char 0))))
+    (item_before left (c.loop-item.ahead - 1)) in
     record {
       few = omega (
         arith,
-        length-drop c.loop-pattern.pattern-index context,
-        length-drop (c.loop-pattern.pattern-index + 1) context,
-        c.loop-pattern-test.true,
-        c.loop-pattern.invariant.few,
+        length-drop c.loop-item.item-index context,
+        length-drop (c.loop-item.item-index + 1) context,
+        c.loop-item-test.true,
+        c.loop-item.invariant.few,
         c.push-in-Some.ensures.len,
       );
-      within = omega (arith, c.loop-pattern.invariant.within);
-      same = one_is_taken content left (nat_eq (length left) c.args.count) stores context c.loop-pattern.pattern-index c.loop-pattern.ahead taken _
-          c.loop-pattern.invariant.within c.loop-pattern.invariant.same c.loop-pattern-test.true some c.if-not-takes_item.ensures c.in-Some.one c.push-in-Some.new.self.items
+      within = omega (arith, c.loop-item.invariant.within);
+      same = one_is_taken content left (nat_eq (length left) c.args.count) stores context c.loop-item.item-index c.loop-item.ahead taken _
+          c.loop-item.invariant.within c.loop-item.invariant.same c.loop-item-test.true some c.if-not-takes_item.ensures c.in-Some.one c.push-in-Some.new.self.items
           (c.in-Some.ensures.taken ∙ ap next c.as_slice.ensures.value) c.push-in-Some.ensures.items;
       right = c.in-Some.ensures.right;
     }
 
 pub returns-in-None-clause-taken : goal.returns-in-None-clause-taken
 returns-in-None-clause-taken c =
-    let content : Content = content_at c.args.moment.now in
-    let stores : List Store = c.args.moment.now.tables.stores in
-    let left : List Item = c.args.left.now in
-    let context : List Pat = c.args.context.now in
-    let taken : List Taken = c.loop-pattern.taken.items in
-    let some : 0 < c.loop-pattern.ahead = omega (arith, c.if-ahead-eq0.false) in
+    let content : Content = content_at c.args.choice.now.moment.now in
+    let stores : List Store = c.args.choice.now.moment.now.tables.stores in
+    let left : List Item = c.args.choice.now.left.now in
+    let context : List ContextItem = c.args.context.now in
+    let taken : List Taken = c.loop-item.taken.items in
+    let some : 0 < c.loop-item.ahead = omega (arith, c.if-ahead-eq0.false) in
     let next : List Taken → Option Catch = λ (before : List Taken). option_and_then
-    (catch_of content (map (caught_by_taken content left) before) (tab_pattern stores (get_or context c.loop-pattern.pattern-index (Char 0))))
-    (item_before left (c.loop-pattern.ahead - 1)) in
-    none_is_taken content left (nat_eq (length left) c.args.count) stores context c.loop-pattern.pattern-index c.loop-pattern.ahead taken _
-    c.loop-pattern.invariant.within c.loop-pattern.invariant.same c.loop-pattern-test.true some c.if-not-takes_item.ensures
+    (catch_of content (map (caught_by_taken content left) before) (item_meaning stores (get_or context c.loop-item.item-index (Char 0))))
+    (item_before left (c.loop-item.ahead - 1)) in
+    none_is_taken content left (nat_eq (length left) c.args.count) stores context c.loop-item.item-index c.loop-item.ahead taken _
+    c.loop-item.invariant.within c.loop-item.invariant.same c.loop-item-test.true some c.if-not-takes_item.ensures
     (c.in-None.ensures.taken ∙ ap next c.as_slice.ensures.value)
 
 pub returns-clause-taken : goal.returns-clause-taken
 returns-clause-taken c =
-    all_is_taken (content_at c.args.moment.now) c.args.left.now (nat_eq (length c.args.left.now) c.args.count) c.args.moment.now.tables.stores c.args.context.now
-    c.loop-pattern.pattern-index c.loop-pattern.ahead c.loop-pattern.taken.items _ c.loop-pattern.invariant.within c.loop-pattern.invariant.same c.loop-pattern-test.false
+    all_is_taken (content_at c.args.choice.now.moment.now) c.args.choice.now.left.now (nat_eq (length c.args.choice.now.left.now) c.args.count) c.args.choice.now.moment.now.tables.stores c.args.context.now
+    c.loop-item.item-index c.loop-item.ahead c.loop-item.taken.items _ c.loop-item.invariant.within c.loop-item.invariant.same c.loop-item-test.false

@@ -1,16 +1,15 @@
 use Rattle.std.proofs.Common.{◌≡◌, ◌+◌, ◌-◌, ◌≤◌, [], drop, length, map}
 use Rattle.std.specs.Prelude.{nat_eq}
-use Rattle.rule_model.specs.Tab.{tab_pattern}
-use Rattle.rule_matching.specs.Matching.{allowed_catches, caught_by_taken, RemembersRight}
+use Rattle.rule_matching.specs.Matching.{allowed_catches, caught_by_taken, item_meaning, RemembersRight}
 use Rattle.rule_matching.specs.Moment.{content_at}
 use Rattle.rule_matching.proofs.matching.takes_context.Given as goal
 
-abbrev pub invariant-loop-pattern : goal.invariant-loop-pattern
-invariant-loop-pattern l = record {
-  few : length l.taken.items + length (drop l.pattern-index l.context) ≤ 60;
-  within : l.ahead ≤ length l.left;
-  same : allowed_catches (content_at l.moment) (nat_eq (length l.left) l.count) (map (caught_by_taken (content_at l.moment) l.left) l.taken.items)
-      (map (tab_pattern l.moment.tables.stores) (drop l.pattern-index l.context)) (drop (length l.left - l.ahead) l.left)
-      ≡ allowed_catches (content_at l.moment) (nat_eq (length l.left) l.count) [] (map (tab_pattern l.moment.tables.stores) l.context) (drop (length l.left - l.count) l.left);
-  right : RemembersRight l.moment l.left l.places;
+abbrev pub invariant-loop-item : goal.invariant-loop-item
+invariant-loop-item l = record {
+  few : length l.taken.items + length (drop l.item-index l.context) ≤ 60;
+  within : l.ahead ≤ length l.choice.left.now;
+  same : allowed_catches (content_at l.choice.moment.now) (nat_eq (length l.choice.left.now) l.count) (map (caught_by_taken (content_at l.choice.moment.now) l.choice.left.now) l.taken.items)
+      (map (item_meaning l.choice.moment.now.tables.stores) (drop l.item-index l.context)) (drop (length l.choice.left.now - l.ahead) l.choice.left.now)
+      ≡ allowed_catches (content_at l.choice.moment.now) (nat_eq (length l.choice.left.now) l.count) [] (map (item_meaning l.choice.moment.now.tables.stores) l.context) (drop (length l.choice.left.now - l.count) l.choice.left.now);
+  right : RemembersRight l.choice.moment.now l.choice.left.now l.places;
 }

@@ -5,6 +5,6 @@ use Rattle.rule_matching.proofs.places.found_of.Given as goal
 
 abbrev pub invariant-loop-one : goal.invariant-loop-one
 invariant-loop-one l = record {
-  found : l.found.items ≡ map (caught_by_taken (content_at l.moment) l.left) (take l.one-index l.taken);
-  right : RemembersRight l.moment l.left l.places;
+  found : l.found.items ≡ map (caught_by_taken (content_at l.choice.moment.now) l.choice.left.now) (take l.one-index l.taken);
+  right : RemembersRight l.choice.moment.now l.choice.left.now l.places;
 }

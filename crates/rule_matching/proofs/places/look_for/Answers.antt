@@ -10,8 +10,8 @@ use Rattle.rule_matching.proofs.places.look_for.Goals as goal
 
 pub returns-clause-right : goal.returns-clause-right
 returns-clause-right c =
-    let found : c.place_of-place.result ≡ place_before (content_at c.args.moment.now) c.args.left.now c.args.store c.args.distance
+    let found : c.place_of-place.result ≡ place_before (content_at c.args.choice.now.moment.now) c.args.choice.now.left.now c.args.store c.args.distance
     = c.place_of-place.ensures
-    ∙ ap (option_and_then (λ (item : Item). place_of item (content_at c.args.moment.now (Numbered c.args.store)))) c.item_before.ensures in
-    still_right c.args.moment.now c.args.left.now c.args.store c.args.distance c.place_of-place.result c.args.places.now _
+    ∙ ap (option_and_then (λ (item : Item). place_of item (content_at c.args.choice.now.moment.now (Numbered c.args.store)))) c.item_before.ensures in
+    still_right c.args.choice.now.moment.now c.args.choice.now.left.now c.args.store c.args.distance c.place_of-place.result c.args.places.now _
     c.remember.ensures.only refl found c.requires.right
