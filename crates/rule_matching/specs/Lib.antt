@@ -1,3 +1,4 @@
+pub mod Choices
 pub mod KnownPlaces
 pub mod Matching
 pub mod Moment

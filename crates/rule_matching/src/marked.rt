@@ -1,6 +1,7 @@
 ghost use Rattle.std.specs.Prelude.{◌≡◌, ◌<◌, true, length, is_some};
 ghost use Rattle.kmn_base.specs.declared.limits.TheConstants.{WINDOW_ITEMS};
-ghost use Rattle.rule_matching.specs.Matching.{place_in_file, IsMarkedRight, RemembersRight};
+ghost use Rattle.rule_matching.specs.Choices.{RemembersFor};
+ghost use Rattle.rule_matching.specs.Matching.{place_in_file, IsMarkedRight};
 ghost use Rattle.rule_matching.specs.StoreMarks.{is_known, marked_room};
 
 use crate::choice::Choice;
@@ -36,9 +37,9 @@ pub fn is_marked(
     requires within { distance < length choice.now.left.now }
     requires near { distance < WINDOW_ITEMS }
     requires room { store < marked_room places.old.marks }
-    requires right { RemembersRight choice.now.moment.now choice.now.left.now places.old }
+    requires right { RemembersFor choice.now places.old }
     ensures value { result ≡ is_some (place_in_file choice.now.moment.now.tables choice.now.left.now store distance) }
-    ensures right { RemembersRight choice.now.moment.now choice.now.left.now places.new }
+    ensures right { RemembersFor choice.now places.new }
 {
     mark_distance(choice, distance, &mut places.marks);
     places.marks.is_marked(store, distance)

@@ -6,12 +6,13 @@ ghost use Rattle.rule_model.specs.Choose.{first};
 ghost use Rattle.rule_model.specs.Tab.{tab_pattern, tab_rule};
 ghost use Rattle.file_parts.specs.ContextItems.{pattern_of};
 ghost use Rattle.rule_index.specs.Groups.{IsRuleIndexOf};
-ghost use Rattle.rule_matching.specs.Matching.{allowed_catches, catch_of, caught_by_all, caught_by_taken, is_allowed, item_before, item_meaning, RemembersRight};
+ghost use Rattle.rule_matching.specs.Choices.{all_caught, caught_in, content_of, meaning_in, record_in, RemembersFor};
+ghost use Rattle.rule_matching.specs.Matching.{allowed_catches, catch_of, is_allowed, item_before, item_meaning};
 ghost use Rattle.rule_matching.specs.Moment.{content_at, held_record, AreShort};
 
 use crate::caught::Caught;
-use crate::elements::{is_element, is_item, is_same};
 use crate::choice::Choice;
+use crate::elements::{is_element, is_item, is_same};
 use crate::moment::Moment;
 use crate::place_memory::PlaceMemory;
 use crate::places::{found_of, is_in_store, item_before, place_taken};
@@ -44,11 +45,10 @@ fn taken_by(
 ) -> Option<Taken>
     requires within { distance < length choice.now.left.now }
     requires takes { takes_item (tab_pattern [] (pattern_of item)) ≡ true }
-    requires right { RemembersRight choice.now.moment.now choice.now.left.now places.old }
-    ensures taken { option_map (caught_by_taken (content_at choice.now.moment.now) choice.now.left.now) result ≡ option_and_then
-        (catch_of (content_at choice.now.moment.now) (map (caught_by_taken (content_at choice.now.moment.now) choice.now.left.now) taken.now) (item_meaning choice.now.moment.now.tables.stores item))
-        (item_before choice.now.left.now distance) }
-    ensures right { RemembersRight choice.now.moment.now choice.now.left.now places.new }
+    requires right { RemembersFor choice.now places.old }
+    ensures taken { option_map (caught_in choice.now) result ≡ option_and_then
+        (catch_of (content_of choice.now) (map (caught_in choice.now) taken.now) (meaning_in choice.now item)) (item_before choice.now.left.now distance) }
+    ensures right { RemembersFor choice.now places.new }
 {
     match item {
         ContextItem::Any(store) => {
@@ -108,11 +108,11 @@ fn takes_context(
 ) -> bool
     requires few { length context.now ≤ CONTEXT_ITEMS }
     requires within { count ≤ length choice.now.left.now }
-    requires right { RemembersRight choice.now.moment.now choice.now.left.now places.old }
-    ensures taken { (if result then Some (map (caught_by_taken (content_at choice.now.moment.now) choice.now.left.now) taken.new.items) else None) ≡ allowed_catches
-        (content_at choice.now.moment.now) (nat_eq (length choice.now.left.now) count) [] (map (item_meaning choice.now.moment.now.tables.stores) context.now)
+    requires right { RemembersFor choice.now places.old }
+    ensures taken { (if result then Some (map (caught_in choice.now) taken.new.items) else None) ≡ allowed_catches
+        (content_of choice.now) (nat_eq (length choice.now.left.now) count) [] (map (meaning_in choice.now) context.now)
         (drop (length choice.now.left.now - count) choice.now.left.now) }
-    ensures right { RemembersRight choice.now.moment.now choice.now.left.now places.new }
+    ensures right { RemembersFor choice.now places.new }
 {
     taken.clear();
     let mut ahead = count;
@@ -157,10 +157,10 @@ fn held_record<'g>(
 ) -> Option<FileRule<'g>>
     requires short { AreShort group.now.rules }
     requires index { IsRuleIndexOf group.now records.now }
-    requires right { RemembersRight choice.now.moment.now choice.now.left.now places.old }
-    ensures held { option_map (λ rule. (tab_rule choice.now.moment.now.tables.stores group.now.using_keys rule, caught_by_all (content_at choice.now.moment.now) choice.now.left.now taken.new.items)) result
-        ≡ held_record (content_at choice.now.moment.now) choice.now.left.now choice.now.pressed (option_map (tab_rule choice.now.moment.now.tables.stores group.now.using_keys) (slice_get group.now.rules number)) }
-    ensures right { RemembersRight choice.now.moment.now choice.now.left.now places.new }
+    requires right { RemembersFor choice.now places.old }
+    ensures held { option_map (λ rule. (record_in choice.now group.now rule, all_caught choice.now taken.new.items)) result
+        ≡ held_record (content_of choice.now) choice.now.left.now choice.now.pressed (option_map (record_in choice.now group.now) (slice_get group.now.rules number)) }
+    ensures right { RemembersFor choice.now places.new }
 {
     let rule = group.rule(number)?;
     let count = records.pattern_count(number);

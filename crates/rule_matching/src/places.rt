@@ -1,11 +1,11 @@
 ghost use Rattle.std.specs.Prelude.{◌≡◌, ◌≤◌, ◌<◌, Some, is_some, length, map};
 ghost use Rattle.rule_model.specs.Match.{place_caught};
-ghost use Rattle.rule_matching.specs.Matching.{caught_by_taken, item_before, place_before, RemembersRight};
-ghost use Rattle.rule_matching.specs.Moment.{content_at};
+ghost use Rattle.rule_matching.specs.Choices.{caught_in, content_of, RemembersFor};
+ghost use Rattle.rule_matching.specs.Matching.{item_before, place_before};
 
 use crate::caught::Found;
-use crate::marked::is_marked;
 use crate::choice::Choice;
+use crate::marked::is_marked;
 use crate::place_memory::PlaceMemory;
 use crate::taken::{Taken, taken_at};
 use arrayvec::ArrayVec;
@@ -41,9 +41,9 @@ fn look_for(
     places: &mut PlaceMemory,
 ) -> Option<usize>
     requires within { distance < length choice.now.left.now }
-    requires right { RemembersRight choice.now.moment.now choice.now.left.now places.old }
-    ensures place { result ≡ place_before (content_at choice.now.moment.now) choice.now.left.now store distance }
-    ensures right { RemembersRight choice.now.moment.now choice.now.left.now places.new }
+    requires right { RemembersFor choice.now places.old }
+    ensures place { result ≡ place_before (content_of choice.now) choice.now.left.now store distance }
+    ensures right { RemembersFor choice.now places.new }
 {
     let place = choice.moment.place_of(store, item_before(choice.left, distance));
     places.found.remember(store, distance, place);
@@ -58,9 +58,9 @@ fn place_before(
     store: u32,
     places: &mut PlaceMemory,
 ) -> Option<usize>
-    requires { RemembersRight choice.now.moment.now choice.now.left.now places.old }
-    ensures place { result ≡ place_before (content_at choice.now.moment.now) choice.now.left.now store distance }
-    ensures right { RemembersRight choice.now.moment.now choice.now.left.now places.new }
+    requires { RemembersFor choice.now places.old }
+    ensures place { result ≡ place_before (content_of choice.now) choice.now.left.now store distance }
+    ensures right { RemembersFor choice.now places.new }
 {
     if distance >= choice.left.len() {
         return None;
@@ -81,9 +81,9 @@ pub fn is_in_store(
     places: &mut PlaceMemory,
 ) -> bool
     requires within { distance < length choice.now.left.now }
-    requires right { RemembersRight choice.now.moment.now choice.now.left.now places.old }
-    ensures value { result ≡ is_some (place_before (content_at choice.now.moment.now) choice.now.left.now store distance) }
-    ensures right { RemembersRight choice.now.moment.now choice.now.left.now places.new }
+    requires right { RemembersFor choice.now places.old }
+    ensures value { result ≡ is_some (place_before (content_of choice.now) choice.now.left.now store distance) }
+    ensures right { RemembersFor choice.now places.new }
 {
     match choice.moment.held_store(store) {
         Some(value) if distance < WINDOW_ITEMS && places.marks.has_room(value) => {
@@ -99,9 +99,9 @@ fn place_of_taken(
     taken: Taken,
     places: &mut PlaceMemory,
 ) -> Option<usize>
-    requires { RemembersRight choice.now.moment.now choice.now.left.now places.old }
-    ensures place { result ≡ (caught_by_taken (content_at choice.now.moment.now) choice.now.left.now taken).place }
-    ensures right { RemembersRight choice.now.moment.now choice.now.left.now places.new }
+    requires { RemembersFor choice.now places.old }
+    ensures place { result ≡ (caught_in choice.now taken).place }
+    ensures right { RemembersFor choice.now places.new }
 {
     place_before(choice, taken.distance, taken.store?, places)
 }
@@ -114,9 +114,9 @@ pub fn place_taken(
     offset: u16,
     places: &mut PlaceMemory,
 ) -> Option<usize>
-    requires { RemembersRight choice.now.moment.now choice.now.left.now places.old }
-    ensures place { result ≡ place_caught (map (caught_by_taken (content_at choice.now.moment.now) choice.now.left.now) taken.now) offset }
-    ensures right { RemembersRight choice.now.moment.now choice.now.left.now places.new }
+    requires { RemembersFor choice.now places.old }
+    ensures place { result ≡ place_caught (map (caught_in choice.now) taken.now) offset }
+    ensures right { RemembersFor choice.now places.new }
 {
     place_of_taken(choice, taken_at(taken, offset)?, places)
 }
@@ -128,9 +128,9 @@ pub fn found_of(
     places: &mut PlaceMemory,
 ) -> ArrayVec<Found, 60>
     requires few { length taken.now ≤ 60 }
-    requires right { RemembersRight choice.now.moment.now choice.now.left.now places.old }
-    ensures found { result.items ≡ map (caught_by_taken (content_at choice.now.moment.now) choice.now.left.now) taken.now }
-    ensures right { RemembersRight choice.now.moment.now choice.now.left.now places.new }
+    requires right { RemembersFor choice.now places.old }
+    ensures found { result.items ≡ map (caught_in choice.now) taken.now }
+    ensures right { RemembersFor choice.now places.new }
 {
     let mut found = ArrayVec::new();
     for one in taken {
