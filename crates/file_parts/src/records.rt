@@ -72,6 +72,15 @@ impl<'a> FileRule<'a> {
         word_at(self.bytes, self.place + 4)
     }
 
+    /// The place in the key store of the source: 0, since no file keeps it.
+    pub fn source_place(&self) -> u32
+        ensures { result ≡ self.now.place }
+    {
+        // A proof sees which record this is only where a field of it is used.
+        let _ = &self.place;
+        0
+    }
+
     /// The context.
     pub fn context(&self) -> Patterns<'a>
         ensures value { result ≡ self.now.context }

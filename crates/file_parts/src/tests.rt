@@ -43,6 +43,7 @@ fn has_rule(group: &FileGroup<'_>) -> bool {
     let mut output = rule.output();
     rule.key() == RuleKey::Char(0x61)
         && rule.line() == 3
+        && rule.source_place() == 0
         && rule.context().next().is_none()
         && output.next() == Some(Out::Char('b'))
         && output.next().is_none()

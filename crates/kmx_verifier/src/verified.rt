@@ -5,7 +5,7 @@ ghost use Rattle.kmx_verifier.specs.FaultOf.{fault_of, IsRefusal};
 use crate::counts::rule_count;
 use crate::faults::VerifyError;
 use crate::options::is_option;
-use crate::tables::tables_of;
+use crate::tables::copied;
 use crate::whole::check_file;
 use file_parts::FileTables;
 use kmn_base::Memory;
@@ -69,7 +69,7 @@ impl<'a> Verified<'a> {
         ensures value { IfOk result (λ tables. tables ≡ tables_of self.now) }
         ensures playable { IsPlayable (tables_of self.now) }
     {
-        tables_of(alloc, self.bytes)
+        copied(alloc, &self.parts())
     }
 
     /// The version of the file's format.

@@ -1,9 +1,0 @@
-use Rattle.std.proofs.Common.{refl}
-use Rattle.kmx_format.specs.TablesOf.{group_at, groups_from}
-use Rattle.kmx_verifier.proofs.Reading.{records-more}
-use Rattle.kmx_verifier.proofs.tables.records.groups_from.Goals as goal
-
-pub loop-i-preserved : goal.loop-i-preserved
-loop-i-preserved c =
-    rw (c.in_ok-add.ensures, c.in_ok-group.ensures)
-    (records-more (group_at c.args.bytes.now) 24 (groups_from c.args.bytes.now) (λ _ _. refl) c.loop-i.groups c.args.place c.args.count c.loop-i.i _ c.loop-i-test.true c.loop-i.invariant)
