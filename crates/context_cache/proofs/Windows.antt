@@ -1,5 +1,5 @@
 -- The window of what was put, filled and read again.
-use Rattle.std.proofs.Common.{get_or, zero, suc, refl, append_assoc, min, ◌+◌, ◌≡◌, ℕ, ◌<◌, ◌≤◌, ◌-◌, true, false, List, [], ◌∷◌, ◌++◌, length, drop, take, map, eqb, sym, ◌∙◌, ap, inl, inr, arith, length-append, length-drop}
+use Rattle.std.proofs.Common.{get_or, zero, suc, append_assoc, min, ◌+◌, ◌≡◌, ℕ, ◌<◌, ◌≤◌, ◌-◌, true, false, List, [], ◌∷◌, ◌++◌, length, drop, take, map, eqb, sym, ◌∙◌, ap, inl, inr, arith, length-append, length-drop}
 use Rattle.std.specs.Prelude.{◌||◌}
 use Rattle.std.specs.List.{remove, ends_with}
 use Rattle.std.proofs.lemmas.List.{drop-append-le, drop-map, drop-take, length-map, length-take}

@@ -5,7 +5,7 @@ use Rattle.std.proofs.lemmas.List.{take-append-drop, reverse-append}
 use mathlib.Core.List.{reverse_aux}
 use Rattle.kmn_base.specs.declared.items.Item.{Item}
 use Rattle.kmn_base.specs.declared.items.Item.TheVariants.{Char}
-use Rattle.kmn_base.specs.Lists.{characters, is_mark, without_last, window, put, read_again, IsSound}
+use Rattle.kmn_base.specs.Lists.{characters, is_mark, without_last, window, put, read_again}
 use Rattle.kmn_base.proofs.Lists.{characters-append, characters-map, length-window, without_last-append-last}
 use Rattle.kmn_base.proofs.ReadingAgain.{without_last_at, reading_again_is_sound, reading_again_gives_the_text}
 use Rattle.context_cache.specs.Cached.{whole, filled, StandsAtEnd}

@@ -1,7 +1,6 @@
 -- Expanded tables in order are those that the program compiles to.
 use Rattle.std.proofs.Common.{◌≡◌, ◌∙◌, ap, subst}
 use Rattle.rule_model.specs.declared.program.Program.{Program}
-use Rattle.rule_model.specs.declared.tables.Group.{Group}
 use Rattle.rule_model.specs.declared.tables.Tables.{Tables}
 use Rattle.compile_laws.specs.Compiles.{Compiles, AreOrderedGroups}
 use Rattle.rule_order.specs.Order.{IsOrdered}

@@ -1,9 +1,7 @@
 -- Tables that a file can have are those that can be played and whose names can stand in a file.
-use Rattle.std.proofs.Common.{◌≡◌, ℕ, ◌↔◌, List, [], ◌∷◌, length}
+use Rattle.std.proofs.Common.{List, [], ◌∷◌, length}
 use Rattle.std.specs.List.{All}
 use Rattle.std.proofs.lemmas.List.Elements.{All-nil, All-cons, All-head, All-tail, All-weaker}
-use Rattle.rule_model.specs.declared.tables.Store.{Store}
-use Rattle.rule_model.specs.declared.tables.Group.{Group}
 use Rattle.rule_model.specs.declared.tables.Tables.{Tables}
 use Rattle.kmx_format.specs.Writable.{IsWritableName, IsWritableStore, IsWritableGroup, IsWritable}
 use Rattle.kmx_format.specs.Playable.{IsPlayableStore, IsPlayableGroup, IsPlayable, HasWritableNames, WritableIsPlayableWithNames}

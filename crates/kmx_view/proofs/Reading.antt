@@ -1,10 +1,10 @@
 -- Passing over a string up to its zero unit, as a loop does.
-use Rattle.std.proofs.Common.{◌≡◌, ℕ, suc, ◌+◌, ◌-◌, ◌*◌, ◌<◌, ◌≤◌, false, List, [], ◌∷◌, ◌++◌, length, take, drop, refl, sym, ap, subst, ◌∙◌, append_assoc, append-nil, length-append, arith}
+use Rattle.std.proofs.Common.{◌≡◌, ℕ, ◌+◌, ◌-◌, ◌*◌, ◌<◌, ◌≤◌, false, List, [], ◌∷◌, ◌++◌, length, take, drop, refl, sym, ap, subst, ◌∙◌, append_assoc, append-nil, length-append, arith}
 use Rattle.std.specs.Prelude.{nat_eq, slice_index}
 use Rattle.std.proofs.lemmas.Bool.{cond-false}
 use Rattle.std.proofs.lemmas.List.{take_at, take_all}
 use Rattle.kmn_base.specs.Spelling.{unit_bytes, whole_units}
-use Rattle.kmn_base.proofs.UnitBytes.{unit_bytes_joined, whole_units-unit_bytes}
+use Rattle.kmn_base.proofs.UnitBytes.{unit_bytes_joined}
 use Rattle.kmx_format.specs.TablesOf.{before_zero}
 
 -- the bytes before the rest are units of a string that goes on in the rest

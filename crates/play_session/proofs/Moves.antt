@@ -1,6 +1,6 @@
 -- What a caret move, an edit from outside and a setting make of an engine and an editor that are together.
 use Rattle.std.proofs.Common.{◌≡◌, ℕ, ◌+◌, ◌-◌, ◌≤◌, List, ◌++◌, length, map, take, drop, Option, Some, None, refl, sym, ◌∙◌, ap, subst, arith, length-append, length-drop}
-use Rattle.std.proofs.lemmas.List.{take-append-drop, take_at, drop_at, length-take-le}
+use Rattle.std.proofs.lemmas.List.{take-append-drop, length-take-le}
 use Rattle.std.proofs.lemmas.Bool.Decides.{nat_tests}
 use Rattle.std.proofs.lemmas.Grind.{common_steps}
 use Rattle.kmn_base.specs.Lists.{characters, window, IsSound}
@@ -9,7 +9,7 @@ use Rattle.kmn_base.specs.declared.items.Element.{Element}
 use Rattle.kmn_base.specs.declared.items.Element.TheVariants.{Char}
 use Rattle.kmn_base.specs.declared.limits.TheConstants.{TEXT_CHARS}
 use Rattle.rule_model.specs.Event.{text_becomes, caret_event, edit_event, edited_text, edit_refusal, moved_caret, event_refusal, whole_text, set_option, setting_event}
-use Rattle.rule_engine.specs.Engine.{EngineState, synced, option_named, with_option, set_by_host}
+use Rattle.rule_engine.specs.Engine.{EngineState, option_named, with_option, set_by_host}
 use Rattle.editor_model.specs.Text.{EditorText, whole, IsAt, HasTextOf}
 use Rattle.editor_model.specs.Answers.{caret_refusal}
 use Rattle.play_session.specs.Session.{AreTogether, stands_for, text_with_context}

@@ -1,9 +1,9 @@
 -- An engine that reads the text of an editor that was changed.
 use Rattle.std.proofs.Common.{◌≡◌, ℕ, ◌+◌, ◌≤◌, List, length, refl, sym, ◌∙◌, ap}
 use Rattle.kmn_base.specs.declared.items.Item.{Item}
-use Rattle.kmn_base.specs.Lists.{characters, window, read_again}
+use Rattle.kmn_base.specs.Lists.{characters, read_again}
 use Rattle.kmn_base.proofs.ReadingAgain.{reading_again_gives_the_text, reading_again_is_sound}
-use Rattle.rule_model.specs.Event.{State, text_becomes}
+use Rattle.rule_model.specs.Event.{text_becomes}
 use Rattle.rule_engine.specs.Engine.{EngineState, synced}
 use Rattle.editor_model.specs.Text.{EditorText}
 use Rattle.play_session.specs.Session.{AreTogether, stands_for}

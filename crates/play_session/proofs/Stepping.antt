@@ -1,5 +1,5 @@
 -- A session after a step, by its parts.
-use Rattle.std.proofs.Common.{◌≡◌, ℕ, Bool, List, ◌∙◌, ap}
+use Rattle.std.proofs.Common.{◌≡◌, ℕ, Bool, List, ◌∙◌}
 use Rattle.kmn_base.specs.declared.events.Event.{Event}
 use Rattle.rule_model.specs.declared.tables.Tables.{Tables}
 use Rattle.rule_model.specs.Act.{one_more}

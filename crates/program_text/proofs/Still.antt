@@ -7,7 +7,6 @@ use Rattle.kmn_lines.specs.Lines.{starts_comment, outside, inside, in_line, afte
 use Rattle.kmn_lines.specs.declared.line_state.LineState.{LineState}
 use Rattle.kmn_lines.proofs.Sizes.{and-true, or-false, or-both}
 use Rattle.program_text.specs.Names.{is_inner}
-use Rattle.program_text.specs.Printed.{printed}
 use Rattle.program_text.proofs.LineForms.{ends_clean, is_plain_byte, is_still_byte, read_on}
 use Rattle.program_text.proofs.Words.{choose-then, choose-else, not-true, plain-byte}
 

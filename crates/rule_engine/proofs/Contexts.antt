@@ -6,7 +6,6 @@ use Rattle.std.proofs.lemmas.Bool.{cases_lt}
 use Rattle.std.proofs.lemmas.Bool.Decides.{nat_tests}
 use Rattle.std.proofs.lemmas.List.{drop-drop, length-map}
 use Rattle.std.proofs.lemmas.List.Elements.{All-head, All-tail}
-use Rattle.std.proofs.lemmas.List.Sums.{count_by-le-length}
 use Rattle.kmn_base.specs.declared.items.Item.{Item}
 use Rattle.kmn_base.specs.declared.keys.KeyPress.{KeyPress}
 use Rattle.kmn_base.specs.Lists.{window}
@@ -17,7 +16,7 @@ use Rattle.rule_model.specs.declared.tables.Store.{Store}
 use Rattle.rule_model.specs.declared.tables.Tables.{Tables}
 use Rattle.rule_model.specs.Keyboard.{Pattern, RuleMeaning}
 use Rattle.rule_model.specs.Choose.{first, first_with}
-use Rattle.rule_model.specs.Match.{Content, takes_item, catches_from}
+use Rattle.rule_model.specs.Match.{Content, catches_from}
 use Rattle.rule_model.specs.Hold.{is_true, is_at_start, pattern_count, has_room, caught_by, fitting_place, holds}
 use Rattle.rule_model.specs.Tab.{tab_pattern, tab_rule}
 use Rattle.rule_index.proofs.ContextCounts.{few_patterns}

@@ -6,12 +6,8 @@ use Rattle.std.proofs.lemmas.List.{drop_all, drop_more}
 use Rattle.std.proofs.lemmas.Option.{get_or_from_slice_get}
 use Rattle.kmn_base.specs.declared.items.Item.{Item}
 use Rattle.rule_model.specs.declared.event_state.Catch.{Catch}
-use Rattle.rule_model.specs.declared.tables.Pat.{Pat}
-use Rattle.rule_model.specs.declared.tables.Pat.TheVariants as pattern
-use Rattle.rule_model.specs.declared.tables.Store.{Store}
 use Rattle.rule_model.specs.Keyboard.{Numbered, Pattern}
 use Rattle.rule_model.specs.Match.{Content, takes_item, catch_item, catches_from, matches, nothing_caught, place_for, place_of}
-use Rattle.rule_model.specs.Tab.{tab_pattern}
 use Rattle.rule_matching.specs.declared.place_memory.PlaceMemory.{PlaceMemory}
 use Rattle.rule_matching.specs.KnownPlaces.{known_place}
 use Rattle.rule_matching.specs.Matching.{catch_of, item_before, place_before, IsMarkedRight, RemembersRight}

@@ -1,5 +1,5 @@
 -- How many items a compiled context looks at, and whether it has a `nul`: the stores do not matter for that.
-use Rattle.std.proofs.Common.{◌≡◌, ℕ, ◌+◌, ◌-◌, ◌∙◌, Bool, true, false, cond, None, drop, take, List, [], ◌∷◌, map, length, refl, sym, ap}
+use Rattle.std.proofs.Common.{◌≡◌, ℕ, ◌+◌, ◌-◌, ◌∙◌, true, false, cond, None, drop, take, List, [], ◌∷◌, map, length, refl, sym}
 use Rattle.std.proofs.lemmas.List.{take_rest}
 use Rattle.std.proofs.lemmas.List.Sums.{sum_by-cons}
 use Rattle.std.specs.Prelude.{◌||◌, nat_eq, nat_le, if◌then◌else◌}

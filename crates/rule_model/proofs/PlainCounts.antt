@@ -1,6 +1,6 @@
 -- EventState keeps how many current and saved values there are.
 use Rattle.std.proofs.Common.{◌≡◌, ℕ, zero, suc, ◌+◌, Bool, true, false, List, [], ◌∷◌, length, map, Option, Some, None, refl, ◌∙◌, length-set}
-use Rattle.std.specs.Prelude.{if◌then◌else◌, nat_le, slice_get, slice_set, unwrap_or, filter_map}
+use Rattle.std.specs.Prelude.{if◌then◌else◌, nat_le, slice_get, unwrap_or, filter_map}
 use Rattle.kmn_base.specs.declared.items.Item.{Item}
 use Rattle.kmn_base.specs.declared.items.Item.TheVariants as item
 use Rattle.kmn_base.specs.declared.items.Element.{Element}
@@ -13,7 +13,7 @@ use Rattle.rule_model.specs.declared.event_state.EventState.{EventState}
 use Rattle.rule_model.specs.Keyboard.{Ref, Output, PutChar, PutMark, PutIndex, PutContext, PutContextAt, PutStore, UseGroup, SetOption, SaveOption, ResetOption, MakeBeep, DoNothing, StopEvent, GroupMeaning, Keyboard}
 use Rattle.rule_model.specs.Content.{elements_at, store_number}
 use Rattle.rule_model.specs.Match.{item_of, item_caught}
-use Rattle.rule_model.specs.Act.{put_item, put_items, item_list, items_caught, put_element, set_current, save_current, reset_current, enter_if_allowed, act_one, act}
+use Rattle.rule_model.specs.Act.{put_item, put_items, item_list, items_caught, put_element, set_current, save_current, reset_current, act_one, act}
 use Rattle.rule_model.specs.Choose.{Chosen}
 use Rattle.rule_model.specs.Enter.{delete_or_pass, deletes_back, put_press, put_named, default_of, by_default, nothing, act_if_any, do_chosen, do_unmatched, do_group, in_group, enter_group}
 use Rattle.rule_model.specs.KeyEvent.{after_key}

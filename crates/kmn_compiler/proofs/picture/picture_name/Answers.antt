@@ -1,7 +1,6 @@
-use Rattle.std.proofs.Common.{◌≡◌, false, sym, ◌∙◌, rules, subst}
-use Rattle.std.specs.Prelude.{IfOk}
+use Rattle.std.proofs.Common.{◌≡◌, false, sym, rules}
 use Rattle.std.specs.List.{list_any}
-use Rattle.kmn_compiler.specs.Picture.{picture_name, states_bitmap}
+use Rattle.kmn_compiler.specs.Picture.{states_bitmap}
 use Rattle.kmn_compiler.proofs.PictureNames.{no_picture, compiled_picture}
 use Rattle.kmn_compiler.proofs.picture.picture_name.Goals as goal
 

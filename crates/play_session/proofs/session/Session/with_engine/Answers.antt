@@ -1,4 +1,4 @@
-use Rattle.std.proofs.Common.{rules, refl}
+use Rattle.std.proofs.Common.{rules}
 use Rattle.std.specs.Prelude.{vec_capacity}
 use Rattle.play_session.proofs.Rooms.{session_begins}
 use Rattle.play_session.proofs.session.Session.with_engine.Goals as goal
