@@ -1,7 +1,8 @@
 -- No store or group that is written out of tables is refused for its name.
-use Rattle.std.proofs.Common.{◌≡◌, ℕ, ◌+◌, Bool, true, false, ◌&&◌, ◌||◌, List, [], ◌∷◌, ◌++◌, length, map, Option, None, Some, refl, sym, ◌∙◌, ap, subst, arith, append-nil, if◌then◌else◌}
+use Rattle.std.proofs.Common.{◌≡◌, ℕ, ◌+◌, Bool, true, false, List, [], ◌∷◌, ◌++◌, length, map, Option, None, Some, refl, sym, ◌∙◌, ap, subst, arith, append-nil, if◌then◌else◌}
 use Rattle.std.specs.Prelude.{nat_eq}
 use Rattle.std.specs.List.{AllByRecursion}
+use Rattle.std.proofs.lemmas.Bool.{or_from}
 use Rattle.std.proofs.lemmas.List.{map-append}
 use Rattle.std.proofs.lemmas.List.Concat.{flat_map-append}
 use Rattle.kmn_base.specs.declared.codes.Code.TheVariants.{C03, C04}
@@ -21,10 +22,7 @@ use Rattle.decompile_laws.specs.Back.{back_stores, back_group, back_groups}
 use Rattle.decompile_laws.proofs.Apart.{same-turned, filled, EachApart, AreApart}
 use Rattle.spelled_files.proofs.StatedNames.{named-cons}
 use Rattle.spelled_files.proofs.UnrefusedRules.{no-else, no-earlier, no-line, no-broken}
-
-pub or-none : (a b : Bool) → a ≡ false → b ≡ false → (a || b) ≡ false
-or-none true b e f = absurd (cc)
-or-none false b e f = f
+use Rattle.spelled_files.proofs.Conjunctions.{fails-when}
 
 -- a name that isn't empty is the same as none of those that come later
 abbrev pub Later : List (Option (List ℕ)) → List ℕ → Type 0
@@ -44,7 +42,7 @@ differs x (b ∷ bytes) calls some l = same-turned (b ∷ bytes) x (l (filled b 
 
 not-named : (x : List ℕ) (calls : List (Option (List ℕ))) (names : List (List ℕ)) → same_name x [] ≡ false → AllByRecursion (Later (Some x ∷ calls)) names → is_named names x ≡ false
 not-named x calls [] some h = named-none x
-not-named x calls (y ∷ names) some h = named-cons y names x ∙ or-none (same_name x y) (is_named names x) (differs x y calls some h.0) (not-named x calls names some h.1)
+not-named x calls (y ∷ names) some h = named-cons y names x ∙ or_from (same_name x y) (is_named names x) (differs x y calls some h.0) (not-named x calls names some h.1)
 
 later-join : (calls : List (Option (List ℕ))) (xs ys : List (List ℕ)) → AllByRecursion (Later calls) xs → AllByRecursion (Later calls) ys → AllByRecursion (Later calls) (xs ++ ys)
 later-join calls [] ys h k = k
@@ -62,13 +60,6 @@ elements-fine stated names before [] = refl
 elements-fine stated names before (element.Char c ∷ es) = elements-fine stated names before es
 elements-fine stated names before (element.Mark m ∷ es) = elements-fine stated names before es
 elements-fine stated names before (element.Key flags code ∷ es) = elements-fine stated names before es
-
-again : (system : ℕ) (names : List (List ℕ)) (x : List ℕ) → (nat_eq system 0 ≡ true → is_named names x ≡ false) → (nat_eq system 0 && is_named names x) ≡ false
-again system names x h = by (nat_eq system 0) h
-  where
-    by : (b : Bool) → (b ≡ true → is_named names x ≡ false) → (b && is_named names x) ≡ false
-    by true g = g refl
-    by false g = refl
 
 -- each ordinary store that is written has a name
 abbrev pub HaveNames : List (Option (List ℕ)) → List Store → Type 0
@@ -95,7 +86,7 @@ stores_apart stated names line before (Some name ∷ calls) (store ∷ stores) s
     (no-line line (store_code stated (store_names before) written)
     (no-else (broken ((C03, is_store_again (store_names before) written) ∷ [])) (first_code (store_item_code stated (store_names before)) written.items)
     (no-broken C03 (is_store_again (store_names before) written) []
-    (again store.system (store_names before) name (λ o. not-named name calls (store_names before) (some.0 o) later)) refl)
+    (fails-when (nat_eq store.system 0) (is_named (store_names before) name) (λ o. not-named name calls (store_names before) (some.0 o) later)) refl)
     (elements-fine stated names (store_names before) store.elements)))
     (stores_apart stated names (line + 1) (before ++ written ∷ []) calls stores some.1 apart.1
     (subst (AllByRecursion (Later calls)) (sym (flat_map-append kept_name before (written ∷ []) ∙ ap (λ (xs : List (List ℕ)). store_names before ++ xs) (append-nil (kept_name written))))

@@ -1,8 +1,9 @@
 -- The names by which a text calls stores and groups are names that a source reads.
-use Rattle.std.proofs.Common.{◌≡◌, ℕ, zero, suc, ◌+◌, ◌^◌, ◌<◌, ◌≤◌, Bool, true, false, not, List, [], ◌∷◌, ◌++◌, length, take, drop, map, Option, None, Some, refl, sym, ◌∙◌, ap, subst, arith, length-drop, if◌then◌else◌}
+use Rattle.std.proofs.Common.{◌≡◌, ℕ, zero, suc, ◌+◌, ◌^◌, ◌<◌, ◌≤◌, true, false, not, List, [], ◌∷◌, ◌++◌, length, take, drop, map, Option, None, Some, refl, sym, ◌∙◌, subst, arith, length-drop, if◌then◌else◌}
 use Rattle.std.specs.Prelude.{All, nat_eq, slice_get, unwrap_or, filter}
 use Rattle.std.specs.List.{list_any, AllByRecursion, range_with_len}
 use Rattle.std.specs.Str.{is_utf8}
+use Rattle.std.proofs.lemmas.Bool.{not-false, cond_both}
 use Rattle.std.proofs.lemmas.List.Elements.{All-nil, All-cons, All-weaker, All-map, All-filter, All-take, recursion_from_All}
 use Rattle.kmn_items.specs.Words.{is_system_name}
 use Rattle.rule_model.specs.declared.tables.Store.{Store}
@@ -48,14 +49,6 @@ AreNamed named n (None ∷ calls) (store ∷ stores) = (is_written named n store
 AreNamed named n (Some name ∷ calls) (store ∷ stores) =
     (nat_eq store.system 0 ≡ true → IsStoreName name) × (nat_eq store.system 0 ≡ false → (name ≡ []) × (list_any (nat_eq store.system) written_ids ≡ true)) × AreNamed named (n + 1) calls stores
 
-choose : (P : List (Option (List ℕ)) → Type 0) (b : Bool) (xs ys : List (Option (List ℕ))) → (b ≡ true → P xs) → (b ≡ false → P ys) → P (if b then xs else ys)
-choose P true xs ys g h = g refl
-choose P false xs ys g h = h refl
-
-not-false : (a : Bool) → not a ≡ false → a ≡ true
-not-false true e = refl
-not-false false e = sym e
-
 -- UTF-8 names
 abbrev pub HasText : Store → Type 0
 HasText store = is_utf8 store.name ≡ true
@@ -70,15 +63,15 @@ pub are_named : (named : List ℕ) (free earlier : List (List ℕ)) (n : ℕ) (s
     → AllByRecursion HasText stores → AreNamed named n (store_names named free earlier n stores) stores
 are_named named free earlier n [] f enough texts = tt
 are_named named free earlier n (store ∷ stores) f enough texts =
-    choose (λ calls. AreNamed named n calls (store ∷ stores)) (not (is_written named n store)) _ _
+    cond_both (not (is_written named n store)) _ _ (λ calls. AreNamed named n calls (store ∷ stores))
     (λ w. (not-true (is_written named n store) w, are_named named free earlier (n + 1) stores f (omega arith) texts.1))
-    (λ w. choose (λ calls. AreNamed named n calls (store ∷ stores)) (not (nat_eq store.system 0)) _ _
+    (λ w. cond_both (not (nat_eq store.system 0)) _ _ (λ calls. AreNamed named n calls (store ∷ stores))
     (λ e. (
       (λ o. clash (nat_eq store.system 0) o (not-true (nat_eq store.system 0) e)),
       (λ o. (refl, sym (choose-else (nat_eq store.system 0) (list_any (nat_eq n) named) (list_any (nat_eq store.system) written_ids) o) ∙ not-false (is_written named n store) w)),
       are_named named free earlier (n + 1) stores f (omega arith) texts.1,
     ))
-    (λ e. choose (λ calls. AreNamed named n calls (store ∷ stores)) (keeps_store_name earlier store.name) _ _
+    (λ e. cond_both (keeps_store_name earlier store.name) _ _ (λ calls. AreNamed named n calls (store ∷ stores))
     (λ k. (
       (λ o. kept-name earlier store.name texts.0 k),
       (λ o. clash (nat_eq store.system 0) (not-false (nat_eq store.system 0) e) o),
@@ -91,7 +84,7 @@ are_named named free earlier n (store ∷ stores) f enough texts =
     ))))
 
 -- the name of an ordinary store that is named
-here-written : (named : List ℕ) (n : ℕ) (store : Store) → nat_eq store.system 0 ≡ true → list_any (nat_eq n) named ≡ true → is_written named n store ≡ true
+pub here-written : (named : List ℕ) (n : ℕ) (store : Store) → nat_eq store.system 0 ≡ true → list_any (nat_eq n) named ≡ true → is_written named n store ≡ true
 here-written named n store o e = (λ i. if o i then list_any (nat_eq n) named else list_any (nat_eq store.system) written_ids) ∙ e
 
 pub name_called : (named : List ℕ) (k : ℕ) (calls : List (Option (List ℕ))) (stores : List Store) (i n : ℕ) → AreNamed named k calls stores → n ≡ k + i
@@ -110,15 +103,11 @@ name_called named k (Some name ∷ calls) (store ∷ stores) (suc i) n h e o a =
 abbrev pub GroupHasText : Group → Type 0
 GroupHasText group = is_utf8 group.name ≡ true
 
-choose-names : (P : List (List ℕ) → Type 0) (b : Bool) (xs ys : List (List ℕ)) → (b ≡ true → P xs) → (b ≡ false → P ys) → P (if b then xs else ys)
-choose-names P true xs ys g h = g refl
-choose-names P false xs ys g h = h refl
-
 pub groups_named : (free earlier : List (List ℕ)) (groups : List Group) → AllByRecursion IsStoreName free → length groups ≤ length free
     → AllByRecursion GroupHasText groups → AllByRecursion IsSpelledName (group_names free earlier groups)
 groups_named free earlier [] f enough texts = tt
 groups_named free earlier (group ∷ groups) f enough texts =
-    choose-names (λ names. AllByRecursion IsSpelledName names) (keeps_name earlier group.name) _ _
+    cond_both (keeps_name earlier group.name) _ _ (λ names. AllByRecursion IsSpelledName names)
     (λ k. (
       record { utf8 = texts.0; read = (and-true (is_source_name group.name) (is_free earlier group.name) k).0 },
       groups_named free (earlier ++ group.name ∷ []) groups f (omega arith) texts.1,
@@ -127,13 +116,6 @@ groups_named free earlier (group ∷ groups) f enough texts =
       (first-name free (omega arith) f).named,
       groups_named (drop 1 free) (earlier ++ group.name ∷ []) groups (other-names free f) (let l = length-drop 1 free in omega (arith, l)) texts.1,
     ))
-
-pub groups_along : (free earlier : List (List ℕ)) (groups : List Group) → length (group_names free earlier groups) ≡ length groups
-groups_along free earlier [] = refl
-groups_along free earlier (group ∷ groups) =
-    choose-names (λ names. length names ≡ suc (length groups)) (keeps_name earlier group.name) _ _
-    (λ k. ap suc (groups_along free (earlier ++ group.name ∷ []) groups))
-    (λ k. ap suc (groups_along (drop 1 free) (earlier ++ group.name ∷ []) groups))
 
 pub group_at : (names : List (List ℕ)) (g : ℕ) → AllByRecursion IsSpelledName names → g < length names → IsSpelledName (unwrap_or (slice_get names g) [])
 group_at [] g h less = absurd (omega arith)

@@ -1,8 +1,8 @@
 -- The options of the program that tables are written out as are called as the options of the tables are.
-use Rattle.std.proofs.Common.{◌≡◌, ℕ, ◌+◌, Bool, true, false, ◌||◌, List, [], ◌∷◌, ◌++◌, length, drop, map, refl, ◌∙◌, arith}
+use Rattle.std.proofs.Common.{◌≡◌, ℕ, ◌+◌, true, false, List, [], ◌∷◌, ◌++◌, length, drop, map, refl, ◌∙◌}
 use Rattle.std.specs.Prelude.{flat_map, nat_eq, slice_get, unwrap_or, option_to_list}
 use Rattle.std.specs.List.{list_any, AllByRecursion}
-use Rattle.std.proofs.lemmas.Bool.Decides.{nat_tests}
+use Rattle.std.proofs.lemmas.Bool.{or_left, or_right, eq-eqb, or_from}
 use Rattle.kmn_base.specs.Names.{same_name}
 use Rattle.kmn_base.specs.declared.keys.RuleKey.{RuleKey}
 use Rattle.kmn_base.specs.declared.keys.RuleKey.TheVariants as key
@@ -27,7 +27,8 @@ use Rattle.decompile_laws.specs.Back.{back_rule, back_rules, back_statement, mat
 use Rattle.decompile_laws.proofs.Choosing.{all_join, all_parts}
 use Rattle.decompile_laws.proofs.Good.{IsOption}
 use Rattle.spelled_files.proofs.StatedNames.{named-cons}
-use Rattle.spelled_files.proofs.ApartNames.{or-none, named-none}
+use Rattle.spelled_files.proofs.ApartNames.{named-none}
+use Rattle.spelled_files.proofs.GroupRules.{rules_of}
 
 -- what holds of the names that all of two lists give
 join-flat : {X : Type 0} (P : List ℕ → Type 0) (f : X → List (List ℕ)) (xs ys : List X) → AllByRecursion P (flat_map f xs) → AllByRecursion P (flat_map f ys)
@@ -100,9 +101,6 @@ module _ (names : Names) (P : List ℕ → Type 0) where
       join-flat P source_options (back_rules names (line + 1) g.rules) (matched ++ unmatched) (rules-called (line + 1) g.rules one.0)
       (join-flat P source_options matched unmatched (statement-called OnMatch (match_line line g) g.on_match two.0) (statement-called OnNoMatch (nomatch_line names line g) g.on_nomatch two.1))
 
-  abbrev rules_of : GroupDef → List RuleDef
-  rules_of group = group.rules
-
   groups-called : (line : ℕ) (called : List (List ℕ)) (gs : List Group) → AllByRecursion Called (flat_map group_options gs)
       → AllByRecursion P (flat_map source_options (flat_map rules_of (back_groups names line called gs)))
   groups-called line called [] h = tt
@@ -120,24 +118,13 @@ options_called tables P h =
     groups-called (names_for tables) P (1 + length (written_stores tables) + length (written_begins tables)) (names_for tables).groups tables.groups h
 
 -- what holds of each number of a list
-or-first : (a b : Bool) → a ≡ true → (a || b) ≡ true
-or-first true b e = refl
-or-first false b e = absurd (cc)
-
-or-second : (a b : Bool) → b ≡ true → (a || b) ≡ true
-or-second true b e = refl
-or-second false b e = e
-
-itself : (n : ℕ) → nat_eq n n ≡ true
-itself n = grind (arith, nat_tests)
-
 each-of : (P : ℕ → Type 0) (xs : List ℕ) → ((n : ℕ) → list_any (nat_eq n) xs ≡ true → P n) → AllByRecursion P xs
 each-of P [] h = tt
-each-of P (x ∷ xs) h = (h x (or-first (nat_eq x x) (list_any (nat_eq x) xs) (itself x)), each-of P xs (λ n e. h n (or-second (nat_eq n x) (list_any (nat_eq n) xs) e)))
+each-of P (x ∷ xs) h = (h x (or_left (nat_eq x x) (list_any (nat_eq x) xs) (eq-eqb x x refl)), each-of P xs (λ n e. h n (or_right (nat_eq n x) (list_any (nat_eq n) xs) e)))
 
 not-among : (x : List ℕ) (names : List (List ℕ)) → AllByRecursion (λ (y : List ℕ). same_name x y ≡ false) names → is_named names x ≡ false
 not-among x [] h = named-none x
-not-among x (y ∷ names) h = named-cons y names x ∙ or-none (same_name x y) (is_named names x) h.0 (not-among x names h.1)
+not-among x (y ∷ names) h = named-cons y names x ∙ or_from (same_name x y) (is_named names x) h.0 (not-among x names h.1)
 
 -- a name that no option of the tables is called by is no option's
 pub not_option : (tables : Tables) (x : List ℕ) → ((n : ℕ) → IsOption tables n → same_name x (store_called (names_for tables) n) ≡ false) → is_option (known (back tables)) x ≡ false

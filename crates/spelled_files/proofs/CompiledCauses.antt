@@ -1,5 +1,5 @@
 -- No cause holds of any part of a file that a program compiles to, where the program is accepted and was written so.
-use Rattle.std.proofs.Common.{◌≡◌, ℕ, ◌+◌, ◌≤◌, Bool, true, false, not, ◌&&◌, ◌||◌, List, [], ◌∷◌, ◌++◌, length, map, Option, Some, None, refl, sym, ◌∙◌, ap, subst, arith, if◌then◌else◌}
+use Rattle.std.proofs.Common.{◌≡◌, ℕ, ◌+◌, ◌≤◌, Bool, true, false, not, ◌||◌, List, [], ◌∷◌, ◌++◌, length, map, Option, Some, None, refl, sym, ◌∙◌, ap, subst, arith}
 use Rattle.std.specs.Prelude.{All, drop, flat_map, nat_eq, slice_get, take, unwrap_or}
 use Rattle.std.specs.List.{list_all, list_any, AllByRecursion, join_with_byte}
 use Rattle.std.specs.Str.{bytes_eq, chars, str_to_ascii_lowercase}
@@ -50,6 +50,7 @@ use Rattle.decompile_laws.specs.Names.{named_stores}
 use Rattle.decompile_laws.specs.Back.{free_stores, mark_stores, key_stores, names_for}
 use Rattle.decompile_laws.proofs.Apart.{same-turned}
 use Rattle.decompile_laws.proofs.OptionNames.{option-named}
+use Rattle.decompile_laws.proofs.Choosing.{clash, choose-then}
 use Rattle.program_text.specs.Names.{is_source_name}
 use Rattle.kmn_items.specs.Words.{is_system_name}
 use Rattle.rule_model.specs.declared.program.SrcItem.{SrcItem}
@@ -64,6 +65,8 @@ use Rattle.spelled_files.proofs.NoCauses.{no_causes}
 use Rattle.spelled_files.proofs.Sayable.{IsSayableGroup, AreSayable}
 use Rattle.spelled_files.proofs.StatedStores.{IsStatedStore, all_stated, characters_alone, system_fine}
 use Rattle.spelled_files.proofs.UsedOptions.{option_used, none_before}
+use Rattle.spelled_files.proofs.Conjunctions.{fails-when}
+use Rattle.spelled_files.proofs.GroupRules.{rules_of}
 
 -- options don't depend on the places of keys
 rules-use : (rules : List Rule) → flat_map rule_options (map rule_without_place rules) ≡ flat_map rule_options rules
@@ -77,21 +80,6 @@ groups-use (group ∷ groups) = rw (rules-use group.rules) (ap (λ rest. group_o
 same-options : (tables : Tables) → tab_options (no_places tables) ≡ tab_options tables
 unfolding tab_options
 same-options tables = groups-use tables.groups
-
-when : (a b : Bool) → (a ≡ true → b ≡ false) → (a && b) ≡ false
-when true b h = h refl
-when false b h = refl
-
-no-other : (s : Store) (system : ℕ) → s.system ≡ system → nat_eq system 34 ≡ false → is_dictionary s ≡ false
-no-other s system e h = ap (λ (n : ℕ). nat_eq n 34) e ∙ h
-
-chosen : {X : Type 0} (b : Bool) (x y : X) → b ≡ true → (if b then x else y) ≡ x
-chosen true x y e = refl
-chosen false x y e = absurd (cc)
-
-clash : {X : Type 0} (b : Bool) → b ≡ true → b ≡ false → X
-clash true e f = absurd (cc)
-clash false e f = absurd (cc)
 
 module _ (program : Program) (read : IsRead program) (accepted : refused program ≡ None) (written : WasWritten program) (tables : Tables) (compiles : Compiles program tables) where
   abbrev whole : IsUnrefused program
@@ -193,7 +181,7 @@ module _ (program : Program) (read : IsRead program) (accepted : refused program
       (keeps (named_stores placeless) s (drop (length (mark_stores placeless ++ key_stores placeless)) (free_stores placeless)) [] 0 tables.stores n n (omega arith) at keeps_it refl apart) in
       let kept : bytes_eq (store_called names n) s.name ≡ true = (bytes_decides (store_called names n) s.name).1 called in
       let zero_system : nat_eq stated.statement.system 0 ≡ true = ap (λ (m : ℕ). nat_eq m 0) (sym stated.system ∙ ordinary) in
-      let want = chosen (nat_eq stated.statement.system 0) _ _ zero_system ∙ (ap (is_option (known program)) (sym stated.name) ∙ used.used.option s.name same) in
+      let want = choose-then (nat_eq stated.statement.system 0) _ _ zero_system ∙ (ap (is_option (known program)) (sym stated.name) ∙ used.used.option s.name same) in
       let alone = characters_alone (known program) s stated want in
       λ i. not (system i) || (not (kept i) || alone i)
 
@@ -201,8 +189,8 @@ module _ (program : Program) (read : IsRead program) (accepted : refused program
   store-fine n s at =
       let good = all_at Good tables.stores all-good n s at in
       λ i. no_elements (is_unspelled_element names) s.elements good.fine i
-      || (when (is_first_dictionary tables.stores n) (is_unspelled_dictionary s.elements) (λ e. good.dictionary (first_dictionary tables.stores n s at e)) i
-      || (when (list_any (nat_eq n) (tab_options placeless)) (is_unspelled_option names n s) (λ e. option-fine n s at e) i || good.system i))
+      || (fails-when (is_first_dictionary tables.stores n) (is_unspelled_dictionary s.elements) (λ e. good.dictionary (first_dictionary tables.stores n s at e)) i
+      || (fails-when (list_any (nat_eq n) (tab_options placeless)) (is_unspelled_option names n s) (λ e. option-fine n s at e) i || good.system i))
 
   stores-sayable : AreSayable names (tab_options placeless) 0 tables.stores
   stores-sayable =
@@ -239,23 +227,20 @@ module _ (program : Program) (read : IsRead program) (accepted : refused program
     rules-said rules (All-tail IsWrittenRule rule rules ok) (All-tail AreReadItems rule rules is) (All-tail (Passes (has_keys program)) rule rules keys_of) (All-tail (Passes (has_marks program)) rule rules marks_of) codes.1,
   )
 
-  abbrev rules_in : GroupDef → List RuleDef
-  rules_in group = group.rules
-
   abbrev made : GroupDef → Group
   made group = ordered_group (file_group (numbers_of program) group)
 
   groups-sayable : (groups : List GroupDef) → list_all (is_known_group program) groups ≡ true → list_all (λ (g : GroupDef). list_all (λ r. list_all (has_values program) (rule_items r)) g.rules) groups ≡ true
-      → All IsWrittenRule (flat_map rules_in groups) → All AreReadItems (flat_map rules_in groups) → All (Passes (has_keys program)) (flat_map rules_in groups) → All (Passes (has_marks program)) (flat_map rules_in groups)
+      → All IsWrittenRule (flat_map rules_of groups) → All AreReadItems (flat_map rules_of groups) → All (Passes (has_keys program)) (flat_map rules_of groups) → All (Passes (has_marks program)) (flat_map rules_of groups)
       → AllByRecursion (Stands (rules_refusal (known program))) groups → AllByRecursion (IsSayableGroup names) (map group_without_places (map made groups))
   groups-sayable [] stated values ok is keys_of marks_of codes = tt
   groups-sayable (group ∷ groups) stated values ok is keys_of marks_of codes =
       let s = and_parts (is_known_group program group) (list_all (is_known_group program) groups) stated in
       let v = and_parts (list_all (λ r. list_all (has_values program) (rule_items r)) group.rules) (list_all (λ (g : GroupDef). list_all (λ r. list_all (has_values program) (rule_items r)) g.rules) groups) values in
-      let o = All-append_parts IsWrittenRule group.rules (flat_map rules_in groups) ok in
-      let r = All-append_parts AreReadItems group.rules (flat_map rules_in groups) is in
-      let k = All-append_parts (Passes (has_keys program)) group.rules (flat_map rules_in groups) keys_of in
-      let m = All-append_parts (Passes (has_marks program)) group.rules (flat_map rules_in groups) marks_of in (
+      let o = All-append_parts IsWrittenRule group.rules (flat_map rules_of groups) ok in
+      let r = All-append_parts AreReadItems group.rules (flat_map rules_of groups) is in
+      let k = All-append_parts (Passes (has_keys program)) group.rules (flat_map rules_of groups) keys_of in
+      let m = All-append_parts (Passes (has_marks program)) group.rules (flat_map rules_of groups) marks_of in (
         group_fine program read whole names are-names group (group_known program group s.0 v.0)
             (rules-said group.rules o.0 r.0 k.0 m.0 (none_first (rule_refusal (known program)) [] group.rules codes.0.1)),
         groups-sayable groups s.1 v.1 o.1 r.1 k.1 m.1 codes.1,

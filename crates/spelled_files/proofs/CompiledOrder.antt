@@ -11,6 +11,7 @@ use Rattle.kmx_format.specs.TablesOf.{rule_without_place, group_without_places, 
 use Rattle.kmx_format.proofs.FileLaw.{law}
 use Rattle.compile_laws.specs.Compiles.{stands_before, Compiles}
 use Rattle.store_table.specs.First.{or_else}
+use Rattle.decompile_laws.proofs.Choosing.{choose-else}
 use Rattle.spelled_files.specs.declared.no_spelling.NoSpelling.TheVariants.{Order}
 use Rattle.spelled_files.specs.Unspelled.{longer_behind, first_longer, disorder}
 use Rattle.spelled_files.specs.Laws.{CompiledIsInOrder}
@@ -24,10 +25,6 @@ not-longer a b h = by (nat_lt (length b.context) (length a.context)) h
         → t ≡ false
     by true h = absurd (cc)
     by false h = refl
-
-choose-else : {A : Type 0} (b : Bool) (x y : A) → b ≡ false → cond b x y ≡ y
-choose-else true x y e = absurd (cc)
-choose-else false x y e = refl
 
 none-longer : (n : ℕ) (before : Rule) (rules : List Rule) → IsSortedBy stands_before (before ∷ rules) → longer_behind n (length before.context) (map rule_without_place rules) ≡ None
 none-longer n before [] up = refl

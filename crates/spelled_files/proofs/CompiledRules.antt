@@ -1,9 +1,8 @@
 -- No cause holds of the rules and groups of a file that a program compiles to.
-use Rattle.std.proofs.Common.{◌≡◌, ℕ, suc, zero, ◌+◌, ◌≤◌, Bool, true, false, not, ◌&&◌, ◌||◌, List, [], ◌∷◌, ◌++◌, length, map, Option, None, Some, refl, sym, ◌∙◌, ap, arith, if◌then◌else◌}
+use Rattle.std.proofs.Common.{◌≡◌, ℕ, suc, zero, ◌+◌, Bool, true, false, not, ◌&&◌, ◌||◌, List, [], ◌∷◌, ◌++◌, length, map, Option, None, Some, refl, sym, ◌∙◌, ap, arith, if◌then◌else◌}
 use Rattle.std.specs.Prelude.{All, nat_eq, nat_lt, filter, filter_map, find, flat_map, option_to_list, slice_get, unwrap_or}
 use Rattle.std.specs.List.{list_all, list_any, AllByRecursion}
-use Rattle.std.proofs.lemmas.Bool.{and_parts, or_parts, ne_eqb}
-use Rattle.std.proofs.lemmas.Bool.Decides.{nat_tests}
+use Rattle.std.proofs.lemmas.Bool.{and_parts, or_parts, ne_eqb, le-ltb}
 use Rattle.std.proofs.lemmas.List.Elements.{All-head, All-tail, All-from_recursion, recursion_from_All}
 use Rattle.std.proofs.lemmas.List.Folds.{list_all-append, list_any-append}
 use Rattle.std.proofs.lemmas.List.Sorted.{All-permutation}
@@ -56,9 +55,6 @@ use Rattle.spelled_files.specs.Causes.{is_far_mark, is_unspelled_key, is_system_
 use Rattle.spelled_files.specs.Written.{IsWrittenItem, stands_in_context, has_late_item, is_nul_item, IsWrittenContext, IsWrittenRule}
 use Rattle.spelled_files.proofs.CompiledElements.{IsFine, IsFineStore, found_fine, key_named, mark_near}
 use Rattle.spelled_files.proofs.Sayable.{IsSayableRule, IsSayableGroup}
-
-one-most : (n : ℕ) → n ≤ 1 → nat_lt 1 n ≡ false
-one-most n h = grind (arith, nat_tests, h)
 
 characters-alone : (cs : List ℕ) → list_any is_no_character (map element.Char cs) ≡ false
 characters-alone [] = refl
@@ -173,7 +169,7 @@ module _ (program : Program) (read : IsRead program) (whole : IsUnrefused progra
       let order : stands_behind_match false (map (file_pattern numbers) items) ≡ false = order-same numbers false items ∙ ok.order in
       let count = nul-count numbers [] items ok.stand code in
       let most = ok.one_nul in
-      let one : nat_lt 1 (length (filter is_nul (map (file_pattern numbers) items))) ≡ false = one-most (length (filter is_nul (map (file_pattern numbers) items))) (omega (arith, count, most)) in
+      let one : nat_lt 1 (length (filter is_nul (map (file_pattern numbers) items))) ≡ false = le-ltb 1 (length (filter is_nul (map (file_pattern numbers) items))) (omega (arith, count, most)) in
       λ i. fine i || (order i || one i)
 
   -- outputs

@@ -1,9 +1,9 @@
 -- What the limits count of the program that tables are written out as is what the stores have that it compiles to.
-use Rattle.std.proofs.Common.{◌≡◌, ℕ, ◌≤◌, Bool, true, false, List, [], ◌∷◌, ◌++◌, length, map, None, refl, sym, ◌∙◌, ap, subst, arith}
-use Rattle.std.specs.Prelude.{All, ◌+◌, ◌||◌, flat_map, nat_lt, sum}
+use Rattle.std.proofs.Common.{◌≡◌, ℕ, ◌≤◌, false, List, [], ◌∷◌, ◌++◌, length, map, None, refl, sym, ◌∙◌, ap, subst, arith}
+use Rattle.std.specs.Prelude.{All, ◌+◌, flat_map, nat_lt, sum}
 use Rattle.std.specs.List.{list_any, AllByRecursion, join_with_byte}
 use Rattle.std.specs.Str.{bytes_eq, chars}
-use Rattle.std.proofs.lemmas.Bool.Decides.{nat_tests}
+use Rattle.std.proofs.lemmas.Bool.{le-ltb, or_from}
 use Rattle.std.proofs.lemmas.List.{length-map, map-append}
 use Rattle.std.proofs.lemmas.List.Concat.{flat_map-append, length-flat_map}
 use Rattle.std.proofs.lemmas.List.Sums.{sum-map}
@@ -40,9 +40,6 @@ use Rattle.spelled_files.proofs.Sayable.{IsSayable}
 use Rattle.spelled_files.proofs.FewItems.{statements, all_short, records_few, groups_few, marks_few}
 use Rattle.spelled_files.proofs.UnpassedLimits.{KeepsLimits, no_limit_passed}
 use Rattle.spelled_files.proofs.UnrefusedRules.{no-earlier}
-
-not-passed : (limit n : ℕ) → n ≤ limit → nat_lt limit n ≡ false
-not-passed limit n h = grind (arith, nat_tests, h)
 
 -- what is gathered from statements in the order of their lines, of rules alone and of stores alone
 module _ {Y : Type 0} (f : Statement → List Y) where
@@ -119,10 +116,6 @@ module _ (tables : Tables) (can : IsPlayable tables) (out : CanBeWrittenOut tabl
   abbrev pub AreShortStores : Type 0
   AreShortStores = list_any (nat_lt STORE_ELEMENTS) (map element_count (compiled_stores program)) ≡ false
 
-  both-none : (a b : Bool) → a ≡ false → b ≡ false → (a || b) ≡ false
-  both-none true b e f = absurd (cc)
-  both-none false b e f = f
-
   few-stores : IsSayable tables → length (compiled_stores program) ≤ STORES
   unfolding store_count
   few-stores said = said.small.stores
@@ -142,8 +135,8 @@ module _ (tables : Tables) (can : IsPlayable tables) (out : CanBeWrittenOut tabl
       let flat = length-flat_map elements_of (compiled_stores program) in
       record {
         elements = subst (λ (ns : List ℕ). have_many_elements ns ≡ false) (sym counted)
-            (both-none (list_any (nat_lt STORE_ELEMENTS) (map element_count (compiled_stores program))) (nat_lt ALL_ELEMENTS (sum (map element_count (compiled_stores program)))) short
-            (not-passed ALL_ELEMENTS (sum (map element_count (compiled_stores program))) (omega (arith, elements, total, flat))));
+            (or_from (list_any (nat_lt STORE_ELEMENTS) (map element_count (compiled_stores program))) (nat_lt ALL_ELEMENTS (sum (map element_count (compiled_stores program)))) short
+            (le-ltb ALL_ELEMENTS (sum (map element_count (compiled_stores program))) (omega (arith, elements, total, flat))));
         stores = omega (arith, stores, l, m);
         marks = marks_few tables can said out;
         records = records_few tables can;

@@ -22,6 +22,7 @@ use Rattle.checker_laws.proofs.Lists.{All-flat_map, All-distinct, all_pass}
 use Rattle.spelled_files.specs.Causes.{is_dictionary_name, are_repeated, is_unspelled_dictionary}
 use Rattle.spelled_files.specs.Written.{IsWrittenItem, IsWrittenStore, IsWrittenRule, WasWritten}
 use Rattle.spelled_files.proofs.CompiledRules.{characters_again}
+use Rattle.spelled_files.proofs.SpelledKeys.{IsKeyName}
 
 -- ---- words that are joined part again
 
@@ -94,9 +95,6 @@ dictionary_fine name names w good apart =
     let again : words (encode_utf8_all (filter_map element_char (map element.Char cs))) ≡ name ∷ names = ap (λ (read : List ℕ). words (encode_utf8_all read)) (characters_again cs) ∙ words-again name names w in
     (λ i. not (list_all is_dictionary_name (again i)) || are_repeated [] (again i)) ∙ (λ i. not (good i) || apart i)
 
-abbrev IsDictionaryName : List ℕ → Type 0
-IsDictionaryName name = is_dictionary_name name ≡ true
-
 -- ---- the names of a program's own keys
 
 module _ (program : Program) (written : WasWritten program) where
@@ -112,19 +110,19 @@ module _ (program : Program) (written : WasWritten program) where
       (All-append IsWrittenItem (rule_items rule) (items_from (stores_after rule.line stores) rules) (All-head IsWrittenRule rule rules items).items
       (items-written (stores_after rule.line stores) rules (All-drop IsWrittenStore count stores ok) (All-tail IsWrittenRule rule rules items)))
 
-  key-named : (item : SrcItem) → IsWrittenItem item → All IsDictionaryName (key_names item)
+  key-named : (item : SrcItem) → IsWrittenItem item → All IsKeyName (key_names item)
   key-named (source.Key key) ok = by (nat_eq key.code 0) refl
     where
-      by : (b : Bool) → nat_eq key.code 0 ≡ b → All IsDictionaryName (if b then key.name ∷ [] else [])
+      by : (b : Bool) → nat_eq key.code 0 ≡ b → All IsKeyName (if b then key.name ∷ [] else [])
       by true e =
           let own = ok.own (eqb-true key.code 0 e) in
-          All-cons IsDictionaryName key.name [] (λ i. own.0 i && (own.1.read i && own.1.utf8 i)) (All-nil IsDictionaryName)
-      by false e = All-nil IsDictionaryName
-  key-named item ok = All-nil IsDictionaryName
+          All-cons IsKeyName key.name [] (λ i. own.0 i && (own.1.read i && own.1.utf8 i)) (All-nil IsKeyName)
+      by false e = All-nil IsKeyName
+  key-named item ok = All-nil IsKeyName
 
   pub names_good : list_all is_dictionary_name (names_of program).keys ≡ true
   unfolding names_of
   names_good =
-      all_pass IsDictionaryName is_dictionary_name (λ name h. h) (distinct_onto same_name [] (flat_map key_names (source_items program)))
-      (All-distinct IsDictionaryName same_name [] (flat_map key_names (source_items program)) (All-nil IsDictionaryName)
-      (All-flat_map IsWrittenItem IsDictionaryName key_names key-named (source_items program) (items-written program.stores (all_rules program) written.stores written.rules)))
+      all_pass IsKeyName is_dictionary_name (λ name h. h) (distinct_onto same_name [] (flat_map key_names (source_items program)))
+      (All-distinct IsKeyName same_name [] (flat_map key_names (source_items program)) (All-nil IsKeyName)
+      (All-flat_map IsWrittenItem IsKeyName key_names key-named (source_items program) (items-written program.stores (all_rules program) written.stores written.rules)))

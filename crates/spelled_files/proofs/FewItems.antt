@@ -3,11 +3,11 @@ use Rattle.std.proofs.Common.{◌≡◌, ℕ, ◌+◌, ◌≤◌, Bool, false, L
 use Rattle.std.specs.Prelude.{All, flat_map, sum, slice_get, unwrap_or, nat_lt}
 use Rattle.std.specs.List.{AllByRecursion, range_with_len}
 use Rattle.std.specs.Fmt.{decimal}
-use Rattle.std.proofs.lemmas.Bool.Decides.{nat_tests}
+use Rattle.std.proofs.lemmas.Bool.{le-ltb}
 use Rattle.std.proofs.lemmas.List.{length-map, map-append}
 use Rattle.std.proofs.lemmas.List.Elements.{All-head, All-tail}
 use Rattle.std.proofs.lemmas.List.FromFn.{length-range_with_len}
-use Rattle.std.proofs.lemmas.List.Sums.{sum_by-append, sum_by-cons}
+use Rattle.std.proofs.lemmas.List.Sums.{sum_by-cons}
 use Rattle.kmn_base.specs.declared.keys.RuleKey.{RuleKey}
 use Rattle.kmn_base.specs.declared.keys.RuleKey.TheVariants as key
 use Rattle.kmn_base.specs.declared.limits.TheConstants.{CONTEXT_ITEMS, OUTPUT_ITEMS, RECORDS, DEADKEYS}
@@ -39,19 +39,14 @@ use Rattle.decompile_laws.proofs.Choosing.{all_join}
 use Rattle.decompile_laws.proofs.Numbering.{marks-are}
 use Rattle.spelled_files.proofs.Sayable.{IsSayable}
 use Rattle.spelled_files.proofs.SpelledPrograms.{greatest_near}
-use Rattle.spelled_files.proofs.UnpassedLimits.{IsShort, few_groups_refused}
-
-not-passed : (limit n : ℕ) → n ≤ limit → nat_lt limit n ≡ false
-not-passed limit n h = grind (arith, nat_tests, h)
-
-sum-append : (xs ys : List ℕ) → sum (xs ++ ys) ≡ sum xs + sum ys
-sum-append xs ys = sum_by-append (λ x. x) xs ys
+use Rattle.spelled_files.proofs.UnpassedLimits.{IsShort, few_groups_refused, sum_append}
+use Rattle.spelled_files.proofs.GroupRules.{rules_of}
 
 sum-cons : (x : ℕ) (xs : List ℕ) → sum (x ∷ xs) ≡ x + sum xs
 sum-cons x xs = sum_by-cons (λ x. x) x xs
 
 sum-mapped : {X : Type 0} (f : X → ℕ) (xs ys : List X) → sum (map f (xs ++ ys)) ≡ sum (map f xs) + sum (map f ys)
-sum-mapped f xs ys = ap sum (map-append f xs ys) ∙ sum-append (map f xs) (map f ys)
+sum-mapped f xs ys = ap sum (map-append f xs ys) ∙ sum_append (map f xs) (map f ys)
 
 -- what holds of all rules, and of each store, holds of all statements in the order of their lines
 module _ (P : Statement → Type 0) (stores-have : (store : StoreDef) → P (OfStore store)) where
@@ -64,9 +59,6 @@ module _ (P : Statement → Type 0) (stores-have : (store : StoreDef) → P (OfS
   of-statements stores (rule ∷ rules) h =
       all_join P (map OfStore (stores_before rule.line stores)) (OfRule rule ∷ in_line_order (stores_after rule.line stores) rules) (of-stores (stores_before rule.line stores))
       (h.0, of-statements (stores_after rule.line stores) rules h.1)
-
-abbrev rules_of : GroupDef → List RuleDef
-rules_of group = group.rules
 
 module _ (facts : Known) (names : Names) where
   abbrev ShortRule : RuleDef → Type 0
@@ -96,7 +88,7 @@ module _ (facts : Known) (names : Names) where
       omega (arith, here, rest, all)
 
   output-short : (os : List Out) → length os ≤ OUTPUT_ITEMS → nat_lt OUTPUT_ITEMS (output_size facts.stores (map (back_output names) os)) ≡ false
-  output-short os few = not-passed OUTPUT_ITEMS (output_size facts.stores (map (back_output names) os)) (let count = output-count os in omega (arith, few, count))
+  output-short os few = le-ltb OUTPUT_ITEMS (output_size facts.stores (map (back_output names) os)) (let count = output-count os in omega (arith, few, count))
 
   some-short : (os : List Out) → length os ≤ OUTPUT_ITEMS → nat_lt OUTPUT_ITEMS (output_size facts.stores (some_items (map (back_output names) os))) ≡ false
   some-short [] few = refl
@@ -104,7 +96,7 @@ module _ (facts : Known) (names : Names) where
 
   rule-short : (stores groups : ℕ) (using_keys : Bool) (line : ℕ) (rule : Rule) → IsWritableRule stores groups using_keys rule → ShortRule (back_rule names line rule)
   rule-short stores groups using_keys line rule can = (
-    not-passed CONTEXT_ITEMS (length (map (back_pattern names) rule.context)) (let l = length-map rule.context (back_pattern names) in let few = can.context.item_count in omega (arith, l, few)),
+    le-ltb CONTEXT_ITEMS (length (map (back_pattern names) rule.context)) (let l = length-map rule.context (back_pattern names) in let few = can.context.item_count in omega (arith, l, few)),
     some-short rule.output can.output.item_count,
   )
 

@@ -1,8 +1,9 @@
 -- Where stores and groups of tables are stated by the names that they are called by, no rule that is written out of the
 -- tables is refused for a name.
-use Rattle.std.proofs.Common.{◌≡◌, ℕ, ◌+◌, ◌<◌, Bool, true, false, not, ◌||◌, List, [], ◌∷◌, ◌++◌, length, drop, map, Option, None, Some, refl, sym, subst}
+use Rattle.std.proofs.Common.{◌≡◌, ℕ, ◌+◌, ◌<◌, Bool, true, false, not, ◌||◌, List, [], ◌∷◌, ◌++◌, length, drop, map, None, refl, sym, subst}
 use Rattle.std.specs.Prelude.{slice_get, unwrap_or, option_to_list}
 use Rattle.std.specs.List.{list_any, AllByRecursion}
+use Rattle.std.proofs.lemmas.Bool.{not_from_true}
 use Rattle.std.proofs.lemmas.List.Folds.{list_any-append}
 use Rattle.kmn_base.specs.declared.codes.Code.TheVariants.{C05, C06, C15}
 use Rattle.kmn_base.specs.declared.keys.RuleKey.{RuleKey}
@@ -21,20 +22,13 @@ use Rattle.rule_model.specs.declared.tables.Tables.{Tables}
 use Rattle.rule_model.specs.Naming.{rule_items}
 use Rattle.rule_model.specs.Src.{is_on_match, is_on_nomatch}
 use Rattle.store_table.specs.declared.stating.Stated.{Stated}
-use Rattle.store_table.specs.First.{or_else, broken, first_code, first_of}
+use Rattle.store_table.specs.First.{broken, first_code, first_of}
 use Rattle.store_table.specs.Names.{is_named, names_no_store, names_no_group, is_second, is_again, rule_item_code, rule_code, rule_refusal, rules_refusal}
+use Rattle.checker_laws.proofs.Unrefused.{none_both}
 use Rattle.decompile_laws.specs.Items.{Names, store_called, group_called, back_pattern, back_output, back_key, some_items}
 use Rattle.decompile_laws.specs.Back.{back_rule, back_rules, back_statement, match_line, nomatch_line, back_group, back_groups}
 use Rattle.decompile_laws.proofs.Good.{IsNamed, GoodPattern, GoodOutput, GoodRule, GoodGroup}
 use Rattle.spelled_files.proofs.UnrefusedRules.{no-else, no-earlier, no-line, no-broken}
-
-not-true : (b : Bool) → b ≡ true → not b ≡ false
-not-true true h = refl
-not-true false h = absurd (cc)
-
-none-both : {A : Type 0} (a b : Option A) → or_else a b ≡ None → (a ≡ None) × (b ≡ None)
-none-both None b h = (refl, h)
-none-both (Some x) b h = absurd (cc)
 
 -- of a group's rules at most one is a match and one a nomatch, behind some of which these two are known
 abbrev AtMostOne : Bool → Bool → List RuleDef → Type 0
@@ -64,14 +58,14 @@ module _ (stated : Stated) where
   codes-append : (xs ys : List SrcItem) → first_code (rule_item_code stated) xs ≡ None → first_code (rule_item_code stated) ys ≡ None → first_code (rule_item_code stated) (xs ++ ys) ≡ None
   codes-append [] ys h k = k
   codes-append (x ∷ xs) ys h k =
-      let both = none-both (rule_item_code stated x) (first_code (rule_item_code stated) xs) h in
+      let both = none_both (rule_item_code stated x) (first_code (rule_item_code stated) xs) h in
       no-else (rule_item_code stated x) (first_code (rule_item_code stated) (xs ++ ys)) both.0 (codes-append xs ys both.1 k)
 
   module _ (tables : Tables) (names : Names)
       (stores : (n : ℕ) → IsNamed tables n → is_named stated.stores (store_called names n) ≡ true)
       (groups : (g : ℕ) → g < length tables.groups → is_named stated.groups (group_called names g) ≡ true) where
     store-fine : (n : ℕ) → IsNamed tables n → not (is_named stated.stores (store_called names n)) ≡ false
-    store-fine n a = not-true (is_named stated.stores (store_called names n)) (stores n a)
+    store-fine n a = not_from_true (is_named stated.stores (store_called names n)) (stores n a)
 
     pattern-fine : (p : Pat) → GoodPattern tables p → rule_item_code stated (back_pattern names p) ≡ None
     pattern-fine (pattern.Any n) g = item-fine (back_pattern names (pattern.Any n)) (store-fine n g.named.0) refl
@@ -90,7 +84,7 @@ module _ (stated : Stated) where
     output-fine (output.Save n) g = item-fine (back_output names (output.Save n)) (store-fine n g.named.0) refl
     output-fine (output.Reset n) g = item-fine (back_output names (output.Reset n)) (store-fine n g.named.0) refl
     output-fine (output.Enter n) g =
-        item-fine (back_output names (output.Enter n)) refl (not-true (is_named stated.groups (group_called names n)) (groups n g.groups.0))
+        item-fine (back_output names (output.Enter n)) refl (not_from_true (is_named stated.groups (group_called names n)) (groups n g.groups.0))
     output-fine (output.Char c) g = refl
     output-fine (output.Mark m) g = refl
     output-fine output.Context g = refl

@@ -9,12 +9,14 @@ pub mod CompiledOrder
 pub mod CompiledRules
 pub mod CompiledSources
 pub mod CompiledStores
+pub mod Conjunctions
 pub mod CountedSizes
 pub mod DictionarySizes
 pub mod DictionaryWords
 pub mod FewItems
 pub mod FileBounds
 pub mod Fitting
+pub mod GroupRules
 pub mod KnownNames
 pub mod Meaning
 pub mod NoCauses

@@ -1,7 +1,7 @@
 -- The text of a token is one token: taken by itself it has the size that it had before what stood behind it.
 use Rattle.std.proofs.Common.{◌≡◌, ℕ, zero, suc, ◌+◌, ◌<◌, ◌≤◌, Bool, true, false, ◌&&◌, ◌||◌, ◌==◌, if◌then◌else◌, List, [], ◌∷◌, length, take, drop, Option, Some, is_some, refl, sym, ◌∙◌, ap, subst, arith}
 use Rattle.std.specs.Prelude.{nat_le}
-use Rattle.std.proofs.lemmas.Bool.{leb-true}
+use Rattle.std.proofs.lemmas.Bool.{leb-true, and_right}
 use Rattle.std.proofs.lemmas.List.{length-take-le}
 use Rattle.kmn_base.specs.Bytes.{is_quote, hex_digit}
 use Rattle.kmn_lines.specs.Bytes.{first_or_end}
@@ -9,19 +9,15 @@ use Rattle.kmn_lines.specs.Tokens.{single, is_unequal, in_word, word_size, quote
 use Rattle.kmn_lines.proofs.Sizes.{both, and-true, take-one, in_word-plain, in_word-from, in_word-far, token_size-within}
 use Rattle.decompile_laws.proofs.Choosing.{choose-then, choose-else, clash}
 
-and-false : (a : Bool) → (a && false) ≡ false
-and-false true = refl
-and-false false = refl
-
 -- a byte of a word is one where the text is cut off
 word-cut : (byte m : ℕ) (bytes : List ℕ) → in_word byte (first_or_end bytes) ≡ true → in_word byte (first_or_end (take m bytes)) ≡ true
-word-cut byte zero bytes h = let plain = in_word-plain byte (first_or_end bytes) h in in_word-from byte 10 plain.blank plain.quote plain.alone (and-false (byte == 33))
+word-cut byte zero bytes h = let plain = in_word-plain byte (first_or_end bytes) h in in_word-from byte 10 plain.blank plain.quote plain.alone (and_right (byte == 33) false refl)
 word-cut byte (suc m) [] h = h
 word-cut byte (suc m) (next ∷ bytes) h = h
 
 -- a ! is no sign of inequality there
 unequal-cut : (byte m : ℕ) (bytes : List ℕ) → is_unequal byte (first_or_end bytes) ≡ false → is_unequal byte (first_or_end (take m bytes)) ≡ false
-unequal-cut byte zero bytes h = and-false (byte == 33)
+unequal-cut byte zero bytes h = and_right (byte == 33) false refl
 unequal-cut byte (suc m) [] h = h
 unequal-cut byte (suc m) (next ∷ bytes) h = h
 
@@ -45,16 +41,7 @@ quoted-again quote (byte ∷ bytes) =
     ap (quoted_size quote) (take-one m byte bytes)
     ∙ (choose-else (byte == quote) 1 (1 + quoted_size quote (take m bytes)) e ∙ ap (λ (n : ℕ). 1 + n) (quoted-again quote bytes)))
 
--- numbers begin alike
-number-cut : (n : ℕ) (text : List ℕ) → 3 ≤ n → starts_number (take n text) ≡ starts_number text
-number-cut n [] h = elim n as (λ k. starts_number (take k []) ≡ false) [ zero ↦ refl | suc m ↦ refl ]
-number-cut zero (a ∷ bytes) h = absurd (omega (arith, h))
-number-cut (suc zero) (a ∷ bytes) h = absurd (omega (arith, h))
-number-cut (suc (suc zero)) (a ∷ bytes) h = absurd (omega (arith, h))
-number-cut (suc (suc (suc n))) (a ∷ []) h = refl
-number-cut (suc (suc (suc n))) (a ∷ b ∷ []) h = refl
-number-cut (suc (suc (suc n))) (a ∷ b ∷ c ∷ bytes) h = refl
-
+-- what begins no number begins none where it is cut
 other-cut : (n : ℕ) (text : List ℕ) → starts_number text ≡ false → starts_number (take n text) ≡ false
 other-cut zero text h = refl
 other-cut (suc n) [] h = refl
@@ -151,7 +138,7 @@ plain-again byte bytes number =
     size_plain (take 2 text) (other-cut 2 text number)
     ∙ size-unequal byte (take 1 bytes) quote (ap (is_unequal byte) (first-kept bytes) ∙ differs))
     (λ alike. both Again (is_some (single byte)) 1 (word_size text)
-    (λ alone. size_plain (byte ∷ []) refl ∙ size-single byte [] quote (and-false (byte == 33)) alone)
+    (λ alone. size_plain (byte ∷ []) refl ∙ size-single byte [] quote (and_right (byte == 33) false refl) alone)
     (λ other. both Again (in_word byte (first_or_end bytes)) (1 + word_size bytes) 0
     (λ in_it.
     let m : ℕ = word_size bytes in

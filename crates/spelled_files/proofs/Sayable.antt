@@ -1,7 +1,8 @@
 -- Where there is nothing against a file's text, no cause holds and nothing is too large.
-use Rattle.std.proofs.Common.{◌≡◌, ℕ, zero, suc, ◌+◌, ◌≤◌, Bool, true, false, ◌&&◌, List, [], ◌∷◌, ◌++◌, length, Option, None, Some, refl, sym, subst, arith, if◌then◌else◌}
+use Rattle.std.proofs.Common.{◌≡◌, ℕ, zero, suc, ◌+◌, ◌≤◌, Bool, true, false, List, [], ◌∷◌, ◌++◌, length, Option, None, Some, refl, sym, subst, arith, if◌then◌else◌}
 use Rattle.std.specs.Prelude.{All, nat_lt, nat_le, option_map, slice_get}
 use Rattle.std.specs.List.{list_any, AllByRecursion}
+use Rattle.std.proofs.lemmas.Bool.{and_from, ltb-false}
 use Rattle.std.proofs.lemmas.Bool.Decides.{nat_tests}
 use Rattle.std.proofs.lemmas.List.Elements.{All-nil, All-cons}
 use Rattle.std.proofs.lemmas.Option.{none-some, same_Some}
@@ -15,6 +16,7 @@ use Rattle.rule_model.specs.Tab.{tab_options}
 use Rattle.kmx_format.specs.declared.sizes.TheConstants.{STORE_BYTES, GROUP_BYTES, RULE_BYTES}
 use Rattle.kmx_format.specs.TablesOf.{word_at, tables_of}
 use Rattle.store_table.specs.First.{or_else}
+use Rattle.checker_laws.proofs.Unrefused.{none_both}
 use Rattle.decompile_laws.specs.Items.{Names}
 use Rattle.decompile_laws.specs.Back.{names_for, back}
 use Rattle.decompile_laws.specs.WrittenOut.{fall_from, has_falling_contexts}
@@ -24,10 +26,6 @@ use Rattle.spelled_files.specs.Causes.{is_unspelled_key, is_unspelled_output, is
 use Rattle.spelled_files.specs.Places.{at_cause, store_causes, rule_causes, group_causes, cause_places, least}
 use Rattle.spelled_files.specs.Excess.{text_size, store_count, element_count, excess}
 use Rattle.spelled_files.specs.Unspelled.{longer_behind, first_longer, disorder, unspelled}
-
-none-else : {A : Type 0} (a b : Option A) → or_else a b ≡ None → (a ≡ None) × (b ≡ None)
-none-else None b h = (refl, h)
-none-else (Some x) b h = absurd (cc)
 
 none-map : {A B : Type 0} (f : A → B) (o : Option A) → option_map f o ≡ None → o ≡ None
 none-map f None h = refl
@@ -49,15 +47,8 @@ some-if : {A : Type 0} (b : Bool) (x : A) (o : Option A) → (if b then Some x e
 some-if true x o h = absurd (cc)
 some-if false x o h = (refl, h)
 
-both-true : (a b : Bool) → a ≡ true → b ≡ true → (a && b) ≡ true
-both-true true b e f = f
-both-true false b e f = absurd (cc)
-
 at-most : (a b : ℕ) → nat_lt a b ≡ false → nat_le b a ≡ true
 at-most a b h = grind (arith, nat_tests, h)
-
-pub not-more : (limit n : ℕ) → nat_lt limit n ≡ false → n ≤ limit
-not-more limit n h = grind (arith, nat_tests, h)
 
 -- contexts don't grow
 abbrev pub Falls : Group → Type 0
@@ -67,7 +58,7 @@ falls : (n before : ℕ) (rules : List Rule) → longer_behind n before rules �
 falls n before [] h = refl
 falls n before (rule ∷ rules) h =
     let parts = some-if (nat_lt before (length rule.context)) n (longer_behind (n + 1) (length rule.context) rules) h in
-    both-true (nat_le (length rule.context) before) (fall_from (length rule.context) rules)
+    and_from (nat_le (length rule.context) before) (fall_from (length rule.context) rules)
     (at-most before (length rule.context) parts.0) (falls (n + 1) (length rule.context) rules parts.1)
 
 group-falls : (rules : List Rule) → first_longer rules ≡ None → has_falling_contexts rules ≡ true
@@ -77,7 +68,7 @@ group-falls (rule ∷ rules) h = falls 1 (length rule.context) rules h
 all-fall : (g : ℕ) (groups : List Group) → disorder g groups ≡ None → All Falls groups
 all-fall g [] h = All-nil Falls
 all-fall g (group ∷ groups) h =
-    let parts = none-else (option_map (λ (rule : ℕ). Order g rule) (first_longer group.rules)) (disorder (g + 1) groups) h in
+    let parts = none_both (option_map (λ (rule : ℕ). Order g rule) (first_longer group.rules)) (disorder (g + 1) groups) h in
     All-cons Falls group groups (group-falls group.rules (none-map (λ (rule : ℕ). Order g rule) (first_longer group.rules) parts.0)) (all-fall (g + 1) groups parts.1)
 
 -- no cause holds of a record, of a group, of the stores from a number on
@@ -159,9 +150,9 @@ small program h =
     let two = some-if (nat_lt STORES (store_count program)) (TooManyStores (store_count program)) last one.1 in
     let three = some-if (nat_lt ALL_ELEMENTS (element_count program)) (TooManyElements (element_count program)) None two.1 in
     record {
-      text = not-more TEXT_BYTES (text_size program) one.0;
-      stores = not-more STORES (store_count program) two.0;
-      elements = not-more ALL_ELEMENTS (element_count program) three.0;
+      text = ltb-false TEXT_BYTES (text_size program) one.0;
+      stores = ltb-false STORES (store_count program) two.0;
+      elements = ltb-false ALL_ELEMENTS (element_count program) three.0;
     }
 
 -- tables of which no cause holds
@@ -197,7 +188,7 @@ pub sayable : (bytes : List ℕ) → unspelled bytes ≡ None → IsSayable (tab
 unfolding unspelled
 sayable bytes h =
     let tables : Tables = tables_of bytes in
-    let one = none-else (disorder 0 tables.groups) (or_else (option_map Unspelled (least (cause_places bytes))) (excess (back tables))) h in
-    let two = none-else (option_map Unspelled (least (cause_places bytes))) (excess (back tables)) one.1 in
+    let one = none_both (disorder 0 tables.groups) (or_else (option_map Unspelled (least (cause_places bytes))) (excess (back tables))) h in
+    let two = none_both (option_map Unspelled (least (cause_places bytes))) (excess (back tables)) one.1 in
     let none = no_cause_holds bytes one.0 (none-map Unspelled (least (cause_places bytes)) two.0) in
     record { order = none.order; stores = none.stores; groups = none.groups; small = small (back tables) two.1 }

@@ -2,7 +2,7 @@
 use Rattle.std.proofs.Common.{◌≡◌, ℕ, ◌+◌, ◌≤◌, false, List, [], ◌∷◌, ◌++◌, length, map, refl, sym, subst, arith}
 use Rattle.std.specs.Prelude.{nat_lt, slice_get, unwrap_or}
 use Rattle.std.specs.List.{list_any, AllByRecursion}
-use Rattle.std.proofs.lemmas.Bool.Decides.{nat_tests}
+use Rattle.std.proofs.lemmas.Bool.{le-ltb, or_from}
 use Rattle.std.proofs.lemmas.List.{length-map}
 use Rattle.kmn_base.specs.declared.items.Element.TheVariants as element
 use Rattle.kmn_base.specs.declared.limits.TheConstants.{STORE_ELEMENTS}
@@ -21,7 +21,6 @@ use Rattle.decompile_laws.proofs.Linking.{stores-mapped}
 use Rattle.decompile_laws.proofs.Choosing.{all_join}
 use Rattle.spelled_files.proofs.Sayable.{IsSayable}
 use Rattle.spelled_files.proofs.SpelledPrograms.{greatest_near}
-use Rattle.spelled_files.proofs.ApartNames.{or-none}
 use Rattle.spelled_files.proofs.CountedSizes.{AreShortStores, simple}
 use Rattle.spelled_files.proofs.ShortStores.{IsShortStatement, version_short, front_short, back_short}
 use Rattle.spelled_files.proofs.ShortValues.{IsShortValue, values_short}
@@ -29,13 +28,10 @@ use Rattle.spelled_files.proofs.ShortValues.{IsShortValue, values_short}
 abbrev pub IsShortStore : Store → Type 0
 IsShortStore store = length store.elements ≤ STORE_ELEMENTS
 
-not-passed : (limit n : ℕ) → n ≤ limit → nat_lt limit n ≡ false
-not-passed limit n h = grind (arith, nat_tests, h)
-
 all-short : (stores : List Store) → AllByRecursion IsShortStore stores → list_any (nat_lt STORE_ELEMENTS) (map element_count stores) ≡ false
 all-short [] h = refl
 all-short (s ∷ stores) h =
-    or-none (nat_lt STORE_ELEMENTS (length s.elements)) (list_any (nat_lt STORE_ELEMENTS) (map element_count stores)) (not-passed STORE_ELEMENTS (length s.elements) h.0) (all-short stores h.1)
+    or_from (nat_lt STORE_ELEMENTS (length s.elements)) (list_any (nat_lt STORE_ELEMENTS) (map element_count stores)) (le-ltb STORE_ELEMENTS (length s.elements) h.0) (all-short stores h.1)
 
 statements-short : (names : SourceNames) (stores : List StoreDef) → AllByRecursion (IsShortStatement names) stores → AllByRecursion IsShortStore (map (store_of names []) stores)
 statements-short names [] h = tt

@@ -1,9 +1,9 @@
 -- No value of the program that playable tables are written out as is longer than a store may be.
-use Rattle.std.proofs.Common.{ℕ, zero, suc, ◌+◌, ◌≤◌, Bool, true, false, List, [], ◌∷◌, ◌++◌, length, drop, map, arith, if◌then◌else◌}
+use Rattle.std.proofs.Common.{ℕ, zero, suc, ◌+◌, ◌≤◌, List, [], ◌∷◌, ◌++◌, length, drop, map, arith}
 use Rattle.std.specs.Prelude.{All, flat_map, filter_map, slice_get, unwrap_or, option_to_list}
-use Rattle.std.specs.List.{list_any, AllByRecursion}
+use Rattle.std.specs.List.{AllByRecursion}
 use Rattle.std.specs.Str.{bytes_eq}
-use Rattle.std.proofs.lemmas.List.Elements.{All-head, All-tail}
+use Rattle.std.proofs.lemmas.List.Elements.{All-head, All-tail, All-nil, recursion_from_All}
 use Rattle.kmn_base.specs.declared.items.Element.{Element}
 use Rattle.kmn_base.specs.declared.items.Element.TheVariants as element
 use Rattle.kmn_base.specs.declared.keys.RuleKey.{RuleKey}
@@ -22,13 +22,15 @@ use Rattle.rule_model.specs.declared.tables.Rule.{Rule}
 use Rattle.rule_model.specs.declared.tables.Store.{Store}
 use Rattle.rule_model.specs.declared.tables.Group.{Group}
 use Rattle.rule_model.specs.declared.tables.Tables.{Tables}
-use Rattle.rule_model.specs.Tab.{distinct_onto, elements_of, element_char}
+use Rattle.rule_model.specs.Tab.{elements_of, element_char}
 use Rattle.rule_model.specs.Naming.{rule_items}
 use Rattle.compile_laws.specs.Numbers.{item_values, values_of}
 use Rattle.kmx_format.specs.Playable.{IsPlayable, IsPlayableStore}
+use Rattle.checker_laws.proofs.Lists.{All-distinct, all_of}
 use Rattle.decompile_laws.specs.Items.{Names, value_called, back_pattern, back_output, back_key, some_items}
 use Rattle.decompile_laws.specs.Back.{back_rule, back_rules, back_statement, match_line, nomatch_line, back_group, back_groups, names_for, written_stores, written_begins, back}
 use Rattle.decompile_laws.proofs.Choosing.{all_join, all_parts}
+use Rattle.spelled_files.proofs.GroupRules.{rules_of}
 
 abbrev pub IsShortValue : List ℕ → Type 0
 IsShortValue value = length value ≤ STORE_ELEMENTS
@@ -53,14 +55,6 @@ elements-few [] n h = none-over
 elements-few (s ∷ stores) zero h = (All-head IsPlayableStore s stores h).element_count
 elements-few (s ∷ stores) (suc n) h = elements-few stores n (All-tail IsPlayableStore s stores h)
 
-distinct-all : (P : List ℕ → Type 0) (seen xs : List (List ℕ)) → AllByRecursion P seen → AllByRecursion P xs → AllByRecursion P (distinct_onto bytes_eq seen xs)
-distinct-all P seen [] before h = before
-distinct-all P seen (x ∷ xs) before h = distinct-all P (if list_any (λ y. bytes_eq y x) seen then seen else seen ++ x ∷ []) xs (by (list_any (λ y. bytes_eq y x) seen)) h.1
-  where
-    by : (b : Bool) → AllByRecursion P (if b then seen else seen ++ x ∷ [])
-    by true = before
-    by false = all_join P seen (x ∷ []) before (h.0, tt)
-
 abbrev HasShortValues : SrcItem → Type 0
 HasShortValues item = AllByRecursion IsShortValue (item_values item)
 
@@ -71,9 +65,6 @@ gathered (item ∷ items) h = all_join IsShortValue (item_values item) (flat_map
 mapped : {X : Type 0} (f : X → SrcItem) → ((x : X) → HasShortValues (f x)) → (xs : List X) → AllByRecursion HasShortValues (map f xs)
 mapped f each [] = tt
 mapped f each (x ∷ xs) = (each x, mapped f each xs)
-
-abbrev rules_of : GroupDef → List RuleDef
-rules_of group = group.rules
 
 joined : (xs ys : List RuleDef) → AllByRecursion HasShortValues (flat_map rule_items xs) → AllByRecursion HasShortValues (flat_map rule_items ys)
     → AllByRecursion HasShortValues (flat_map rule_items (xs ++ ys))
@@ -134,5 +125,5 @@ values_short tables can =
     let items = groups-short (names_for tables)
     (λ n. within (length (value_called (names_for tables) n)) (length (elements_of tables.stores n)) STORE_ELEMENTS (filtered (elements_of tables.stores n)) (elements-few tables.stores n can.stores))
     (1 + length (written_stores tables) + length (written_begins tables)) (names_for tables).groups tables.groups in
-    distinct-all IsShortValue [] (flat_map item_values (flat_map rule_items (flat_map rules_of (back_groups (names_for tables) (1 + length (written_stores tables) + length (written_begins tables)) (names_for tables).groups tables.groups)))) tt
-    (gathered (flat_map rule_items (flat_map rules_of (back_groups (names_for tables) (1 + length (written_stores tables) + length (written_begins tables)) (names_for tables).groups tables.groups))) items)
+    let values = gathered (flat_map rule_items (flat_map rules_of (back_groups (names_for tables) (1 + length (written_stores tables) + length (written_begins tables)) (names_for tables).groups tables.groups))) items in
+    recursion_from_All IsShortValue _ (All-distinct IsShortValue bytes_eq [] _ (All-nil IsShortValue) (all_of IsShortValue _ values))

@@ -1,9 +1,9 @@
 -- The items of tables of which no cause holds can be written.
-use Rattle.std.proofs.Common.{◌≡◌, ℕ, zero, suc, ◌+◌, ◌^◌, ◌<◌, ◌≤◌, Bool, true, false, not, ◌&&◌, ◌||◌, List, [], ◌∷◌, length, map, None, refl, sym, ◌∙◌, ap, arith, if◌then◌else◌}
+use Rattle.std.proofs.Common.{◌≡◌, ℕ, zero, suc, ◌+◌, ◌^◌, ◌<◌, ◌≤◌, Bool, true, false, not, ◌&&◌, ◌||◌, List, [], ◌∷◌, length, map, None, refl, ◌∙◌, arith, if◌then◌else◌}
 use Rattle.std.specs.Prelude.{All, ◌≢◌, nat_eq, bit_and, filter, filter_map}
 use Rattle.std.specs.List.{list_any, list_all, AllByRecursion, range_with_len}
 use Rattle.std.specs.Fmt.{decimal}
-use Rattle.std.proofs.lemmas.Bool.{or_parts, and_parts, eqb-true}
+use Rattle.std.proofs.lemmas.Bool.{or_parts, and_parts, eqb-true, not-false, and_right, eq-eqb, not-true}
 use Rattle.std.proofs.lemmas.Bool.Decides.{nat_tests}
 use Rattle.std.proofs.lemmas.List.Elements.{All-nil, All-cons, All-head, All-tail}
 use lib.Utf8.{scalar}
@@ -38,19 +38,11 @@ use Rattle.program_text.specs.Names.{is_inner}
 use Rattle.program_text.specs.Spelled.{IsSpelledName, IsSpelledValue, IsSpelledItem, AreSpelled, IsSpelledAsKey, item_lead, seen_lead}
 use Rattle.decompile_laws.specs.Items.{Names, back_element, back_pattern, back_output, back_key, some_items}
 use Rattle.decompile_laws.specs.WrittenOut.{has_key_name}
-use Rattle.decompile_laws.proofs.Choosing.{choose-else}
+use Rattle.decompile_laws.proofs.Choosing.{choose-else, clash}
 use Rattle.item_checker.specs.Items.{is_no_character}
 use Rattle.spelled_files.specs.Causes.{is_far_mark, is_unspelled_element, is_unspelled_key, is_unspelled_value, have_both_quotes, stands_behind_match, is_nul}
 use Rattle.spelled_files.proofs.TameNames.{number_name}
 use Rattle.spelled_files.proofs.SpelledKeys.{IsKeyName, key_spelled}
-
-not-false : (b : Bool) → not b ≡ false → b ≡ true
-not-false true h = refl
-not-false false h = absurd (cc)
-
-and-second : (a b : Bool) → b ≡ false → (a && b) ≡ false
-and-second true b h = h
-and-second false b h = refl
 
 near-mark : (m : ℕ) → is_far_mark m ≡ false → m < 10 ^ 9
 near-mark m h = let near : m ≤ DEADKEYS = (grind (arith, nat_tests, h)) in omega arith
@@ -63,14 +55,7 @@ pub character : (c : ℕ) → (scalar c ≡ true) × (c ≢ 0) × (c ≢ 0xFFFF)
 character c h = record { valid = h.0; not_first = h.1; not_last = h.2 }
 
 nonzero : (c n : ℕ) → not (nat_eq c n) ≡ true → c ≢ n
-nonzero c n h e = absurd (clash (nat_eq c n) (ap (λ m. nat_eq c m) (sym e) ∙ itself c) h)
-  where
-    itself : (n : ℕ) → nat_eq n n ≡ true
-    itself n = grind (arith, nat_tests)
-
-    clash : (b : Bool) → b ≡ true → not b ≡ true → ⊥
-    clash true e f = let bad : false ≡ true = f in absurd (cc)
-    clash false e f = let bad : false ≡ true = e in absurd (cc)
+nonzero c n h e = clash (nat_eq c n) (eq-eqb c n e) (not-true (nat_eq c n) h)
 
 pub unit_character : (c : ℕ) → is_nameable c ≡ true → IsCharacter c
 unit_character c h =
@@ -145,13 +130,13 @@ seen_as p n = record { pattern = p; nul = n }
 
 order-matched : (p n : Bool) (word : ItemWord) → is_nul_word word ≡ false → is_condition word ≡ false → order_code (seen_as p n) word ≡ None
 order-matched p n word a b =
-    choose-else (p && (is_nul_word word || is_condition word)) _ _ (and-second p (is_nul_word word || is_condition word) (or-both (is_nul_word word) (is_condition word) a b))
-    ∙ choose-else (n && is_nul_word word) _ _ (and-second n (is_nul_word word) a)
+    choose-else (p && (is_nul_word word || is_condition word)) _ _ (and_right p (is_nul_word word || is_condition word) (or-both (is_nul_word word) (is_condition word) a b))
+    ∙ choose-else (n && is_nul_word word) _ _ (and_right n (is_nul_word word) a)
 
 order-condition : (p n : Bool) → p ≡ false → order_code (seen_as p n) item.If ≡ None
 order-condition p n e =
     choose-else (p && (is_nul_word item.If || is_condition item.If)) _ _ (and-first p (is_nul_word item.If || is_condition item.If) e)
-    ∙ choose-else (n && is_nul_word item.If) _ _ (and-second n (is_nul_word item.If) refl)
+    ∙ choose-else (n && is_nul_word item.If) _ _ (and_right n (is_nul_word item.If) refl)
 
 order-nul : (p n : Bool) → p ≡ false → n ≡ false → order_code (seen_as p n) item.Nul ≡ None
 order-nul p n e f =

@@ -1,14 +1,13 @@
 -- Virtual keys of tables of which no cause holds have names that a source reads.
-use Rattle.std.proofs.Common.{◌≡◌, ℕ, zero, suc, ◌-◌, Bool, true, false, not, ◌&&◌, ◌||◌, List, [], ◌∷◌, ◌++◌, length, Option, None, Some, is_some, refl, sym, ◌∙◌, ap, subst, arith, if◌then◌else◌}
+use Rattle.std.proofs.Common.{◌≡◌, ℕ, zero, suc, ◌-◌, Bool, true, false, not, ◌&&◌, List, [], ◌∷◌, length, Option, None, Some, is_some, refl, sym, ◌∙◌, ap, subst, arith, if◌then◌else◌}
 use Rattle.std.specs.Prelude.{All, nat_eq, nat_lt, bit_and, bit_or, slice_get, unwrap_or, option_map, position, find, filter, filter_map, encode_utf8_all}
-use Rattle.std.specs.List.{list_all, list_any}
+use Rattle.std.specs.List.{list_all}
 use Rattle.std.specs.Int.{bit_at}
 use Rattle.std.specs.Str.{is_utf8}
-use Rattle.std.proofs.lemmas.Bool.{and_parts}
-use Rattle.std.proofs.lemmas.Bool.Decides.{nat_tests}
+use Rattle.std.proofs.lemmas.Bool.{and_parts, not-false, eq-eqb, or_parts}
 use Rattle.std.proofs.lemmas.Nat.{and_or_self}
 use Rattle.std.proofs.lemmas.Nat.Bits.{bit_at_and, bit_at_or, same_from_bits}
-use Rattle.std.proofs.lemmas.List.Elements.{All-nil, All-cons, All-head, All-tail, All-append}
+use Rattle.std.proofs.lemmas.List.Elements.{All-nil, All-head, All-tail}
 use Rattle.std.proofs.lemmas.List.Splits.{slice_split_none}
 use Rattle.std.proofs.lemmas.Option.{none-some}
 use Rattle.kmn_base.specs.declared.keys.TheConstants.{SHIFT_FLAGS}
@@ -19,8 +18,9 @@ use Rattle.kmn_items.specs.Words.{is_own_key}
 use Rattle.rule_model.specs.declared.program.KeyName.{KeyName}
 use Rattle.rule_model.specs.declared.tables.Store.{Store}
 use Rattle.rule_model.specs.declared.tables.Tables.{Tables}
-use Rattle.rule_model.specs.Tab.{distinct_onto, words, element_char, store_elements, is_dictionary, tab_dictionary, tab_options}
+use Rattle.rule_model.specs.Tab.{words, element_char, store_elements, is_dictionary, tab_dictionary, tab_options}
 use Rattle.compile_laws.proofs.Places.{position-cons}
+use Rattle.checker_laws.proofs.Lists.{All-distinct, all_true}
 use Rattle.program_text.specs.Names.{is_source_name}
 use Rattle.program_text.specs.Spelled.{IsSpelledName, IsSpelledKey}
 use Rattle.decompile_laws.specs.Items.{Names, key_called}
@@ -30,21 +30,10 @@ use Rattle.decompile_laws.proofs.Choosing.{clash, choose-then, choose-else}
 use Rattle.spelled_files.specs.Causes.{is_dictionary_name, dictionary_words, are_repeated, is_unspelled_dictionary, is_number, is_first_dictionary}
 use Rattle.spelled_files.proofs.Sayable.{sayable-at, HasNoCause, IsSayable, without_cause}
 use Rattle.spelled_files.proofs.WrittenOut.{store-parts}
+use Rattle.spelled_files.proofs.Conjunctions.{second-fails}
 
 abbrev pub IsKeyName : List ℕ → Type 0
 IsKeyName name = is_dictionary_name name ≡ true
-
-all-distinct : (P : List ℕ → Type 0) (seen xs : List (List ℕ)) → All P seen → All P xs → All P (distinct_onto same_name seen xs)
-all-distinct P seen [] before h = before
-all-distinct P seen (x ∷ xs) before h = all-distinct P (if list_any (λ y. same_name y x) seen then seen else seen ++ x ∷ []) xs (by (list_any (λ y. same_name y x) seen)) (All-tail P x xs h)
-  where
-    by : (b : Bool) → All P (if b then seen else seen ++ x ∷ [])
-    by true = before
-    by false = All-append P seen (x ∷ []) before (All-cons P x [] (All-head P x xs h) (All-nil P))
-
-all-pass : (xs : List (List ℕ)) → list_all is_dictionary_name xs ≡ true → All IsKeyName xs
-all-pass [] h = All-nil IsKeyName
-all-pass (x ∷ xs) h = let both = and_parts (is_dictionary_name x) (list_all is_dictionary_name xs) h in All-cons IsKeyName x xs both.0 (all-pass xs both.1)
 
 -- where the first dictionary stands
 record FoundAt (stores : List Store) (store : Store) : Type 0 where
@@ -66,17 +55,6 @@ found-at (x ∷ stores) store h = by (is_dictionary x) refl h (λ g. found-at st
           at = more.at;
         }
 
-same-number : (n : ℕ) → nat_eq n n ≡ true
-same-number n = grind (arith, nat_tests)
-
-and-second : (a b : Bool) → a ≡ true → (a && b) ≡ false → b ≡ false
-and-second true b e h = h
-and-second false b e h = absurd (cc)
-
-not-false : (b : Bool) → not b ≡ false → b ≡ true
-not-false true h = refl
-not-false false h = absurd (cc)
-
 no-words : words (encode_utf8_all []) ≡ []
 no-words = ap (filter (λ (word : List ℕ). not (nat_eq (length word) 0))) (slice_split_none (nat_eq 32) [] (All-nil (λ b. nat_eq 32 b ≡ false)))
 
@@ -86,20 +64,16 @@ module _ (tables : Tables) (said : HasNoCause tables) where
   words-of (Some store) e =
       let f = found-at tables.stores store e in
       let parts = store-parts tables f.place store (sayable-at (names_for tables) (tab_options tables) 0 tables.stores said.stores f.place f.place store (omega arith) f.at) in
-      let first : is_first_dictionary tables.stores f.place ≡ true = ap (is_number f.place) f.found ∙ same-number f.place in
-      let good = and-second (is_first_dictionary tables.stores f.place) (is_unspelled_dictionary store.elements) first parts.dictionary in
-      let named : not (list_all is_dictionary_name (dictionary_words store.elements)) ≡ false = (or-parts (not (list_all is_dictionary_name (dictionary_words store.elements))) (are_repeated [] (dictionary_words store.elements)) good).0 in
-      all-pass (dictionary_words store.elements) (not-false (list_all is_dictionary_name (dictionary_words store.elements)) named)
-    where
-      or-parts : (a b : Bool) → (a || b) ≡ false → (a ≡ false) × (b ≡ false)
-      or-parts true b h = absurd (cc)
-      or-parts false b h = (refl, h)
+      let first : is_first_dictionary tables.stores f.place ≡ true = ap (is_number f.place) f.found ∙ eq-eqb f.place f.place refl in
+      let good = second-fails (is_first_dictionary tables.stores f.place) (is_unspelled_dictionary store.elements) first parts.dictionary in
+      let named : not (list_all is_dictionary_name (dictionary_words store.elements)) ≡ false = (or_parts (not (list_all is_dictionary_name (dictionary_words store.elements))) (are_repeated [] (dictionary_words store.elements)) good).0 in
+      all_true is_dictionary_name (dictionary_words store.elements) (not-false (list_all is_dictionary_name (dictionary_words store.elements)) named)
 
   -- each name of the dictionary is one
   pub no_cause_keys : All IsKeyName (tab_dictionary tables.stores)
   unfolding tab_dictionary
   no_cause_keys =
-      all-distinct IsKeyName [] (words (encode_utf8_all (filter_map element_char (store_elements (find is_dictionary tables.stores))))) (All-nil IsKeyName)
+      All-distinct IsKeyName same_name [] (words (encode_utf8_all (filter_map element_char (store_elements (find is_dictionary tables.stores))))) (All-nil IsKeyName)
       (words-of (find is_dictionary tables.stores) refl)
 
 pub keys_named : (tables : Tables) → IsSayable tables → All IsKeyName (tab_dictionary tables.stores)

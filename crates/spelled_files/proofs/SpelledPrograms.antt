@@ -1,9 +1,8 @@
 -- The program of tables of which no cause holds is one that a text can say.
-use Rattle.std.proofs.Common.{◌≡◌, ℕ, zero, suc, ◌+◌, ◌<◌, ◌≤◌, ◌⊎◌, inl, inr, Bool, true, false, ◌||◌, List, [], ◌∷◌, ◌++◌, length, map, Option, None, Some, refl, sym, ◌∙◌, ap, subst, arith, if◌then◌else◌}
+use Rattle.std.proofs.Common.{◌≡◌, ℕ, zero, suc, ◌+◌, ◌<◌, ◌≤◌, ◌⊎◌, inl, inr, Bool, true, false, ◌||◌, List, [], ◌∷◌, ◌++◌, length, map, Option, None, Some, refl, ◌∙◌, ap, subst, arith, if◌then◌else◌}
 use Rattle.std.specs.Prelude.{All, nat_eq, slice_get, unwrap_or, option_map, find, flat_map, fold, max, not, ◌&&◌}
 use Rattle.std.specs.List.{list_any, list_all, AllByRecursion}
-use Rattle.std.proofs.lemmas.Bool.{or_parts, and_parts, eqb-true, ne_eqb, not-true}
-use Rattle.std.proofs.lemmas.Bool.Decides.{nat_tests}
+use Rattle.std.proofs.lemmas.Bool.{or_parts, and_parts, eqb-true, ne_eqb, not-true, eq-eqb, ltb-false}
 use Rattle.std.proofs.lemmas.List.Elements.{All-nil, All-cons, All-head, All-tail, All-append}
 use Rattle.kmn_base.specs.declared.limits.TheConstants.{DEADKEYS}
 use Rattle.kmn_base.specs.declared.items.Element.{Element}
@@ -36,16 +35,17 @@ use Rattle.program_text.specs.Names.{is_inner}
 use Rattle.decompile_laws.specs.Back.{back_stores, numbered, stated_marks, stated_key, mark_store, key_store, version_text, version_store, back_begins, free_stores, mark_stores, key_stores, front_stores, names_for, written_stores, written_begins, back}
 use Rattle.decompile_laws.specs.WrittenOut.{CanBeWrittenOut}
 use Rattle.decompile_laws.proofs.Choosing.{clash}
+use Rattle.decompile_laws.proofs.Lines.{numbered-length}
 use Rattle.spelled_files.specs.Causes.{have_both_quotes, is_unspelled_element, is_unspelled_pattern, is_unspelled_output}
 use Rattle.spelled_files.specs.Excess.{text_size}
 use Rattle.spelled_files.specs.Laws.{HasTextNames}
 use Rattle.spelled_files.specs.Unspelled.{unspelled}
-use Rattle.spelled_files.proofs.Sayable.{not-more, IsSayableRule, IsSayableGroup, AreSayable, IsSayable, sayable}
+use Rattle.spelled_files.proofs.Sayable.{IsSayableRule, IsSayableGroup, AreSayable, IsSayable, sayable}
 use Rattle.spelled_files.proofs.WrittenOut.{joined, pattern-parts, output-parts, store-parts, written_out}
 use Rattle.spelled_files.proofs.CalledNames.{AreNamed}
 use Rattle.spelled_files.proofs.SpelledKeys.{IsKeyName, keys_named, own_name}
 use Rattle.spelled_files.proofs.SpelledItems.{unit_character, elements_spelled, marks_spelled}
-use Rattle.spelled_files.proofs.SpelledRules.{free_all, free_count, calls_named, group_name, all_groups_spelled}
+use Rattle.spelled_files.proofs.SpelledRules.{free_all, free_count, calls_named, group_name, all_groups_spelled, few-marks}
 
 abbrev ansi_begin : Names → ℕ → Tables → BeginDef
 ansi_begin names line tables = record { line = line; unicode = false; group = group_called names tables.start_ansi }
@@ -69,16 +69,16 @@ module _ (tables : Tables) (said : IsSayable tables) where
   names = names_for tables
 
   near-element : (e : Element) → is_unspelled_element names e ≡ false → All IsNear (element_marks e)
-  near-element (element.Mark m) h = All-cons IsNear m [] (not-more DEADKEYS m h) (All-nil IsNear)
+  near-element (element.Mark m) h = All-cons IsNear m [] (ltb-false DEADKEYS m h) (All-nil IsNear)
   near-element (element.Char c) h = All-nil IsNear
   near-element (element.Key flags code) h = All-nil IsNear
 
   near-pattern : (p : Pat) → is_unspelled_pattern names p ≡ false → All IsNear (pattern_marks p)
-  near-pattern (pattern.Mark m) h = All-cons IsNear m [] (not-more DEADKEYS m (pattern-parts tables (pattern.Mark m) h).0) (All-nil IsNear)
+  near-pattern (pattern.Mark m) h = All-cons IsNear m [] (ltb-false DEADKEYS m (pattern-parts tables (pattern.Mark m) h).0) (All-nil IsNear)
   near-pattern p h = All-nil IsNear
 
   near-output : (o : Out) → is_unspelled_output names o ≡ false → All IsNear (output_marks o)
-  near-output (output.Mark m) h = All-cons IsNear m [] (not-more DEADKEYS m (output-parts tables (output.Mark m) h).0) (All-nil IsNear)
+  near-output (output.Mark m) h = All-cons IsNear m [] (ltb-false DEADKEYS m (output-parts tables (output.Mark m) h).0) (All-nil IsNear)
   near-output o h = All-nil IsNear
 
   near-rule : (rule : Rule) → IsSayableRule names rule → All IsNear (rule_marks rule)
@@ -124,19 +124,13 @@ written-known = refl
 no-version : list_any (nat_eq 8) written_ids ≡ false
 no-version = refl
 
-same-number : (n m : ℕ) → n ≡ m → nat_eq n m ≡ true
-same-number n m e = ap (nat_eq n) (sym e) ∙ itself n
-  where
-    itself : (n : ℕ) → nat_eq n n ≡ true
-    itself n = grind (arith, nat_tests)
-
 module _ (names : Names) (keys : All IsKeyName names.keys) (options : List ℕ) where
   store-spelled : (line : ℕ) (name : List ℕ) (store : Store)
       → (nat_eq store.system 0 ≡ true → IsStoreName name) → (nat_eq store.system 0 ≡ false → (name ≡ []) × (list_any (nat_eq store.system) written_ids ≡ true))
       → AreSpelled section.Store unseen (map (back_element names) store.elements)
       → IsSpelledStore (record { line = line; system = store.system; name = name; items = map (back_element names) store.elements })
   store-spelled line name store ordinary system content = record {
-    ordinary = λ e. ordinary (same-number store.system 0 e);
+    ordinary = λ e. ordinary (eq-eqb store.system 0 e);
     system = λ e. let s = system (ne_eqb store.system 0 e) in (ids-known store.system written_ids written-known s.1, s.0);
     version = λ e.
         let s = system (ap (λ n. nat_eq n 0) e) in
@@ -249,21 +243,10 @@ stores-append : (line n : ℕ) (xs ys : List StoreDef) → n ≡ line + length x
 stores-append line n [] ys e h k = let same : n ≡ line = omega (arith, e) in subst (λ m. AreSpelledStores m ys) same k
 stores-append line n (x ∷ xs) ys e h k = (h.0, h.1, stores-append (line + 1) n xs ys (omega (arith, e)) h.2 k)
 
-numbered-along : (line : ℕ) (front : List (ℕ → StoreDef)) → length (numbered line front) ≡ length front
-numbered-along line [] = refl
-numbered-along line (store ∷ front) = ap suc (numbered-along (line + 1) front)
-
 front-append : (called : Names) (keys : All IsKeyName called.keys) (options : List ℕ) (xs ys : List (ℕ → StoreDef))
     → AllByRecursion (IsFront called keys options) xs → AllByRecursion (IsFront called keys options) ys → AllByRecursion (IsFront called keys options) (xs ++ ys)
 front-append called keys options [] ys h k = k
 front-append called keys options (x ∷ xs) ys h k = (h.0, front-append called keys options xs ys h.1 k)
-
-few-marks : (name : List ℕ) (count : ℕ) → length (mark_store name count) ≤ 1
-few-marks name count = by (nat_eq count 0)
-  where
-    by : (b : Bool) → length (if b then [] else stated_marks name count ∷ []) ≤ 1
-    by true = omega arith
-    by false = omega arith
 
 module _ (tables : Tables) (can : IsPlayable tables) (said : IsSayable tables) (written : CanBeWrittenOut tables) (texts : HasTextNames tables) where
   abbrev called : Names
@@ -285,7 +268,7 @@ module _ (tables : Tables) (can : IsPlayable tables) (said : IsSayable tables) (
       let some = free_count tables can said written texts in
       let free = free_all tables can said written texts in
       let marks = few-marks (unwrap_or (slice_get (free_stores tables) 0) []) (greatest_mark tables) in
-      let along = numbered-along 1 (front_stores tables) in
+      let along = numbered-length 1 (front_stores tables) in
       stores-append 1 (1 + length (front_stores tables)) (numbered 1 (front_stores tables)) (back_stores called (1 + length (front_stores tables)) called.stores tables.stores) (omega (arith, along))
       (front-spelled called own (tab_options tables) 1 (front_stores tables) (
         (λ line. (refl, version-front tables.version line)),
@@ -302,7 +285,7 @@ module _ (tables : Tables) (can : IsPlayable tables) (said : IsSayable tables) (
     where
       within : tables.start_ansi < length tables.groups ⊎ (tables.start_ansi ≡ 0xFFFF_FFFF) → nat_eq tables.start_ansi 0xFFFF_FFFF ≡ false → tables.start_ansi < length tables.groups
       within (inl less) e = less
-      within (inr is) e = clash (nat_eq tables.start_ansi 0xFFFF_FFFF) (same-number tables.start_ansi 0xFFFF_FFFF is) e
+      within (inr is) e = clash (nat_eq tables.start_ansi 0xFFFF_FFFF) (eq-eqb tables.start_ansi 0xFFFF_FFFF is) e
 
       by : (b : Bool) → nat_eq tables.start_ansi 0xFFFF_FFFF ≡ b → AreSpelledBegins line (if b then [] else ansi_begin called line tables ∷ [])
       by true e = tt

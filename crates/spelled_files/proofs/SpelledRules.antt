@@ -2,7 +2,7 @@
 use Rattle.std.proofs.Common.{◌≡◌, ℕ, suc, ◌+◌, ◌<◌, ◌≤◌, Bool, true, false, ◌||◌, List, [], ◌∷◌, ◌++◌, length, drop, map, refl, sym, ap, subst, arith, length-drop, length-append, if◌then◌else◌}
 use Rattle.std.specs.Prelude.{All, nat_eq, nat_lt, slice_get, unwrap_or, filter}
 use Rattle.std.specs.List.{list_any, AllByRecursion}
-use Rattle.std.proofs.lemmas.Bool.{or_parts, eqb-true}
+use Rattle.std.proofs.lemmas.Bool.{or_parts, eqb-true, ltb-false}
 use Rattle.std.proofs.lemmas.List.{length-map}
 use Rattle.std.proofs.lemmas.List.Elements.{All-head, All-tail, All-drop, All-from_recursion, recursion_from_All}
 use Rattle.kmn_items.specs.Item.{unseen}
@@ -30,12 +30,13 @@ use Rattle.decompile_laws.specs.Back.{back_rule, back_rules, back_statement, mat
 use Rattle.decompile_laws.specs.WrittenOut.{is_ordinary, CanBeWrittenOut}
 use Rattle.decompile_laws.proofs.Free.{free_names-count}
 use Rattle.decompile_laws.proofs.Good.{IsNamed, GoodPattern, GoodOutput, GoodRule, GoodGroup, groups_good}
+use Rattle.decompile_laws.proofs.Groups.{group_count}
 use Rattle.spelled_files.specs.Causes.{is_unspelled_pattern, is_unspelled_output, is_unspelled_value, stands_behind_match, is_nul}
 use Rattle.spelled_files.specs.Laws.{HasTextNames}
-use Rattle.spelled_files.proofs.Sayable.{not-more, IsSayableRule, IsSayableGroup, IsSayable}
+use Rattle.spelled_files.proofs.Sayable.{IsSayableRule, IsSayableGroup, IsSayable}
 use Rattle.spelled_files.proofs.WrittenOut.{pattern-parts, output-parts}
 use Rattle.spelled_files.proofs.TameNames.{store_numbered, group_numbered}
-use Rattle.spelled_files.proofs.CalledNames.{HasText, GroupHasText, AreNamed, free_spelled, are_named, name_called, groups_named, groups_along, group_at}
+use Rattle.spelled_files.proofs.CalledNames.{HasText, GroupHasText, AreNamed, free_spelled, are_named, name_called, groups_named, group_at}
 use Rattle.spelled_files.proofs.SpelledKeys.{keys_named}
 use Rattle.spelled_files.proofs.SpelledItems.{character, mark_name, key_as_spelled, value_spelled, IsSpelledPattern, context_spelled, IsSpelledOutput, output_spelled, some_spelled}
 
@@ -103,7 +104,7 @@ module _ (tables : Tables) (can : IsPlayable tables) (said : IsSayable tables) (
   pub group_name : (g : ℕ) → g < length tables.groups → IsSpelledName (group_called names g)
   group_name g less =
       group_at names.groups g all_groups_named
-      (let l = groups_along (free_names (103 ∷ []) (map (λ (group : Group). group.name) tables.groups) (length tables.groups)) [] tables.groups in omega (arith, l))
+      (let l = group_count (free_names (103 ∷ []) (map (λ (group : Group). group.name) tables.groups) (length tables.groups)) [] tables.groups in omega (arith, l))
 
   -- items
   pattern-spelled : (p : Pat) → GoodPattern tables p → is_unspelled_pattern names p ≡ false → IsSpellable (unit_item_of_pattern p) → IsSpelledPattern names p
@@ -158,7 +159,7 @@ module _ (tables : Tables) (can : IsPlayable tables) (said : IsSayable tables) (
       let order : Bool = stands_behind_match false rule.context || nat_lt 1 (length (filter is_nul rule.context)) in
       let one = or_parts (list_any (is_unspelled_pattern names) rule.context) order saying.context in
       let two = or_parts (stands_behind_match false rule.context) (nat_lt 1 (length (filter is_nul rule.context))) one.1 in
-      let few = not-more 1 (length (filter is_nul rule.context)) two.1 in
+      let few = ltb-false 1 (length (filter is_nul rule.context)) two.1 in
       let out = some_spelled names rule.output (outputs-spelled rule.output good.output saying.output ok.output.items) in
       record {
         kind = (
@@ -239,5 +240,5 @@ module _ (tables : Tables) (can : IsPlayable tables) (said : IsSayable tables) (
 
   pub all_groups_spelled : (line : ℕ) → AreSpelledGroups line (back_groups names line names.groups tables.groups)
   all_groups_spelled line =
-      let l = groups_along (free_names (103 ∷ []) (map (λ (group : Group). group.name) tables.groups) (length tables.groups)) [] tables.groups in
+      let l = group_count (free_names (103 ∷ []) (map (λ (group : Group). group.name) tables.groups) (length tables.groups)) [] tables.groups in
       groups-spelled line names.groups tables.groups (omega (arith, l)) all_groups_named (groups_good tables can written) said.groups can.groups

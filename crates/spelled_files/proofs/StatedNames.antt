@@ -2,25 +2,20 @@
 use Rattle.std.proofs.Common.{◌≡◌, ℕ, zero, suc, ◌+◌, ◌<◌, Bool, true, false, ◌||◌, List, [], ◌∷◌, ◌++◌, length, Option, None, Some, is_some, refl, ◌∙◌, ap, subst, arith, if◌then◌else◌}
 use Rattle.std.specs.Prelude.{nat_eq, slice_get, unwrap_or, option_map, position}
 use Rattle.std.specs.List.{list_any}
-use Rattle.std.specs.Str.{str_to_ascii_lowercase}
-use Rattle.std.proofs.lemmas.Bool.{eqb-true}
-use Rattle.std.proofs.lemmas.Slice.Eq.{bytes_eq-Decides}
+use Rattle.std.proofs.lemmas.Bool.{eqb-true, or_right}
 use Rattle.kmn_base.specs.Names.{same_name}
 use Rattle.compile_laws.proofs.Places.{position-cons}
 use Rattle.rule_model.specs.declared.program.StoreDef.{StoreDef}
 use Rattle.rule_model.specs.declared.tables.Store.{Store}
 use Rattle.rule_model.specs.declared.tables.Group.{Group}
 use Rattle.store_table.specs.Names.{is_named, kept_name, store_names, group_names}
-use Rattle.decompile_laws.specs.Names.{is_written, written_ids}
+use Rattle.decompile_laws.specs.Names.{is_written}
 use Rattle.decompile_laws.specs.Items.{Names}
 use Rattle.decompile_laws.specs.Back.{back_stores, back_group, back_groups}
 use Rattle.decompile_laws.specs.WrittenOut.{is_ordinary}
 use Rattle.decompile_laws.proofs.Choosing.{clash}
-use Rattle.spelled_files.proofs.CalledNames.{AreNamed}
-
-same-itself : (name : List ℕ) → same_name name name ≡ true
-unfolding same_name
-same-itself name = (bytes_eq-Decides (str_to_ascii_lowercase name) (str_to_ascii_lowercase name)).1 refl
+use Rattle.decompile_laws.proofs.Apart.{same-itself}
+use Rattle.spelled_files.proofs.CalledNames.{AreNamed, here-written}
 
 -- among names
 pub named-cons : (x : List ℕ) (names : List (List ℕ)) (name : List ℕ) → is_named (x ∷ names) name ≡ (same_name name x || is_named names name)
@@ -32,16 +27,12 @@ named-cons x names name = ap is_some (position-cons (same_name name) x names) �
     by false None = refl
     by false (Some n) = refl
 
-or-second : (a b : Bool) → b ≡ true → (a || b) ≡ true
-or-second true b e = refl
-or-second false b e = e
-
 named-first : (names : List (List ℕ)) (name : List ℕ) → is_named (name ∷ names) name ≡ true
 named-first names name = named-cons name names name ∙ ap (λ (b : Bool). b || is_named names name) (same-itself name)
 
 pub named-behind : (front names : List (List ℕ)) (name : List ℕ) → is_named names name ≡ true → is_named (front ++ names) name ≡ true
 named-behind [] names name h = h
-named-behind (x ∷ front) names name h = named-cons x (front ++ names) name ∙ or-second (same_name name x) (is_named (front ++ names) name) (named-behind front names name h)
+named-behind (x ∷ front) names name h = named-cons x (front ++ names) name ∙ or_right (same_name name x) (is_named (front ++ names) name) (named-behind front names name h)
 
 pub named_at : (names : List (List ℕ)) (g : ℕ) → g < length names → is_named names (unwrap_or (slice_get names g) []) ≡ true
 named_at [] g less = absurd (omega arith)
@@ -62,9 +53,6 @@ not-dropped n e = let zero_is : n ≡ 0 = eqb-true n 0 e in ap (λ m. nat_eq m 0
 
 kept-here : (store : StoreDef) → nat_eq store.system 0 ≡ true → kept_name store ≡ store.name ∷ []
 kept-here store e = ap (λ (b : Bool). if b then [] else store.name ∷ []) (not-dropped store.system e)
-
-here-written : (named : List ℕ) (n : ℕ) (store : Store) → nat_eq store.system 0 ≡ true → list_any (nat_eq n) named ≡ true → is_written named n store ≡ true
-here-written named n store o e = (λ i. if o i then list_any (nat_eq n) named else list_any (nat_eq store.system) written_ids) ∙ e
 
 -- so is each ordinary store that is named
 pub store_stated : (names : Names) (named : List ℕ) (k line : ℕ) (calls : List (Option (List ℕ))) (stores : List Store) (i n : ℕ) → AreNamed named k calls stores → n ≡ k + i

@@ -33,6 +33,7 @@ use Rattle.checker_laws.proofs.Stated.{in_names}
 use Rattle.checker_laws.proofs.Accepted.{IsUnrefused}
 use Rattle.spelled_files.specs.Causes.{is_unspelled_system}
 use Rattle.spelled_files.specs.Written.{IsWrittenStore, WasWritten}
+use Rattle.spelled_files.proofs.Conjunctions.{fails-when, second-fails}
 
 -- what stands before further stores is found as it was
 found-before : (before more : List Store) (name : List ℕ) → list_any (λ (s : Store). same_name s.name name) before ≡ true → elements_named (before ++ more) name ≡ elements_named before name
@@ -165,10 +166,6 @@ module _ (facts : Known) (s : Store) (stated : IsStatedStore facts s) where
   code_parts : (store_head_code facts def ≡ None) × (first_code (store_item_code facts wants) def.items ≡ None)
   code_parts = none_both (store_head_code facts def) (first_code (store_item_code facts wants) def.items) stated.code
 
-  wanted : (a b : Bool) → a ≡ true → (a && b) ≡ false → b ≡ false
-  wanted true b e h = h
-  wanted false b e h = absurd (cc)
-
   items-alone : (items : List SrcItem) → wants ≡ true → first_code (store_item_code facts wants) items ≡ None → list_any is_no_character (flat_map (brought facts) items) ≡ false
   items-alone [] want h = refl
   items-alone (item ∷ items) want h =
@@ -176,19 +173,15 @@ module _ (facts : Known) (s : Store) (stated : IsStatedStore facts s) where
       let one = none_broken C13 (puts_option facts item) ((C14, wants && brings_no_character facts item) ∷ []) both.0 in
       let two = none_broken C14 (wants && brings_no_character facts item) [] one.1 in
       list_any-append is_no_character (brought facts item) (flat_map (brought facts) items)
-      ∙ (λ i. wanted wants (brings_no_character facts item) want two.0 i || items-alone items want both.1 i)
+      ∙ (λ i. second-fails wants (brings_no_character facts item) want two.0 i || items-alone items want both.1 i)
 
   pub characters_alone : wants ≡ true → list_any is_no_character s.elements ≡ false
   characters_alone want = ap (list_any is_no_character) stated.elements ∙ items-alone def.items want code_parts.1
 
   -- no cause holds of a system store
-  when : (a b : Bool) → (a ≡ true → b ≡ false) → (a && b) ≡ false
-  when true b h = h refl
-  when false b h = refl
-
   layout : (system : ℕ) → system ≡ 17 → (not (list_any is_no_character s.elements) && not (is_system_text system s.elements)) ≡ false → list_any is_no_character s.elements ≡ false → not (is_layout_text s.elements) ≡ false
   layout system e other alone =
-      wanted (not (list_any is_no_character s.elements)) (not (is_layout_text s.elements)) (λ i. not (alone i))
+      second-fails (not (list_any is_no_character s.elements)) (not (is_layout_text s.elements)) (λ i. not (alone i))
       (subst (λ (n : ℕ). (not (list_any is_no_character s.elements) && not (is_system_text n s.elements)) ≡ false) e other)
 
   wants-system : (system : ℕ) → def.system ≡ system → (if nat_eq system 0 then is_named facts.options def.name else list_any (nat_eq system) (1 ∷ 8 ∷ 17 ∷ [])) ≡ true → wants ≡ true
@@ -200,9 +193,9 @@ module _ (facts : Known) (s : Store) (stated : IsStatedStore facts s) where
       let text = none_broken C12 (is_other_text facts def) [] head.1 in
       let other : (not (list_any is_no_character s.elements) && not (is_system_text def.system s.elements)) ≡ false =
       ap (λ (es : List Element). not (list_any is_no_character es) && not (is_system_text def.system es)) stated.elements ∙ text.0 in
-      λ i. when (nat_eq s.system 1) (list_any is_no_character s.elements)
+      λ i. fails-when (nat_eq s.system 1) (list_any is_no_character s.elements)
       (λ e. characters_alone (wants-system 1 (sym stated.system ∙ eqb-true s.system 1 e) refl)) i
-      || when (nat_eq s.system 17) (not (is_layout_text s.elements))
+      || fails-when (nat_eq s.system 17) (not (is_layout_text s.elements))
       (λ e.
       let is : def.system ≡ 17 = sym stated.system ∙ eqb-true s.system 17 e in
       layout def.system is other (characters_alone (wants-system 17 is refl))) i

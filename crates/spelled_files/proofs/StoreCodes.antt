@@ -3,7 +3,7 @@ use Rattle.std.proofs.Common.{◌≡◌, ℕ, ◌+◌, ◌<◌, Bool, true, fals
 use Rattle.std.specs.Prelude.{flat_map, nat_eq}
 use Rattle.std.specs.List.{list_any, AllByRecursion, range_with_len}
 use Rattle.std.specs.Fmt.{decimal}
-use Rattle.std.proofs.lemmas.Bool.{or_parts}
+use Rattle.std.proofs.lemmas.Bool.{or_parts, not-false, not_from_true, and_right}
 use Rattle.kmn_base.specs.declared.codes.Code.TheVariants.{C12, C13, C14}
 use Rattle.kmn_base.specs.declared.items.Element.{Element}
 use Rattle.kmn_base.specs.declared.items.Element.TheVariants as element
@@ -21,18 +21,6 @@ use Rattle.decompile_laws.proofs.OptionNames.{member-has}
 use Rattle.spelled_files.specs.Causes.{is_unspelled_system}
 use Rattle.spelled_files.proofs.UnrefusedRules.{no-else, no-broken}
 
-second-false : (a b : Bool) → b ≡ false → (a && b) ≡ false
-second-false true b e = e
-second-false false b e = refl
-
-not-true : (b : Bool) → b ≡ true → not b ≡ false
-not-true true h = refl
-not-true false h = absurd (cc)
-
-not-false : (b : Bool) → not b ≡ false → b ≡ true
-not-false true h = refl
-not-false false h = absurd (cc)
-
 module _ (known : Known) where
   -- nothing of a store statement is refused
   abbrev pub IsFineStore : StoreDef → Type 0
@@ -44,8 +32,8 @@ module _ (known : Known) where
       no-else (store_head_code known store) (first_code (store_item_code known (wants_characters known store)) store.items)
       (no-broken C12 (is_left_out store) ((C12, is_other_text known store) ∷ []) kept
       (no-broken C12 (is_other_text known store) []
-      (second-false (not (list_any is_no_character (statement_elements known store))) (not (is_system_text store.system (statement_elements known store)))
-      (not-true (is_system_text store.system (statement_elements known store)) text)) refl)) items
+      (and_right (not (list_any is_no_character (statement_elements known store))) (not (is_system_text store.system (statement_elements known store)))
+      (not_from_true (is_system_text store.system (statement_elements known store)) text)) refl)) items
 
   -- the version of a file is one that a source can state
   pub version_fine : (version line : ℕ) → is_version version ≡ true → IsFineStore (version_store version line)

@@ -5,8 +5,7 @@ use Rattle.std.specs.List.{list_all, list_any, AllByRecursion}
 use Rattle.std.specs.Fmt.{decimal}
 use Rattle.std.specs.Str.{IsAscii, is_utf8}
 use Rattle.std.specs.Str.Parse.{AllDigits}
-use Rattle.std.proofs.lemmas.Bool.{ne_eqb, lt-ltb, le-leb}
-use Rattle.std.proofs.lemmas.Bool.Decides.{nat_tests}
+use Rattle.std.proofs.lemmas.Bool.{ne_eqb, lt-ltb, le-leb, and_from, eq-eqb}
 use Rattle.std.proofs.lemmas.Fmt.{decimal_is_IsNumeral, length-decimal-le}
 use Rattle.std.proofs.lemmas.Str.{IsUtf8-from_ascii, is_utf8-from_IsUtf8, chars-IsAscii}
 use Rattle.std.proofs.lemmas.Str.Ascii.{IsAscii-nil}
@@ -34,10 +33,6 @@ pub record IsTame (byte : ℕ) : Type 0 where
   pub upper : byte ≢ 85
   pub opening : byte ≢ 91
   pub closing : byte ≢ 93
-
-and-both : (a b : Bool) → a ≡ true → b ≡ true → (a && b) ≡ true
-and-both true b e f = f
-and-both false b e f = absurd cc
 
 tame-word : (byte next : ℕ) → IsTame byte → in_word byte next ≡ true
 tame-word byte next t = in_word-far byte next t.low t.equal t.arrow t.opening t.closing
@@ -106,7 +101,7 @@ in-line : (bytes : List ℕ) → AllByRecursion IsTame bytes → list_all is_inn
 in-line [] h = refl
 in-line (b ∷ bytes) h =
     let low = h.0.low in
-    and-both (is_inner b) (list_all is_inner bytes) (ap not (or-both (b == 10) (b == 13) (ne_eqb b 10 (omega arith)) (ne_eqb b 13 (omega arith)))) (in-line bytes h.1)
+    and_from (is_inner b) (list_all is_inner bytes) (ap not (or-both (b == 10) (b == 13) (ne_eqb b 10 (omega arith)) (ne_eqb b 13 (omega arith)))) (in-line bytes h.1)
 
 tame-ascii : (bytes : List ℕ) → AllByRecursion IsTame bytes → IsAscii bytes
 tame-ascii [] h i = IsAscii-nil i
@@ -120,21 +115,18 @@ few-characters : (bytes : List ℕ) → AllByRecursion IsTame bytes → 0 < leng
 few-characters bytes h some few =
     let ascii = tame-ascii bytes h in
     let count : character_count bytes ≡ length bytes = counted-characters bytes (IsUtf8-from_ascii bytes ascii) ∙ ap length (chars-IsAscii bytes ascii) in
-    and-both (nat_lt 0 (character_count bytes)) (nat_le (character_count bytes) 80)
+    and_from (nat_lt 0 (character_count bytes)) (nat_le (character_count bytes) 80)
     (ap (nat_lt 0) count ∙ lt-ltb 0 (length bytes) some) (ap (λ n. nat_le n 80) count ∙ le-leb (length bytes) 80 few)
-
-same-number : (n : ℕ) → nat_eq n n ≡ true
-same-number n = grind (arith, nat_tests)
 
 pub tame_name : (bytes : List ℕ) → AllByRecursion IsTame bytes → 0 < length bytes → length bytes ≤ 80 → IsStoreName bytes
 tame_name [] h some few = absurd (omega arith)
 tame_name (b ∷ bytes) h some few = record {
   named = record {
     utf8 = tame-utf8 (b ∷ bytes) h;
-    read = and-both _ _ (ap (λ n. nat_eq n (length (b ∷ bytes))) (size-is b bytes h) ∙ same-number (length (b ∷ bytes)))
-        (and-both _ _ (ap is_wordy (kind-is b bytes h))
-        (and-both _ _ (ap (λ f. not (is_some f)) (sound b bytes h))
-        (and-both _ _ (few-characters (b ∷ bytes) h some few) (in-line (b ∷ bytes) h))));
+    read = and_from _ _ (ap (λ n. nat_eq n (length (b ∷ bytes))) (size-is b bytes h) ∙ eq-eqb (length (b ∷ bytes)) (length (b ∷ bytes)) refl)
+        (and_from _ _ (ap is_wordy (kind-is b bytes h))
+        (and_from _ _ (ap (λ f. not (is_some f)) (sound b bytes h))
+        (and_from _ _ (few-characters (b ∷ bytes) h some few) (in-line (b ∷ bytes) h))));
   };
   ordinary = ne_eqb b 38 (let low = h.0.low in omega arith);
 }

@@ -5,7 +5,7 @@ use Rattle.std.specs.List.{AllByRecursion}
 use Rattle.std.specs.Str.{is_utf8}
 use Rattle.std.specs.Char.Utf16.{is_high_surrogate, is_low_surrogate, surrogate_pair_char, lone_unit_char, utf16_chars, utf16_lossy_chars}
 use Rattle.std.proofs.str.Utf16.{lone_unit_char_low, lone_unit_char_high, lone_unit_char_surrogate}
-use Rattle.std.proofs.lemmas.Bool.{cases_lt, and_parts, leb-true, ltb-true}
+use Rattle.std.proofs.lemmas.Bool.{cases_lt, and_parts, leb-true, ltb-true, and_from}
 use Rattle.std.proofs.lemmas.List.Elements.{All-nil, All-cons, recursion_from_All}
 use Rattle.std.proofs.lemmas.Str.{is_utf8-from_IsUtf8}
 use lib.Utf8.{scalar, scalars, low_scalar}
@@ -41,21 +41,17 @@ pair-scalar u v h =
     let below2 : v < 0xE000 = ltb-true _ _ low.1 in
     high_scalar (surrogate_pair_char u v) (omega (arith, from, below, from2, below2)) (omega (arith, from, below, from2, below2))
 
-both-true : (a b : Bool) → a ≡ true → b ≡ true → (a && b) ≡ true
-both-true true b e f = f
-both-true false b e f = absurd (cc)
-
 -- units of 16 bits stand for characters
 units-scalar : (units : List ℕ) → AllByRecursion (λ unit. unit < 65536) units → scalars (utf16_lossy_chars units) ≡ true
 unfolding utf16_chars
 units-scalar [] h = refl
-units-scalar (u ∷ []) h = both-true (scalar (unwrap_or (lone_unit_char u) 0xFFFD)) true (lone-scalar u h.0) refl
+units-scalar (u ∷ []) h = and_from (scalar (unwrap_or (lone_unit_char u) 0xFFFD)) true (lone-scalar u h.0) refl
 units-scalar (u ∷ v ∷ us) h = by (is_high_surrogate u && is_low_surrogate v) refl (units-scalar us h.1.1) (units-scalar (v ∷ us) h.1)
   where
     by : (t : Bool) → (is_high_surrogate u && is_low_surrogate v) ≡ t → scalars (utf16_lossy_chars us) ≡ true → scalars (utf16_lossy_chars (v ∷ us)) ≡ true
         → scalars (map (λ o. unwrap_or o 0xFFFD) (if t then Some (surrogate_pair_char u v) ∷ utf16_chars us else lone_unit_char u ∷ utf16_chars (v ∷ us))) ≡ true
-    by true is rest next = both-true (scalar (surrogate_pair_char u v)) (scalars (utf16_lossy_chars us)) (pair-scalar u v is) rest
-    by false is rest next = both-true (scalar (unwrap_or (lone_unit_char u) 0xFFFD)) (scalars (utf16_lossy_chars (v ∷ us))) (lone-scalar u h.0) next
+    by true is rest next = and_from (scalar (surrogate_pair_char u v)) (scalars (utf16_lossy_chars us)) (pair-scalar u v is) rest
+    by false is rest next = and_from (scalar (unwrap_or (lone_unit_char u) 0xFFFD)) (scalars (utf16_lossy_chars (v ∷ us))) (lone-scalar u h.0) next
 
 module _ (bytes : List ℕ) (small : AreBytes bytes) where
   name-text : (offset : ℕ) → is_utf8 (name_at bytes offset) ≡ true

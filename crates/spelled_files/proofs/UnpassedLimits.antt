@@ -3,7 +3,7 @@ use Rattle.std.proofs.Common.{◌≡◌, ℕ, ◌+◌, ◌≤◌, Bool, true, fa
 use Rattle.std.specs.Prelude.{nat_lt, flat_map, sum}
 use Rattle.std.specs.List.{list_any, AllByRecursion}
 use Rattle.std.specs.Str.{bytes_eq}
-use Rattle.std.proofs.lemmas.Bool.{or_parts}
+use Rattle.std.proofs.lemmas.Bool.{or_parts, le-ltb, ltb-false}
 use Rattle.std.proofs.lemmas.Bool.Decides.{nat_tests}
 use Rattle.std.proofs.lemmas.List.{map-append}
 use Rattle.std.proofs.lemmas.List.Concat.{flat_map-append}
@@ -18,10 +18,9 @@ use Rattle.rule_model.specs.Naming.{mark_names, key_names}
 use Rattle.store_table.specs.First.{broken, first_of}
 use Rattle.store_table.specs.Known.{Known}
 use Rattle.limit_checker.specs.Limits.{Statement, line_of, items_of, values_of_statement, records_of_statement, statement_size, names_size, dictionary_size, sizes, mark_count, all_records, is_long_context, is_long_output, have_many_elements, are_many_stores, have_many_marks, have_many_records, are_many_groups, limit_code, statement_refusal, group_refusal}
-use Rattle.spelled_files.proofs.Sayable.{not-more}
 use Rattle.spelled_files.proofs.UnrefusedRules.{no-earlier, no-line, no-broken}
 
-sum_append : (xs ys : List ℕ) → sum (xs ++ ys) ≡ sum xs + sum ys
+pub sum_append : (xs ys : List ℕ) → sum (xs ++ ys) ≡ sum xs + sum ys
 sum_append xs ys = sum_by-append (λ x. x) xs ys
 
 -- a list that begins with another
@@ -117,19 +116,16 @@ pub record KeepsLimits (known : Known) (all : List Statement) : Type 0 where
   pub marks : mark_count all ≤ DEADKEYS
   pub records : all_records known all ≤ RECORDS
 
-not-passed : (limit n : ℕ) → n ≤ limit → nat_lt limit n ≡ false
-not-passed limit n h = grind (arith, nat_tests, h)
-
 limits-at : (known : Known) (few many : List Statement) → Begins few many → KeepsLimits known many → KeepsLimits known few
 limits-at known few many b keeps =
     let within = sizes-within known few many b in
     let parts = or_parts (list_any (nat_lt STORE_ELEMENTS) (sizes known many)) (nat_lt ALL_ELEMENTS (sum (sizes known many))) keeps.elements in
-    let all = not-more ALL_ELEMENTS (sum (sizes known many)) parts.1 in
+    let all = ltb-false ALL_ELEMENTS (sum (sizes known many)) parts.1 in
     let items = flat-begins items_of few many b in
     let marks = kept-begins same_name (flat_map mark_names (flat_map items_of few)) (flat_map mark_names (flat_map items_of many)) (flat-begins mark_names (flat_map items_of few) (flat_map items_of many) items) in
     let records = map-begins (records_of_statement known) few many b in
     record {
-      elements = λ i. within.each parts.0 i || not-passed ALL_ELEMENTS (sum (sizes known few)) (let t = within.total in omega (arith, t, all)) i;
+      elements = λ i. within.each parts.0 i || le-ltb ALL_ELEMENTS (sum (sizes known few)) (let t = within.total in omega (arith, t, all)) i;
       stores = (let c = within.count in let k = keeps.stores in omega (arith, c, k));
       marks = (let l = ap length marks.is in let m = length-append (distinct_onto same_name [] (flat_map mark_names (flat_map items_of few))) marks.more in let k = keeps.marks in omega (arith, l, m, k));
       records = (let l = ap sum records.is in let m = sum_append (map (records_of_statement known) few) records.more in let k = keeps.records in omega (arith, l, m, k));
@@ -149,9 +145,9 @@ none-passed known through statement keeps short =
     no-broken C16 (is_long_context statement) r17 short.0
     (no-broken C17 (is_long_output known statement) r18 short.1
     (no-broken C18 (have_many_elements (sizes known through)) r19 keeps.elements
-    (no-broken C19 (are_many_stores (sizes known through)) r21 (not-passed STORES (length (sizes known through)) keeps.stores)
-    (no-broken C21 (have_many_marks through) r22 (not-passed DEADKEYS (mark_count through) keeps.marks)
-    (no-broken C22 (have_many_records known through) [] (not-passed RECORDS (all_records known through) keeps.records) refl)))))
+    (no-broken C19 (are_many_stores (sizes known through)) r21 (le-ltb STORES (length (sizes known through)) keeps.stores)
+    (no-broken C21 (have_many_marks through) r22 (le-ltb DEADKEYS (mark_count through) keeps.marks)
+    (no-broken C22 (have_many_records known through) [] (le-ltb RECORDS (all_records known through) keeps.records) refl)))))
 
 pub no_limit_passed : (known : Known) (before statements : List Statement) → KeepsLimits known (before ++ statements) → AllByRecursion (IsShort known) statements
     → first_of (statement_refusal known) before statements ≡ None
@@ -173,5 +169,5 @@ few_groups_refused before (group ∷ groups) few =
     let l = ap length again in let m = length-append through groups in
     no-earlier (group_refusal before group) (first_of group_refusal through groups)
     (no-line group.line (broken ((C20, are_many_groups through) ∷ []))
-    (no-broken C20 (are_many_groups through) [] (not-passed GROUPS (length through) (omega (arith, few, l, m))) refl))
+    (no-broken C20 (are_many_groups through) [] (le-ltb GROUPS (length through) (omega (arith, few, l, m))) refl))
     (few_groups_refused through groups (omega (arith, few, l)))

@@ -1,9 +1,9 @@
 -- No name of the program that is written out of tables is refused.
-use Rattle.std.proofs.Common.{◌≡◌, ℕ, zero, suc, ◌+◌, ◌^◌, ◌<◌, ◌≤◌, ◌⊎◌, inl, inr, Bool, true, false, not, ◌&&◌, List, [], ◌∷◌, ◌++◌, length, drop, map, Option, None, Some, refl, sym, ◌∙◌, ap, subst, arith, length-drop, length-append, append-nil, append_assoc, if◌then◌else◌}
+use Rattle.std.proofs.Common.{◌≡◌, ℕ, zero, suc, ◌+◌, ◌^◌, ◌<◌, ◌≤◌, ◌⊎◌, inl, inr, Bool, true, false, ◌&&◌, List, [], ◌∷◌, ◌++◌, length, drop, map, Option, None, Some, refl, sym, ◌∙◌, ap, subst, arith, length-drop, length-append, append-nil, append_assoc, if◌then◌else◌}
 use Rattle.std.specs.Prelude.{nat_eq, slice_get, unwrap_or}
 use Rattle.std.specs.List.{AllByRecursion, range_with_len}
 use Rattle.std.specs.Fmt.{decimal}
-use Rattle.std.proofs.lemmas.Bool.Decides.{nat_tests}
+use Rattle.std.proofs.lemmas.Bool.{not_from_true, eq-eqb, or_from}
 use Rattle.std.proofs.lemmas.List.{length-map}
 use Rattle.std.proofs.lemmas.List.Concat.{flat_map-append}
 use Rattle.kmn_base.specs.declared.codes.Code.TheVariants.{C02, C03, C06}
@@ -20,60 +20,29 @@ use Rattle.kmx_format.specs.Playable.{IsPlayable}
 use Rattle.store_table.specs.declared.stating.Stated.{Stated}
 use Rattle.store_table.specs.First.{broken, first_code, first_of}
 use Rattle.store_table.specs.Names.{is_named, kept_name, store_names, group_names, stated, is_begun, begins_no_group, is_store_again, begin_code, begin_refusal, store_item_code, store_code, store_refusal, group_refusal, names_refusal}
-use Rattle.decompile_laws.specs.Names.{named_stores, is_free, free_names}
+use Rattle.decompile_laws.specs.Names.{named_stores, free_names}
 use Rattle.decompile_laws.specs.Marks.{greatest_mark}
 use Rattle.decompile_laws.specs.Items.{Names, store_called, group_called}
 use Rattle.decompile_laws.specs.Back.{back_stores, back_groups, back_begins, numbered, stated_marks, stated_key, mark_store, key_store, version_text, mark_stores, key_stores, front_stores, free_stores, names_for, written_stores, written_begins, written_groups, back}
 use Rattle.decompile_laws.specs.WrittenOut.{is_ordinary, CanBeWrittenOut}
-use Rattle.decompile_laws.proofs.Apart.{Differs, AreFree, AreApart, AllTaken, own_name, later, free-differs, names_apart, same-itself, same-turned, source-some}
+use Rattle.decompile_laws.proofs.Apart.{Differs, AreFree, AreApart, own_name, later, free-differs, names_apart, same-itself, same-turned, source-some}
 use Rattle.decompile_laws.proofs.Free.{AreDistinct, free_names-free, free_names-count}
-use Rattle.decompile_laws.proofs.Groups.{group_name, groups_apart, names_taken}
+use Rattle.decompile_laws.proofs.Groups.{group_name, groups_apart, names_taken, group_count}
 use Rattle.decompile_laws.proofs.Good.{IsNamed, groups_good}
 use Rattle.decompile_laws.proofs.Choosing.{clash, all_join}
+use Rattle.decompile_laws.proofs.FreshNames.{all-taken, drop-free, fresh-at}
 use Rattle.spelled_files.specs.Laws.{HasTextNames}
 use Rattle.spelled_files.specs.Unspelled.{unspelled}
 use Rattle.spelled_files.proofs.Sayable.{IsSayable, sayable}
 use Rattle.spelled_files.proofs.WrittenOut.{written_out}
-use Rattle.spelled_files.proofs.CalledNames.{AreNamed, groups_along}
-use Rattle.spelled_files.proofs.SpelledRules.{few-marks, few-keys, calls_named, all-at}
+use Rattle.spelled_files.proofs.CalledNames.{AreNamed}
+use Rattle.spelled_files.proofs.SpelledRules.{few-marks, few-keys, free_count, calls_named, all-at}
 use Rattle.spelled_files.proofs.StatedNames.{named-cons, named-behind, named_at, groups_stated, store_stated}
-use Rattle.spelled_files.proofs.ApartNames.{Later, HaveNames, or-none, named-none, stores_apart, ApartFrom, groups_apart_refused}
+use Rattle.spelled_files.proofs.ApartNames.{Later, HaveNames, named-none, stores_apart, ApartFrom, groups_apart_refused}
 use Rattle.spelled_files.proofs.KnownNames.{no_rule_unknown}
 use Rattle.spelled_files.proofs.UnrefusedRules.{no-else, no-earlier, no-line, no-broken}
 
-not-true : (b : Bool) → b ≡ true → not b ≡ false
-not-true true h = refl
-not-true false h = absurd (cc)
-
-same-number : (n m : ℕ) → n ≡ m → nat_eq n m ≡ true
-same-number n m e = ap (nat_eq n) (sym e) ∙ itself n
-  where
-    itself : (n : ℕ) → nat_eq n n ≡ true
-    itself n = grind (arith, nat_tests)
-
--- free names: the first are told apart, and from those behind a number of them
-differs-behind : (x : List ℕ) (k : ℕ) (names : List (List ℕ)) → Differs x names → Differs x (drop k names)
-differs-behind x zero names d = d
-differs-behind x (suc k) [] d = d
-differs-behind x (suc k) (y ∷ names) d = differs-behind x k names d.1
-
-drop-free : (taken : List (List ℕ)) (k : ℕ) (names : List (List ℕ)) → AreFree taken names → AreFree taken (drop k names)
-drop-free taken zero names f = f
-drop-free taken (suc k) [] f = f
-drop-free taken (suc k) (name ∷ names) f = drop-free taken k names f.2
-
-record IsFresh (taken behind : List (List ℕ)) (name : List ℕ) : Type 0 where
-  free : is_free taken name ≡ true
-  some : same_name name [] ≡ false
-  others : Differs name behind
-
-fresh-at : (taken : List (List ℕ)) (i k : ℕ) (names : List (List ℕ)) → AreFree taken names → i < length names → i < k → IsFresh taken (drop k names) (unwrap_or (slice_get names i) [])
-fresh-at taken i k [] f less before = absurd (omega arith)
-fresh-at taken zero zero (name ∷ names) f less before = absurd (omega arith)
-fresh-at taken zero (suc k) (name ∷ names) f less before = record { free = f.0.free; some = f.0.some; others = differs-behind name k names f.1 }
-fresh-at taken (suc i) zero (name ∷ names) f less before = absurd (omega arith)
-fresh-at taken (suc i) (suc k) (name ∷ names) f less before = fresh-at taken i k names f.2 (omega arith) (omega arith)
-
+-- free names aren't empty, and the first two are told apart
 pub some-at : (taken : List (List ℕ)) (i : ℕ) (names : List (List ℕ)) → AreFree taken names → i < length names → same_name (unwrap_or (slice_get names i) []) [] ≡ false
 some-at taken i [] f less = absurd (omega arith)
 some-at taken zero (name ∷ names) f less = f.0.some
@@ -83,14 +52,6 @@ second-differs : (taken names : List (List ℕ)) → AreFree taken names → 1 <
 second-differs taken [] f less = absurd (omega arith)
 second-differs taken (x ∷ []) f less = absurd (omega arith)
 second-differs taken (x ∷ y ∷ names) f less = same-turned x y f.1.0
-
-taken-more : (y : List ℕ) (ys : List (List ℕ)) (stores : List Store) → AllTaken ys stores → AllTaken (y ∷ ys) stores
-taken-more y ys [] h = tt
-taken-more y ys (s ∷ stores) h = (inr h.0, taken-more y ys stores h.1)
-
-all-taken : (stores : List Store) → AllTaken (map own_name stores) stores
-all-taken [] = tt
-all-taken (s ∷ stores) = (inl refl, taken-more s.name (map own_name stores) stores (all-taken stores))
 
 have-names : (named : List ℕ) (k : ℕ) (calls : List (Option (List ℕ))) (stores : List Store) → AreNamed named k calls stores → HaveNames calls stores
 have-names named k [] stores h = tt
@@ -134,11 +95,11 @@ keys-fine stated before [] = refl
 keys-fine stated before (name ∷ names) = keys-fine stated before names
 
 no-empty : (x : List ℕ) → same_name x [] ≡ false → is_named ([] ∷ []) x ≡ false
-no-empty x some = named-cons [] [] x ∙ or-none (same_name x []) (is_named [] x) some (named-none x)
+no-empty x some = named-cons [] [] x ∙ or_from (same_name x []) (is_named [] x) some (named-none x)
 
 no-other : (a x : List ℕ) → same_name x [] ≡ false → same_name x a ≡ false → is_named ([] ∷ a ∷ []) x ≡ false
 no-other a x some other =
-    named-cons [] (a ∷ []) x ∙ or-none (same_name x []) (is_named (a ∷ []) x) some (named-cons a [] x ∙ or-none (same_name x a) (is_named [] x) other (named-none x))
+    named-cons [] (a ∷ []) x ∙ or_from (same_name x []) (is_named (a ∷ []) x) some (named-cons a [] x ∙ or_from (same_name x a) (is_named [] x) other (named-none x))
 
 -- the stores of deadkeys and keys behind the version
 abbrev IsFront : Stated → List (Option (List ℕ)) → List (List ℕ) → List StoreDef → Type 0
@@ -169,7 +130,7 @@ apart-from before (x ∷ names) d h = (none-before before h, apart-from (before 
   where
     none-before : (bs : List (List ℕ)) → AllByRecursion (λ b. Differs b (x ∷ names)) bs → is_named bs x ≡ false
     none-before [] h = named-none x
-    none-before (b ∷ bs) h = named-cons b bs x ∙ or-none (same_name x b) (is_named bs x) (same-turned b x h.0.0) (none-before bs h.1)
+    none-before (b ∷ bs) h = named-cons b bs x ∙ or_from (same_name x b) (is_named bs x) (same-turned b x h.0.0) (none-before bs h.1)
 
     tails : (bs : List (List ℕ)) → AllByRecursion (λ b. Differs b (x ∷ names)) bs → AllByRecursion (λ b. Differs b names) bs
     tails [] h = tt
@@ -192,7 +153,7 @@ module _ (tables : Tables) (can : IsPlayable tables) (said : IsSayable tables) (
   free-all = free_names-free 115 [] taken (length tables.stores + 2) small
 
   pub free-size : length (free_stores tables) ≡ length tables.stores + 2
-  free-size = free_names-count (115 ∷ []) taken (length tables.stores + 2) small
+  free-size = free_count tables can said written texts
 
   pub marks-few : length (mark_stores tables) ≤ 1
   marks-few = few-marks (unwrap_or (slice_get (free_stores tables) 0) []) (greatest_mark tables)
@@ -266,7 +227,7 @@ module _ (tables : Tables) (can : IsPlayable tables) (said : IsSayable tables) (
       (all-at (λ m. is_ordinary (slice_get tables.stores m) ≡ true) (named_stores tables) n written.named a) a)
 
   groups-count : length names.groups ≡ length tables.groups
-  groups-count = groups_along (free_names (103 ∷ []) (map (λ (group : Group). group.name) tables.groups) (length tables.groups)) [] tables.groups
+  groups-count = group_count (free_names (103 ∷ []) (map (λ (group : Group). group.name) tables.groups) (length tables.groups)) [] tables.groups
 
   groups-are : (line : ℕ) → group_names (back_groups names line names.groups tables.groups) ≡ names.groups
   groups-are line = groups_stated names line names.groups tables.groups groups-count
@@ -293,13 +254,13 @@ module _ (tables : Tables) (can : IsPlayable tables) (said : IsSayable tables) (
 
   ansi-within : (tables.start_ansi < length tables.groups) ⊎ (tables.start_ansi ≡ 0xFFFF_FFFF) → nat_eq tables.start_ansi 0xFFFF_FFFF ≡ false → tables.start_ansi < length tables.groups
   ansi-within (inl less) e = less
-  ansi-within (inr is) e = clash (nat_eq tables.start_ansi 0xFFFF_FFFF) (same-number tables.start_ansi 0xFFFF_FFFF is) e
+  ansi-within (inr is) e = clash (nat_eq tables.start_ansi 0xFFFF_FFFF) (eq-eqb tables.start_ansi 0xFFFF_FFFF is) e
 
   begin-fine : (stated : Stated) (before : List BeginDef) (start : BeginDef) → is_begun before start ≡ false → is_named stated.groups start.group ≡ true → begin_refusal stated before start ≡ None
   begin-fine stated before start first known =
       no-line start.line (begin_code stated (is_begun before start) start)
       (no-broken C02 (is_begun before start) ((C06, begins_no_group stated start) ∷ []) first
-      (no-broken C06 (begins_no_group stated start) [] (not-true (is_named stated.groups start.group) known) refl))
+      (no-broken C06 (begins_no_group stated start) [] (not_from_true (is_named stated.groups start.group) known) refl))
 
   ansi-fine : (stated : Stated) (line : ℕ) (t : Bool) → nat_eq tables.start_ansi 0xFFFF_FFFF ≡ t → ((g : ℕ) → g < length tables.groups → is_named stated.groups (group_called names g) ≡ true)
       → first_of (begin_refusal stated) (unicode_begin line ∷ []) (if t then [] else ansi_begin (line + 1) ∷ []) ≡ None

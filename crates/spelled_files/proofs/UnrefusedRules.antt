@@ -1,9 +1,9 @@
 -- No item of a rule that is written out of playable tables is refused: offsets point at what they must, and no key is past
 -- U+FFFF.
-use Rattle.std.proofs.Common.{◌≡◌, ℕ, zero, suc, ◌+◌, ◌^◌, ◌<◌, ◌≤◌, Bool, true, false, not, ◌&&◌, List, [], ◌∷◌, ◌++◌, length, take, drop, map, Option, None, Some, is_some, refl, sym, ◌∙◌, subst, arith, append-nil, append_assoc}
+use Rattle.std.proofs.Common.{◌≡◌, ℕ, zero, suc, ◌+◌, ◌^◌, ◌<◌, ◌≤◌, Bool, true, false, List, [], ◌∷◌, ◌++◌, length, take, drop, map, Option, None, Some, is_some, refl, sym, ◌∙◌, subst, arith, append-nil, append_assoc}
 use Rattle.std.specs.Prelude.{All, nat_eq, nat_lt, slice_get, slice_index_or, unwrap_or, IsSomeAnd}
 use Rattle.std.specs.List.{AllByRecursion}
-use Rattle.std.proofs.lemmas.Bool.{ne_eqb}
+use Rattle.std.proofs.lemmas.Bool.{ne_eqb, not_from_true, and_right}
 use Rattle.std.proofs.lemmas.Bool.Decides.{nat_tests}
 use Rattle.std.proofs.lemmas.List.{length-map, map-append}
 use Rattle.std.proofs.lemmas.List.Elements.{All-head, All-tail}
@@ -32,10 +32,6 @@ use Rattle.item_checker.specs.Items.{is_pattern_item, is_any_item, passes, point
 use Rattle.decompile_laws.specs.Items.{Names, store_called, back_pattern, back_output, back_key, some_items}
 use Rattle.decompile_laws.specs.Back.{back_rule, back_rules, back_statement, match_line, nomatch_line, back_group, back_groups, names_for, written_stores, written_begins, back}
 use Rattle.decompile_laws.proofs.Choosing.{choose-else}
-
-not-true : (b : Bool) → b ≡ true → not b ≡ false
-not-true true h = refl
-not-true false h = absurd (cc)
 
 -- refusals that there aren't
 pub no-else : {A : Type 0} (a b : Option A) → a ≡ None → b ≡ None → or_else a b ≡ None
@@ -95,14 +91,14 @@ module _ (names : Names) where
   index-fine : (context : List Pat) (offset : ℕ) → PointsTo is_any context offset → index_code (map (back_pattern names) context) offset ≡ None
   index-fine context offset h =
       no-broken C08 (misses_pattern (map (back_pattern names) context) offset) ((C09, misses_any (map (back_pattern names) context) offset) ∷ [])
-      (not-true (points_to is_pattern_item (map (back_pattern names) context) offset) (points-back is_any is_pattern_item (λ p e. matched-back p (any-matched p e)) context offset h))
+      (not_from_true (points_to is_pattern_item (map (back_pattern names) context) offset) (points-back is_any is_pattern_item (λ p e. matched-back p (any-matched p e)) context offset h))
       (no-broken C09 (misses_any (map (back_pattern names) context) offset) []
-      (not-true (points_to is_any_item (map (back_pattern names) context) offset) (points-back is_any is_any_item any-back context offset h)) refl)
+      (not_from_true (points_to is_any_item (map (back_pattern names) context) offset) (points-back is_any is_any_item any-back context offset h)) refl)
 
   context-at-fine : (context : List Pat) (offset : ℕ) → PointsTo is_matched context offset → context_at_code (map (back_pattern names) context) offset ≡ None
   context-at-fine context offset h =
       no-broken C08 (misses_pattern (map (back_pattern names) context) offset) []
-      (not-true (points_to is_pattern_item (map (back_pattern names) context) offset) (points-back is_matched is_pattern_item matched-back context offset h)) refl
+      (not_from_true (points_to is_pattern_item (map (back_pattern names) context) offset) (points-back is_matched is_pattern_item matched-back context offset h)) refl
 
   item-fine : (before : List Pat) (p : Pat) → PointsBack before p → context_item_code (map (back_pattern names) before) (back_pattern names p) ≡ None
   item-fine before (pattern.Index s offset) h = index-fine before offset h
@@ -149,12 +145,8 @@ module _ (names : Names) where
       let size = length-map rule.context (back_pattern names) in
       let few = within is_any rule.context offset h in
       choose-else (is_key_place back offset) (key_index_code known back (store_called names s)) (index_code back.context offset)
-      (second-false (is_some back.key) (nat_eq offset (length back.context + 1)) (ne_eqb offset (length back.context + 1) (omega (arith, size, few))))
+      (and_right (is_some back.key) (nat_eq offset (length back.context + 1)) (ne_eqb offset (length back.context + 1) (omega (arith, size, few))))
       ∙ index-fine rule.context offset h
-    where
-      second-false : (a b : Bool) → b ≡ false → (a && b) ≡ false
-      second-false true b e = e
-      second-false false b e = refl
   output-fine known line rule (output.ContextAt offset) h = context-at-fine rule.context offset h
   output-fine known line rule (output.Char c) h = refl
   output-fine known line rule (output.Mark m) h = refl

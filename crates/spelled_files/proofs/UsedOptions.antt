@@ -2,7 +2,7 @@
 use Rattle.std.proofs.Common.{◌≡◌, ℕ, zero, suc, Bool, true, false, ◌||◌, List, [], ◌∷◌, ◌++◌, cond, Option, Some, None, refl, sym, ◌∙◌, ap, if◌then◌else◌}
 use Rattle.std.specs.Prelude.{All, filter, find, flat_map, nat_eq, option_map, option_to_list, position, take}
 use Rattle.std.specs.List.{list_any, AllByRecursion}
-use Rattle.std.proofs.lemmas.Bool.{eqb-true}
+use Rattle.std.proofs.lemmas.Bool.{eqb-true, or_left, or_right}
 use Rattle.std.proofs.lemmas.List.Elements.{All-head, All-tail}
 use Rattle.std.proofs.lemmas.List.Folds.{list_any-append}
 use Rattle.std.proofs.lemmas.Option.{none-some}
@@ -23,6 +23,7 @@ use Rattle.item_checker.specs.Items.{is_option}
 use Rattle.program_text.specs.Spelled.{IsSpelledName}
 use Rattle.decompile_laws.proofs.Choosing.{all_parts, all_join, all_split, all_weaker, all_both}
 use Rattle.spelled_files.specs.Written.{IsWrittenItem, IsWrittenRule, WasWritten}
+use Rattle.spelled_files.proofs.GroupRules.{rules_of}
 
 -- what holds of all that is gathered
 module _ (P : List ℕ → Type 0) where
@@ -81,9 +82,6 @@ module _ (P : List ℕ → Type 0) where
       (gathered rule_uses (option_to_list (find is_on_match group.rules)) (first-kept is_on_match group.rules h))
       (gathered rule_uses (option_to_list (find is_on_nomatch group.rules)) (first-kept is_on_nomatch group.rules h)))
 
-  abbrev rules_of : GroupDef → List RuleDef
-  rules_of group = group.rules
-
   groups-have : (groups : List GroupDef) → AllByRecursion HasUses (flat_map rules_of groups) → AllByRecursion P (flat_map group_uses groups)
   groups-have [] h = tt
   groups-have (group ∷ groups) h =
@@ -114,14 +112,6 @@ rules-spelled [] ok = tt
 rules-spelled (rule ∷ rules) ok =
     all_join IsSpelledName (rule_options rule) (flat_map rule_options rules) (items-spelled (rule_items rule) (All-head IsWrittenRule rule rules ok).items) (rules-spelled rules (All-tail IsWrittenRule rule rules ok))
 
-or-first : (a b : Bool) → a ≡ true → (a || b) ≡ true
-or-first true b e = refl
-or-first false b e = absurd (cc)
-
-or-second : (a b : Bool) → b ≡ true → (a || b) ≡ true
-or-second true b e = refl
-or-second false b e = e
-
 -- each name of a list is among them
 abbrev IsAmong : List (List ℕ) → List ℕ → Type 0
 IsAmong names a = (x : List ℕ) → same_name x a ≡ true → list_any (same_name x) names ≡ true
@@ -129,8 +119,8 @@ IsAmong names a = (x : List ℕ) → same_name x a ≡ true → list_any (same_n
 all-among : (names : List (List ℕ)) → AllByRecursion (IsAmong names) names
 all-among [] = tt
 all-among (a ∷ names) = (
-  (λ x e. or-first (same_name x a) (list_any (same_name x) names) e),
-  all_weaker (IsAmong names) (IsAmong (a ∷ names)) (λ b h x e. or-second (same_name x a) (list_any (same_name x) names) (h x e)) names (all-among names),
+  (λ x e. or_left (same_name x a) (list_any (same_name x) names) e),
+  all_weaker (IsAmong names) (IsAmong (a ∷ names)) (λ b h x e. or_right (same_name x a) (list_any (same_name x) names) (h x e)) names (all-among names),
 )
 
 -- a name that an item uses as an option: a name of a source, and all that are the same are options

@@ -17,6 +17,7 @@ use Rattle.kmn_lines.specs.Lines.{logicals, is_skipped, dropped, physical_text, 
 use Rattle.kmn_lines.specs.Laws.{IsInLine, IsPhysicalLine, AreJoined}
 use Rattle.kmn_lines.specs.Tokens.{token_size, token_text, token_kind, token_at, token_fault, scanned, first_fault, part_text, parts_tokens, parts_fault, line_tokens, line_refusal, tokens_refusal, refusal}
 use Rattle.kmn_lines.proofs.LineTexts.{parts_are_texts}
+use Rattle.kmn_lines.proofs.Numbered.{drop-next as drop-after}
 use Rattle.kmn_items.specs.TokenTexts.{LineToken, text_of, with_text, with_texts}
 use Rattle.kmn_parser.proofs.SoundTokens.{IsSoundToken, HasTexts, HasSoundTokens, either-none, lines-sound}
 use Rattle.program_text.specs.Names.{is_inner}
@@ -98,13 +99,8 @@ inner-bytes (b ∷ text) h = λ i. not (All-head IsInLine b text h i) && inner-b
 abbrev IsWholeIn : List ℕ → Token → Type 0
 IsWholeIn source t = IsWhole t.kind (text_of source t)
 
-drop-suc : (at : ℕ) (text : List ℕ) (byte : ℕ) (bytes : List ℕ) → drop at text ≡ byte ∷ bytes → drop (suc at) text ≡ bytes
-drop-suc zero text byte bytes e = ap (drop 1) e
-drop-suc (suc n) [] byte bytes e = cc
-drop-suc (suc n) (x ∷ xs) byte bytes e = drop-suc n xs byte bytes e
-
 drop-next : (at : ℕ) (text : List ℕ) (byte : ℕ) (bytes : List ℕ) → drop at text ≡ byte ∷ bytes → drop (at + 1) text ≡ bytes
-drop-next at text byte bytes e = ap (λ (n : ℕ). drop n text) (add-one at) ∙ drop-suc at text byte bytes e
+drop-next at text byte bytes e = ap (λ (n : ℕ). drop n text) (add-one at) ∙ drop-after at text byte bytes e
 
 taken-length : (n : ℕ) (bytes : List ℕ) → take (length (take n bytes)) bytes ≡ take n bytes
 taken-length zero bytes = refl

@@ -2,10 +2,11 @@
 use Rattle.std.proofs.Common.{◌≡◌, ℕ, zero, suc, ◌+◌, ◌≤◌, Bool, true, false, not, ◌&&◌, ◌||◌, if◌then◌else◌, List, [], ◌∷◌, ◌++◌, length, take, drop, map, Option, None, Some, Result, Ok, Err, refl, sym, ◌∙◌, ap, subst, arith, length-append}
 use Rattle.std.specs.Prelude.{All, filter, nat_lt}
 use Rattle.std.specs.List.{list_all, list_any}
-use Rattle.std.proofs.lemmas.Bool.{and_parts, cond_both}
+use Rattle.std.proofs.lemmas.Bool.{and_parts, cond_both, and_right, or_right}
 use Rattle.std.proofs.lemmas.Bool.Decides.{nat_tests}
 use Rattle.std.proofs.lemmas.List.Elements.{All-cons, All-nil, All-append, All-head, All-tail, All-drop, filter-append}
 use Rattle.std.proofs.lemmas.List.Folds.{list_all-append}
+use Rattle.std.proofs.Math.Bool.{or-false, or_assoc}
 use Rattle.kmn_base.specs.declared.codes.Code.{Code}
 use Rattle.kmn_base.specs.declared.codes.Code.TheVariants.{S09, S10}
 use Rattle.kmn_base.specs.Answers.{and_then}
@@ -162,23 +163,6 @@ abbrev nuls : Bool → ℕ
 nuls true = 1
 nuls false = 0
 
-and-false : (a : Bool) → (a && false) ≡ false
-and-false true = refl
-and-false false = refl
-
-or-true : (a : Bool) → (a || true) ≡ true
-or-true true = refl
-or-true false = refl
-
-or-same : (a b : Bool) → (a || (b || false)) ≡ (a || b)
-or-same true b = refl
-or-same false true = refl
-or-same false false = refl
-
-or-none : (a : Bool) → a ≡ (a || false)
-or-none true = refl
-or-none false = refl
-
 -- items that stand behind what was seen, and what is seen behind them
 record AreInOrder (seen after : Seen) (items : List SrcItem) : Type 0 where
   stand : list_all stands_in_context items ≡ true
@@ -199,8 +183,8 @@ record IsPatternAlone (item : SrcItem) : Type 0 where
 pattern-order : (seen : Seen) (item : SrcItem) → IsPatternAlone item → AreInOrder seen (record { pattern = true; nul = seen.nul }) (item ∷ [])
 pattern-order seen item is = record {
   stand = λ i. is.stands i && true;
-  order = (λ i. (seen.pattern && not (is.pattern i)) || false) ∙ (λ i. and-false seen.pattern i || false);
-  patterns = sym ((λ i. seen.pattern || (is.pattern i || false)) ∙ or-true seen.pattern);
+  order = (λ i. (seen.pattern && not (is.pattern i)) || false) ∙ (λ i. and_right seen.pattern false refl i || false);
+  patterns = sym ((λ i. seen.pattern || (is.pattern i || false)) ∙ or_right seen.pattern true refl);
   count = let none : length (filter is_nul_item (item ∷ [])) ≡ 0 = ap (λ (b : Bool). length (if b then item ∷ [] else [])) is.nul in omega (arith, none);
 }
 
@@ -214,7 +198,7 @@ condition-order : (seen : Seen) (item : SrcItem) → seen.pattern ≡ false → 
 condition-order seen item free is = record {
   stand = λ i. is.stands i && true;
   order = λ i. (free i && not (is.pattern i)) || false;
-  patterns = or-none seen.pattern ∙ (λ i. seen.pattern || (sym is.pattern i || false));
+  patterns = sym (or-false seen.pattern) ∙ (λ i. seen.pattern || (sym is.pattern i || false));
   count = let none : length (filter is_nul_item (item ∷ [])) ≡ 0 = ap (λ (b : Bool). length (if b then item ∷ [] else [])) is.nul in omega (arith, none);
 }
 
@@ -222,7 +206,7 @@ nul-order : (seen : Seen) → seen.pattern ≡ false → seen.nul ≡ false → 
 nul-order seen free one = record {
   stand = refl;
   order = λ i. (free i && true) || false;
-  patterns = or-none seen.pattern;
+  patterns = sym (or-false seen.pattern);
   count = let none : nuls seen.nul ≡ 0 = ap nuls one in omega (arith, none);
 }
 
@@ -232,7 +216,7 @@ characters-stand (c ∷ cs) = characters-stand cs
 
 characters-late : (matched : Bool) (cs : List ℕ) → has_late_item matched (map source.Char cs) ≡ false
 characters-late matched [] = refl
-characters-late matched (c ∷ cs) = (λ i. and-false matched i || has_late_item (matched || true) (map source.Char cs)) ∙ characters-late (matched || true) cs
+characters-late matched (c ∷ cs) = (λ i. and_right matched false refl i || has_late_item (matched || true) (map source.Char cs)) ∙ characters-late (matched || true) cs
 
 characters-patterns : (matched : Bool) (cs : List ℕ) → (matched || nat_lt 0 (length cs)) ≡ (matched || list_any is_pattern_item (map source.Char cs))
 characters-patterns matched [] = refl
@@ -331,16 +315,12 @@ few-nuls : (b : Bool) → nuls b ≤ 1
 few-nuls true = omega arith
 few-nuls false = omega arith
 
-or-assoc : (a b c : Bool) → ((a || b) || c) ≡ (a || (b || c))
-or-assoc true b c = refl
-or-assoc false b c = refl
-
 late-append : (matched : Bool) (xs ys : List SrcItem) → has_late_item matched (xs ++ ys) ≡ (has_late_item matched xs || has_late_item (matched || list_any is_pattern_item xs) ys)
-late-append matched [] ys = λ i. has_late_item (or-none matched i) ys
+late-append matched [] ys = λ i. has_late_item (sym (or-false matched) i) ys
 late-append matched (x ∷ xs) ys =
     (λ i. (matched && not (is_pattern_item x)) || late-append (matched || is_pattern_item x) xs ys i)
-    ∙ ((λ i. (matched && not (is_pattern_item x)) || (has_late_item (matched || is_pattern_item x) xs || has_late_item (or-assoc matched (is_pattern_item x) (list_any is_pattern_item xs) i) ys))
-    ∙ sym (or-assoc (matched && not (is_pattern_item x)) (has_late_item (matched || is_pattern_item x) xs) (has_late_item (matched || (is_pattern_item x || list_any is_pattern_item xs)) ys)))
+    ∙ ((λ i. (matched && not (is_pattern_item x)) || (has_late_item (matched || is_pattern_item x) xs || has_late_item (or_assoc matched (is_pattern_item x) (list_any is_pattern_item xs) i) ys))
+    ∙ sym (or_assoc (matched && not (is_pattern_item x)) (has_late_item (matched || is_pattern_item x) xs) (has_late_item (matched || (is_pattern_item x || list_any is_pattern_item xs)) ys)))
 
 prepend-order : (seen after : Seen) (items : List SrcItem) (rest : Result (List SrcItem) Fault) → AreInOrder seen after items → ContextBehind after rest → ContextBehind seen (prepend items rest)
 prepend-order seen after items (Err found) here rest = tt

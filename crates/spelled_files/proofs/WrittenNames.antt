@@ -3,8 +3,7 @@ use Rattle.std.proofs.Common.{◌≡◌, ℕ, zero, suc, ◌+◌, ◌-◌, ◌<�
 use Rattle.std.specs.Prelude.{All, IsUtf8, chars, nat_eq, nat_lt, nat_le, slice_get}
 use Rattle.std.specs.List.{list_all, list_any}
 use Rattle.std.specs.Str.{byte, is_utf8}
-use Rattle.std.proofs.lemmas.Bool.{and_parts, or_cases, cases_lt, cond_both, eq-eqb, eqb-true, ltb-true, ne_eqb}
-use Rattle.std.proofs.lemmas.Bool.Decides.{nat_tests}
+use Rattle.std.proofs.lemmas.Bool.{and_parts, or_cases, cases_lt, cond_both, eq-eqb, eqb-true, ltb-true, ne_eqb, and_from, or_left, or_right, lt-ltb, le-leb, and_right, and_left}
 use Rattle.std.proofs.lemmas.List.Elements.{All-nil}
 use Rattle.std.proofs.lemmas.List.Folds.{list_all-append, list_any-append}
 use Rattle.std.proofs.lemmas.Option.{none-some, same_Some}
@@ -65,10 +64,6 @@ filled last at (suc n) (x ∷ slots) (token ∷ tokens) wanted whole there =
 pub text_is : (n : ℕ) (tokens : List LineToken) (token : LineToken) → slice_get tokens n ≡ Some token → text_at n tokens ≡ token.text
 text_is n tokens token at = ap (λ (o : Option LineToken). unwrap_or (option_map (λ (t : LineToken). t.text) o) []) at
 
-both-true : (a b : Bool) → a ≡ true → b ≡ true → (a && b) ≡ true
-both-true true b e f = f
-both-true false b e f = absurd (cc)
-
 -- ---- names
 
 pub name_spelled : (token : LineToken) → IsWholeToken token → is_wordy token.kind ≡ true → is_name token.text ≡ true → IsSpelledName token.text
@@ -77,10 +72,10 @@ name_spelled token ok wordy named =
     record {
       utf8 = is_utf8-from_IsUtf8 text ok.sound.utf8;
       read =
-          both-true (nat_eq (token_size text) (length text)) _ (eq-eqb (token_size text) (length text) ok.whole.size)
-          (both-true (is_wordy (token_kind text)) _ (ap is_wordy (sym ok.whole.is) ∙ wordy)
-          (both-true (not (is_some (token_fault text))) _ (ap (λ (o : Option Code). not (is_some o)) ok.whole.faultless)
-          (both-true (is_name text) (list_all is_inner text) named ok.whole.inner)));
+          and_from (nat_eq (token_size text) (length text)) _ (eq-eqb (token_size text) (length text) ok.whole.size)
+          (and_from (is_wordy (token_kind text)) _ (ap is_wordy (sym ok.whole.is) ∙ wordy)
+          (and_from (not (is_some (token_fault text))) _ (ap (λ (o : Option Code). not (is_some o)) ok.whole.faultless)
+          (and_from (is_name text) (list_all is_inner text) named ok.whole.inner)));
     }
 
 -- the name at a place of a form
@@ -110,20 +105,12 @@ has-byte : (k : ℕ) → k < 128 → (cs : List ℕ) → Has k cs ≡ true → H
 has-byte k small [] h = h
 has-byte k small (c ∷ cs) h = by (c == k) refl h (has-byte k small cs)
   where
-    first : (a b : Bool) → a ≡ true → (a || b) ≡ true
-    first true b e = refl
-    first false b e = absurd (cc)
-
-    second : (a b : Bool) → b ≡ true → (a || b) ≡ true
-    second true b e = refl
-    second false b e = e
-
     by : (b : Bool) → (c == k) ≡ b → (b || Has k cs) ≡ true → (Has k cs ≡ true → Has k (encodes cs) ≡ true) → Has k (encode c ++ encodes cs) ≡ true
     by true e g rest =
         let low : c < 128 = let same = eqb-true c k e in omega (arith, small, same) in
         list_any-append (λ b. b == k) (encode c) (encodes cs)
-        ∙ first (Has k (encode c)) (Has k (encodes cs)) (ap (Has k) (encode_ascii c low) ∙ first (c == k) false e)
-    by false e g rest = list_any-append (λ b. b == k) (encode c) (encodes cs) ∙ second (Has k (encode c)) (Has k (encodes cs)) (rest g)
+        ∙ or_left (Has k (encode c)) (Has k (encodes cs)) (ap (Has k) (encode_ascii c low) ∙ or_left (c == k) false e)
+    by false e g rest = list_any-append (λ b. b == k) (encode c) (encodes cs) ∙ or_right (Has k (encode c)) (Has k (encodes cs)) (rest g)
 
 no-character : (k : ℕ) → k < 128 → (bs : List ℕ) → IsUtf8 bs → Has k bs ≡ false → Has k (chars bs) ≡ false
 no-character k small bs utf8 h = by (Has k (chars bs)) refl
@@ -140,7 +127,7 @@ inner-characters : (cs : List ℕ) → list_all is_inner (encodes cs) ≡ true �
 inner-characters [] h = refl
 inner-characters (c ∷ cs) h =
     let parts = and_parts (list_all is_inner (encode c)) (list_all is_inner (encodes cs)) (sym (list_all-append is_inner (encode c) (encodes cs)) ∙ h) in
-    both-true (is_inner c) (list_all is_inner cs)
+    and_from (is_inner c) (list_all is_inner cs)
     (elim (cases_lt c 128) [
       | inl low ↦ (and_parts (is_inner c) true (ap (list_all is_inner) (sym (encode_ascii c low)) ∙ parts.0)).0
       | inr high ↦ high-inner c high
@@ -150,7 +137,7 @@ inner-characters (c ∷ cs) h =
 inner-take : (n : ℕ) (bs : List ℕ) → list_all is_inner bs ≡ true → list_all is_inner (take n bs) ≡ true
 inner-take zero bs h = refl
 inner-take (suc n) [] h = refl
-inner-take (suc n) (b ∷ bs) h = let parts = and_parts (is_inner b) (list_all is_inner bs) h in both-true (is_inner b) (list_all is_inner (take n bs)) parts.0 (inner-take n bs parts.1)
+inner-take (suc n) (b ∷ bs) h = let parts = and_parts (is_inner b) (list_all is_inner bs) h in and_from (is_inner b) (list_all is_inner (take n bs)) parts.0 (inner-take n bs parts.1)
 
 inner-drop : (bs : List ℕ) → list_all is_inner bs ≡ true → list_all is_inner (drop 1 bs) ≡ true
 inner-drop [] h = refl
@@ -203,19 +190,11 @@ quote-small q e = elim (or_cases (q == 34) (q == 39) e) [
   | inr f ↦ let same = eqb-true q 39 f in omega (arith, same)
 ]
 
-and-left : (a b : Bool) → a ≡ false → (a && b) ≡ false
-and-left true b e = absurd (cc)
-and-left false b e = refl
-
-and-right : (a b : Bool) → b ≡ false → (a && b) ≡ false
-and-right true b e = e
-and-right false b e = refl
-
 -- one of the two kinds of quote is missing
 one-missing : (q : ℕ) (cs : List ℕ) → is_quote q ≡ true → Has q cs ≡ false → (list_any (λ c. c == byte "\"") cs && list_any (λ c. c == byte "'") cs) ≡ false
 one-missing q cs e h = elim (or_cases (q == 34) (q == 39) e) [
-  | inl f ↦ and-left (Has 34 cs) (Has 39 cs) (ap (λ (k : ℕ). Has k cs) (sym (eqb-true q 34 f)) ∙ h)
-  | inr f ↦ and-right (Has 34 cs) (Has 39 cs) (ap (λ (k : ℕ). Has k cs) (sym (eqb-true q 39 f)) ∙ h)
+  | inl f ↦ and_left (Has 34 cs) (Has 39 cs) (ap (λ (k : ℕ). Has k cs) (sym (eqb-true q 34 f)) ∙ h)
+  | inr f ↦ and_right (Has 34 cs) (Has 39 cs) (ap (λ (k : ℕ). Has k cs) (sym (eqb-true q 39 f)) ∙ h)
 ]
 
 value-none : IsSpelledValue []
@@ -269,12 +248,6 @@ positive-code : (name : List ℕ) (code : ℕ) → key_code name ≡ Some code �
 unfolding key_codes
 positive-code name code found none = let some = ltb-true 0 code (row-found (λ n. nat_lt 0 n) key_codes name code found refl) in omega (arith, some, none)
 
-more-than : (n : ℕ) → 1 ≤ n → nat_lt 0 n ≡ true
-more-than n h = grind (arith, nat_tests, h)
-
-at-most : (n : ℕ) → n ≤ 80 → nat_le n 80 ≡ true
-at-most n h = grind (arith, nat_tests, h)
-
 pub key_spelled : (flags : List LineToken) (token : LineToken) → IsWholeToken token → is_word token.kind ≡ true → is_key_name token.text ≡ true → IsSpelledKey (named_key (flags_of flags) token.text)
 key_spelled flags token ok word named =
     let name : List ℕ = token.text in
@@ -287,7 +260,7 @@ key_spelled flags token ok word named =
         let same = counted-characters token.text own.utf8 in
         let some = own.some in
         let few = own.few in
-        both-true (nat_lt 0 (character_count token.text)) (nat_le (character_count token.text) 80) (more-than (character_count token.text) (omega (arith, same, some))) (at-most (character_count token.text) (omega (arith, same, few)))
+        and_from (nat_lt 0 (character_count token.text)) (nat_le (character_count token.text) 80) (lt-ltb 0 (character_count token.text) (omega (arith, same, some))) (le-leb (character_count token.text) 80 (omega (arith, same, few)))
 
     by : (found : Option ℕ) → key_code token.text ≡ found
         → IsReadKey (elim found [ Some code ↦ record { flags = flags_of flags; code = code; name = [] } | None ↦ record { flags = flags_of flags; code = 0; name = token.text } ])

@@ -3,8 +3,7 @@ use Rattle.std.proofs.Common.{◌≡◌, ℕ, zero, suc, ◌+◌, ◌<◌, Bool,
 use Rattle.std.specs.Prelude.{All, flat_map, nat_eq, bit_and, slice_get, is_some}
 use Rattle.std.specs.List.{list_any, list_all, AllByRecursion}
 use Rattle.std.specs.Str.{bytes_eq}
-use Rattle.std.proofs.lemmas.Bool.{or_parts}
-use Rattle.std.proofs.lemmas.Bool.Decides.{nat_tests}
+use Rattle.std.proofs.lemmas.Bool.{or_parts, not-false, or_left, or_right, eq-eqb}
 use Rattle.std.proofs.lemmas.Slice.Eq.{bytes_eq-Decides}
 use Rattle.std.proofs.lemmas.List.Elements.{All-nil, All-cons, All-head, All-tail, All-append, All-weaker}
 use Rattle.kmn_base.specs.declared.keys.TheConstants.{SHIFT_FLAGS}
@@ -25,6 +24,7 @@ use Rattle.item_checker.specs.Items.{is_no_character}
 use Rattle.kmx_format.specs.Writable.{stores_of_pattern, stores_of_output, IsWritableRule}
 use Rattle.kmx_format.specs.TablesOf.{tables_of}
 use Rattle.kmx_format.specs.Playable.{IsPlayable, IsPlayableGroup}
+use Rattle.checker_laws.proofs.Lists.{All-append_parts}
 use Rattle.decompile_laws.specs.Items.{Names, store_called}
 use Rattle.decompile_laws.specs.Names.{named_by_pattern, named_by_output, named_by_rule, named_by_group, named_stores}
 use Rattle.decompile_laws.specs.Back.{names_for}
@@ -32,17 +32,7 @@ use Rattle.decompile_laws.specs.WrittenOut.{element_keys, key_codes_of, store_ke
 use Rattle.spelled_files.specs.Causes.{is_unspelled_element, is_unspelled_key, is_system_store, names_system_store, is_unspelled_value, has_unspelled_value, is_far_pattern, is_unspelled_pattern, is_far_output, is_unspelled_output, is_first_dictionary, is_unspelled_dictionary, is_unspelled_option, is_unspelled_system, is_unspelled_store}
 use Rattle.spelled_files.specs.Unspelled.{unspelled}
 use Rattle.spelled_files.proofs.Sayable.{sayable, IsSayableRule, IsSayableGroup, AreSayable, sayable-at, HasNoCause, IsSayable, without_cause}
-
-not-false : (b : Bool) → not b ≡ false → b ≡ true
-not-false true h = refl
-not-false false h = absurd (cc)
-
--- what holds of all of two lists holds of each
-pub all-parts : {X : Type 0} (P : X → Type 0) (xs ys : List X) → All P (xs ++ ys) → All P xs × All P ys
-all-parts P [] ys h = (All-nil P, h)
-all-parts P (x ∷ xs) ys h =
-    let rest = all-parts P xs ys (All-tail P x (xs ++ ys) h) in
-    (All-cons P x xs (All-head P x (xs ++ ys) h) rest.0, rest.1)
+use Rattle.spelled_files.proofs.Conjunctions.{second-fails}
 
 -- what each item gives of which a test doesn't hold, and whose numbers are in range
 pub gathered : {X : Type 0} (test : X → Bool) (s g : X → List ℕ) (Q P : ℕ → Type 0) → ((x : X) → All Q (s x) → test x ≡ false → All P (g x))
@@ -50,7 +40,7 @@ pub gathered : {X : Type 0} (test : X → Bool) (s g : X → List ℕ) (Q P : �
 gathered test s g Q P each [] q h = All-nil P
 gathered test s g Q P each (x ∷ xs) q h =
     let parts = or_parts (test x) (list_any test xs) h in
-    let ranges = all-parts Q (s x) (flat_map s xs) q in
+    let ranges = All-append_parts Q (s x) (flat_map s xs) q in
     All-append P (g x) (flat_map g xs) (each x ranges.0 parts.0) (gathered test s g Q P each xs ranges.1 parts.1)
 
 -- and what each of a list gives of which a property holds
@@ -234,29 +224,14 @@ module _ (tables : Tables) where
       (elements-keyed store.elements (store-parts k store h.0).elements) (stores-keyed (k + 1) stores h.1)
 
 -- each number of a list is among its numbers
-or-first : (a b : Bool) → a ≡ true → (a || b) ≡ true
-or-first true b e = refl
-or-first false b e = absurd (cc)
-
-or-second : (a b : Bool) → b ≡ true → (a || b) ≡ true
-or-second true b e = refl
-or-second false b e = e
-
 abbrev pub Among : List ℕ → ℕ → Type 0
 Among xs n = list_any (nat_eq n) xs ≡ true
-
-itself : (n : ℕ) → nat_eq n n ≡ true
-itself n = grind (arith, nat_tests)
 
 pub all-among : (xs : List ℕ) → All (Among xs) xs
 all-among [] = All-nil (Among [])
 all-among (x ∷ xs) =
-    All-cons (Among (x ∷ xs)) x xs (or-first (nat_eq x x) (list_any (nat_eq x) xs) (itself x))
-    (All-weaker (Among xs) (Among (x ∷ xs)) (λ n e. or-second (nat_eq n x) (list_any (nat_eq n) xs) e) xs (all-among xs))
-
-and-second : (a b : Bool) → a ≡ true → (a && b) ≡ false → b ≡ false
-and-second true b e h = h
-and-second false b e h = absurd (cc)
+    All-cons (Among (x ∷ xs)) x xs (or_left (nat_eq x x) (list_any (nat_eq x) xs) (eq-eqb x x refl))
+    (All-weaker (Among xs) (Among (x ∷ xs)) (λ n e. or_right (nat_eq n x) (list_any (nat_eq n) xs) e) xs (all-among xs))
 
 module _ (tables : Tables) (said : HasNoCause tables) where
   -- what holds of an option's store
@@ -265,7 +240,7 @@ module _ (tables : Tables) (said : HasNoCause tables) where
   option-facts n store among at =
       let parts = store-parts tables n store (sayable-at (names_for tables) (tab_options tables) 0 tables.stores said.stores n n store (omega arith) at) in
       let called : Bool = bytes_eq (store_called (names_for tables) n) store.name in
-      let one = and-second (list_any (nat_eq n) (tab_options tables)) (is_unspelled_option (names_for tables) n store) among parts.option in
+      let one = second-fails (list_any (nat_eq n) (tab_options tables)) (is_unspelled_option (names_for tables) n store) among parts.option in
       let two = or_parts (not (nat_eq store.system 0)) (not called || list_any is_no_character store.elements) one in
       let three = or_parts (not called) (list_any is_no_character store.elements) two.1 in (
         not-false (nat_eq store.system 0) two.0,

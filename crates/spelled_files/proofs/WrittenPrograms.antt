@@ -47,6 +47,7 @@ use Rattle.spelled_files.specs.Written.{IsWrittenItem, IsWrittenContext, IsWritt
 use Rattle.spelled_files.proofs.WholeTokens.{IsWholeToken, HasWholeTokens, lines_whole}
 use Rattle.spelled_files.proofs.WrittenNames.{store_at}
 use Rattle.spelled_files.proofs.WrittenItems.{AllWritten, items_written, KeyWritten, key_written, ContextWritten, context_written}
+use Rattle.spelled_files.proofs.GroupRules.{rules_of}
 
 -- a store whose name, if it has one, is that of an ordinary store
 record IsNamedStore (store : StoreDef) : Type 0 where
@@ -195,9 +196,6 @@ line-written group line tokens ok =
     cond_both (is_none_left tokens) _ _ StatementWritten (λ e. tt) (λ e. tokens-written group line (length tokens - 1) tokens ok)
 
 -- ---- programs
-
-abbrev rules_of : GroupDef → List RuleDef
-rules_of group = group.rules
 
 record IsWrittenSoFar (program : Program) : Type 0 where
   stores : All IsNamedStore program.stores
