@@ -208,7 +208,9 @@ fn holds(
         (content_now (tab indexed.now) state.now) state.now.left press (tab_rule indexed.now.stores using_keys rule.now)) }
 {
     let context = rule.context.as_slice();
-    if !conditions_hold(indexed, state, context) || !Pressed::of(press).fits(key_of(using_keys, rule)) {
+    if !conditions_hold(indexed, state, context)
+        || !Pressed::of(press).fits(key_of(using_keys, rule))
+    {
         return Ok(None);
     }
     Ok(with_catches(caught_last(indexed, state, context, state.left.as_slice())?))

@@ -18,7 +18,10 @@ fn copied(alloc: Global, context: ContextItems<'_>) -> Result<Vec<ContextItem>, 
 }
 
 /// The contexts of a group's records, in their order.
-pub fn record_contexts(alloc: Global, group: &FileGroup<'_>) -> Result<Vec<Vec<ContextItem>>, Memory>
+pub fn record_contexts(
+    alloc: Global,
+    group: &FileGroup<'_>,
+) -> Result<Vec<Vec<ContextItem>>, Memory>
     ensures { IfOk result (λ contexts. listed contexts.items ≡ record_contexts group.now) }
 {
     let mut contexts = Vec::new(alloc);

@@ -23,17 +23,15 @@ fn mark_distance(choice: &Choice<'_>, distance: usize, marks: &mut StoreMarks)
     if marks.is_known(distance) {
         return;
     }
-    marks.mark(distance, choice.moment.holders(item_before(choice.left, distance)));
+    marks.mark(
+        distance,
+        choice.moment.holders(item_before(choice.left, distance)),
+    );
 }
 
 /// Whether that item is in a store of the file that there are marks of.
 #[inline(always)]
-pub fn is_marked(
-    choice: &Choice<'_>,
-    distance: usize,
-    store: u32,
-    places: &mut PlaceMemory,
-) -> bool
+pub fn is_marked(choice: &Choice<'_>, distance: usize, store: u32, places: &mut PlaceMemory) -> bool
     requires within { distance < length choice.now.left.now }
     requires near { distance < WINDOW_ITEMS }
     requires room { store < marked_room places.old.marks }

@@ -73,11 +73,17 @@ fn taken_by(
         ContextItem::Index(store, offset) => {
             let place = place_taken(choice, taken, offset, places);
             let wanted = choice.moment.element_at(u32::from(store), place);
-            storeless(is_element(item_before(choice.left, distance), wanted), distance)
+            storeless(
+                is_element(item_before(choice.left, distance), wanted),
+                distance,
+            )
         }
         ContextItem::ContextAt(offset) => {
             let wanted = item_taken(choice.left, taken, offset);
-            storeless(is_same(item_before(choice.left, distance), wanted), distance)
+            storeless(
+                is_same(item_before(choice.left, distance), wanted),
+                distance,
+            )
         }
         ContextItem::Equal(..) | ContextItem::Unequal(..) | ContextItem::Nul => unreachable!(),
     }

@@ -45,7 +45,9 @@ fn look_for(
     ensures place { result ≡ place_before (content_of choice.now) choice.now.left.now store distance }
     ensures right { RemembersFor choice.now places.new }
 {
-    let place = choice.moment.place_of(store, item_before(choice.left, distance));
+    let place = choice
+        .moment
+        .place_of(store, item_before(choice.left, distance));
     places.found.remember(store, distance, place);
     place
 }
@@ -94,11 +96,7 @@ pub fn is_in_store(
 }
 
 /// The place in its store of what was taken, where an `any` took it.
-fn place_of_taken(
-    choice: &Choice<'_>,
-    taken: Taken,
-    places: &mut PlaceMemory,
-) -> Option<usize>
+fn place_of_taken(choice: &Choice<'_>, taken: Taken, places: &mut PlaceMemory) -> Option<usize>
     requires { RemembersFor choice.now places.old }
     ensures place { result ≡ (caught_in choice.now taken).place }
     ensures right { RemembersFor choice.now places.new }

@@ -42,7 +42,9 @@ impl Pressed {
     {
         match key {
             RuleKey::Any => true,
-            RuleKey::Char(unit) => self.given.is_some_and(|given| given as u32 == u32::from(unit)),
+            RuleKey::Char(unit) => self
+                .given
+                .is_some_and(|given| given as u32 == u32::from(unit)),
             RuleKey::Virtual { flags, code } => code == self.press.code
                 && flags_fit(flags, u32::from(self.press.mods)),
         }
