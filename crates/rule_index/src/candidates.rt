@@ -40,11 +40,7 @@ fn earlier(one: Option<u32>, other: Option<u32>) -> Option<u32>
     match (one, other) {
         (one, None) => one,
         (None, other) => other,
-        (Some(first), Some(second)) => if second < first {
-            Some(second)
-        } else {
-            Some(first)
-        },
+        (Some(first), Some(second)) => Some(first.min(second)),
     }
 }
 
@@ -61,7 +57,7 @@ fn next_of(rows: &[Row], heads: &mut [Head], from: u32) -> Option<u32>
     for k in 0..heads.len() {
         let head = heads[k].behind(rows, from);
         heads[k] = head;
-        next = earlier(next, head.number(rows));
+        next = earlier(next, head.number());
     }
     next
 }

@@ -2,7 +2,7 @@ ghost use Rattle.std.specs.Prelude.{◌≡◌, ◌<◌, [], map, None, IfOk};
 ghost use Rattle.virtual_keys.specs.Fits.{char_of_press};
 ghost use Rattle.rule_model.specs.Tab.{tab_pattern, tab_rule};
 ghost use Rattle.file_parts.specs.ContextItems.{pattern_of};
-ghost use Rattle.rule_index.specs.Classes.{key_class, pattern_class, last_class, given_class, item_class, last_item, class_of, rule_class, wanted_classes};
+ghost use Rattle.rule_index.specs.Classes.{key_class, pattern_class, last_class, given_class, item_class, class_of, rule_class, wanted_classes};
 ghost use Rattle.rule_index.specs.Groups.{record_classes};
 
 use crate::class::Class;
@@ -78,14 +78,6 @@ pub fn record_classes(alloc: Global, group: &FileGroup<'_>) -> Result<Vec<Class>
     Ok(classes)
 }
 
-/// The last item of a list.
-#[tactic(auto, using(crate::proofs::Meeting::last_at))]
-fn last_item(left: &[Item]) -> Option<Item>
-    ensures { result ≡ last_item None left.now }
-{
-    left.last().copied()
-}
-
 /// What an item meets.
 fn item_class(item: Option<Item>) -> u64
     ensures value { result ≡ item_class item }
@@ -110,12 +102,13 @@ fn given_class(press: KeyPress) -> u64
 }
 
 /// What a press on a list can meet of the records of a group.
+#[tactic(auto, using(crate::proofs::Meeting::last_at))]
 pub fn wanted_classes(press: KeyPress, left: &[Item]) -> [Class; 6]
     ensures { result ≡ wanted_classes press left.now }
 {
     let given = given_class(press);
     let code = 65_537 + u64::from(press.code);
-    let last = item_class(last_item(left));
+    let last = item_class(left.last().copied());
     [
         class_of(0, last),
         class_of(0, 0),

@@ -1,19 +1,17 @@
 //! Finds, of a group's records, those that can hold for a press and the last item before the caret, and the stores that have
-//! an item, each with its first place there, both by search; the element at a place of a store, and whether two stores have
-//! the same elements, at once.
+//! an item, each with its first place there, by search, and at once what stands at a place of a store and which stores are alike.
 //!
-//! It stands on `kmn_base`, `rule_model`, `virtual_keys` and `file_parts`, which reads a file where it lies. The layer above
-//! makes an `IndexedKeyboard` of `FileTables`, which has once and for all what is looked up: an index of each group's records
-//! (`specs/Groups`), each store by place (`specs/Stores`), one array for all stores of which item stands first where in which
-//! store (`specs/Holdings`), a number that stores with the same elements have (`specs/Values`), the option number of each store
-//! (`indexed_tables`), and the names of own keys (`specs/OwnNames`); it hands out groups as the file has them. The layer above
-//! asks `wanted_classes` of a press and the list before the caret, and tries the records that the `Candidates` of a group's
-//! `RuleIndex` answer, in the file's order: the rows are searched when the walk begins, and from then on passed one by one. The
-//! index has the context of each record, in the numbers of the file, and has counted how many items of the text that takes. The layer above asks `holders`
-//! for all stores that have an item, `place_of` for the place in one, `element_at` for what `index` takes, and `same_elements`
-//! in conditions. `specs/Classes` says by what a record can be met, `specs/Next` which record is the next candidate,
-//! `specs/Walk` from where a walk goes on. The laws stand in `laws`: a record that holds is among the wanted ones, so the first
-//! record that holds is the first candidate that does.
+//! It stands on `kmn_base`, `rule_model`, `virtual_keys` and `file_parts`. The layer above makes an `IndexedKeyboard` of
+//! `FileTables`, which has what is looked up: an index of each group's records (`specs/Groups`), each store by place
+//! (`specs/Stores`), one array for all stores of which item stands first where in which store (`specs/Holdings`), a number that
+//! stores with the same elements have (`specs/Values`), the option number of each store (`indexed_tables`), and the names of own
+//! keys (`specs/OwnNames`). It asks `wanted_classes` of a press and the list before the caret, and tries the records that the
+//! `Candidates` of a group's `RuleIndex` answer, in the file's order: the rows are searched when the walk begins, and from then
+//! on passed one by one. The index has each record's context, in the numbers of the file, and how many items of the text that
+//! takes. The layer above asks `holders` for all stores that have an item, `place_of` for the place in one, `element_at` for what
+//! `index` takes, and `same_elements` in conditions. `specs/Classes` says by what a record can be met, `specs/Next` which record
+//! is the next candidate, `specs/Walk` from where a walk goes on. The laws stand in `laws`: a record that holds is among the
+//! wanted ones, so the first record that holds is the first candidate that does.
 #![tactic(auto)]
 
 mod candidates;

@@ -1,0 +1,19 @@
+use Rattle.std.proofs.Common.{◌≡◌, ℕ, sym, subst}
+use Rattle.rule_index.specs.declared.head.Head.{Head}
+use Rattle.rule_index.specs.Rows.{AreBefore, StartsAt}
+use Rattle.rule_index.specs.Walk.{HeadStands}
+use Rattle.rule_index.proofs.Walk.{moved_stands, passed_before, stays_starts}
+use Rattle.rule_index.proofs.head.Head.behind.Goals as goal
+
+pub returns-then-not-is_before-clause-starts : goal.returns-then-not-is_before-clause-starts
+returns-then-not-is_before-clause-starts c = λ classes index stands.
+    stays_starts c.args.rows.now c.args.from c.args.self.now stands c.requires (sym c.if-not-is_before.ensures) classes index
+
+pub returns-clause-stands : goal.returns-clause-stands
+returns-clause-stands c = λ stands.
+    subst (HeadStands c.args.rows.now c.args.from) (sym c.at.ensures)
+    (moved_stands c.args.rows.now c.args.from c.args.self.now stands c.place_behind-place.result
+    (λ classes index. subst (λ (start : ℕ). StartsAt start c.args.rows.now c.place_behind-place.result) c.rank_of.ensures
+    (c.place_behind-place.ensures index.sorted
+    (subst (λ (start : ℕ). AreBefore start c.args.rows.now c.args.self.now.place) (sym c.rank_of.ensures)
+    (passed_before c.args.rows.now c.args.from c.args.self.now stands classes index)))))
