@@ -55,8 +55,8 @@ fn next_of(rows: &[Row], heads: &mut [Head], from: u32) -> Option<u32>
 {
     let mut next = None;
     for k in 0..heads.len() {
-        let head = heads[k].behind(rows, from);
-        heads[k] = head;
+        let head = &mut heads[k];
+        head.go_on(rows, from);
         next = earlier(next, head.number());
     }
     next

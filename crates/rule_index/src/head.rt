@@ -16,24 +16,18 @@ pub struct Head {
 }
 
 impl Head {
-    /// The head of a class at a place.
-    fn at(rows: &[Row], class: Class, place: usize) -> Head
-        ensures { result ≡ record { class = class; place = place; row = slice_get rows.now place } }
-    {
-        Head {
-            class,
-            place,
-            row: row_at(rows, place),
-        }
-    }
-
     /// The head of a class, at its first row.
     #[tactic(auto, using(crate::proofs::Walk::first_stands))]
     pub fn of(rows: &[Row], class: Class) -> Head
         ensures class { result.class ≡ class }
         ensures stands { HeadStands rows.now 0 result }
     {
-        Head::at(rows, class, place_from(rows, rank_of(class, 0)))
+        let place = place_from(rows, rank_of(class, 0));
+        Head {
+            class,
+            place,
+            row: row_at(rows, place),
+        }
     }
 
     /// The number of the row where the head is, where it has the class.
@@ -51,18 +45,18 @@ impl Head {
         self.number().is_some_and(|number| number < from)
     }
 
-    /// The head at the first row whose number is no less than one. It stays where no row of its class is left, and most heads do.
-    pub fn behind(&self, rows: &[Row], from: u32) -> Head
+    /// Goes on to the first row whose number is no less than one. It stays where no row of its class is left, and most heads do.
+    pub fn go_on(&mut self, rows: &[Row], from: u32)
         requires { from ≤ 131072 }
-        ensures class { result.class ≡ self.now.class }
-        ensures starts { (classes : List ℕ) → IsIndexOf classes rows.now → HeadStands rows.now from self.now
-            → StartsAt (ranked self.now.class from) rows.now result.place }
-        ensures stands { HeadStands rows.now from self.now → HeadStands rows.now from result }
+        ensures class { self.new.class ≡ self.old.class }
+        ensures starts { (classes : List ℕ) → IsIndexOf classes rows.now → HeadStands rows.now from self.old
+            → StartsAt (ranked self.old.class from) rows.now self.new.place }
+        ensures stands { HeadStands rows.now from self.old → HeadStands rows.now from self.new }
     {
         if !self.is_before(from) {
-            return *self;
+            return;
         }
-        let place = place_behind(rows, self.place, rank_of(self.class, from));
-        Head::at(rows, self.class, place)
+        self.place = place_behind(rows, self.place, rank_of(self.class, from));
+        self.row = row_at(rows, self.place);
     }
 }
