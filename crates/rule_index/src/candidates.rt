@@ -40,7 +40,11 @@ fn earlier(one: Option<u32>, other: Option<u32>) -> Option<u32>
     match (one, other) {
         (one, None) => one,
         (None, other) => other,
-        (Some(first), Some(second)) => Some(first.min(second)),
+        (Some(first), Some(second)) => if second < first {
+            Some(second)
+        } else {
+            Some(first)
+        },
     }
 }
 
@@ -55,9 +59,9 @@ fn next_of(rows: &[Row], heads: &mut [Head], from: u32) -> Option<u32>
 {
     let mut next = None;
     for k in 0..heads.len() {
-        let head = &mut heads[k];
-        head.go_on(rows, from);
-        next = earlier(next, head.number());
+        let head = heads[k].behind(rows, from);
+        heads[k] = head;
+        next = earlier(next, head.number(rows));
     }
     next
 }

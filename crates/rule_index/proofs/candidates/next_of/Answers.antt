@@ -15,13 +15,13 @@ loop-k-init c = record {
 
 pub loop-k-preserved : goal.loop-k-preserved
 loop-k-preserved c = record {
-  wanted = wanted_after c.args.rows.now c.args.from c.loop-k.k c.args.heads.now c.loop-k.heads c.index-heads-k.result c.go_on.new.self
-      (omega arith) c.loop-k.invariant.wanted c.loop-k.invariant.stand c.go_on.ensures.class c.go_on.ensures.starts c.go_on.ensures.stands;
-  stand = stand_after c.args.rows.now c.args.from c.loop-k.k c.args.heads.now c.loop-k.heads c.index-heads-k.result c.go_on.new.self
-      (omega arith) c.loop-k.invariant.wanted c.loop-k.invariant.stand c.go_on.ensures.class c.go_on.ensures.starts c.go_on.ensures.stands;
+  wanted = wanted_after c.args.rows.now c.args.from c.loop-k.k c.args.heads.now c.loop-k.heads c.index-heads-k.result c.behind-head.result
+      (omega arith) c.loop-k.invariant.wanted c.loop-k.invariant.stand c.behind-head.ensures.class c.behind-head.ensures.starts;
+  stand = stand_after c.args.rows.now c.args.from c.loop-k.k c.args.heads.now c.loop-k.heads c.index-heads-k.result c.behind-head.result
+      (omega arith) c.loop-k.invariant.wanted c.loop-k.invariant.stand c.behind-head.ensures.class c.behind-head.ensures.starts;
   next = λ classes index before. subst (IsNext _ (c.loop-k.k + 1) classes c.args.from) (sym c.earlier-next.ensures)
-      (next_after c.args.rows.now c.args.from c.loop-k.k c.args.heads.now c.loop-k.heads c.index-heads-k.result c.go_on.new.self
-      (omega arith) c.loop-k.invariant.wanted c.loop-k.invariant.stand c.go_on.ensures.class c.go_on.ensures.starts c.go_on.ensures.stands
+      (next_after c.args.rows.now c.args.from c.loop-k.k c.args.heads.now c.loop-k.heads c.index-heads-k.result c.behind-head.result
+      (omega arith) c.loop-k.invariant.wanted c.loop-k.invariant.stand c.behind-head.ensures.class c.behind-head.ensures.starts
       classes c.loop-k.next c.number.result index before (c.loop-k.invariant.next classes index before) c.number.ensures.value);
   small = subst (λ o. IfSome o (λ n. n < 131072)) (sym c.earlier-next.ensures)
       (small_earlier c.loop-k.next c.number.result c.loop-k.invariant.small c.number.ensures.small);
