@@ -1,6 +1,7 @@
 -- What isn't refused of an accepted program, kind by kind of statement.
 use Rattle.std.proofs.Common.{◌≡◌, true, [], ◌∷◌, None}
 use Rattle.std.specs.List.{list_any}
+use Rattle.std.proofs.lemmas.Bool.{not-false}
 use Rattle.kmn_base.specs.declared.codes.Code.TheVariants.{C01}
 use Rattle.rule_model.specs.declared.program.Program.{Program}
 use Rattle.rule_model.specs.Src.{is_unicode}
@@ -11,7 +12,6 @@ use Rattle.item_checker.specs.Items.{items_refusal, store_refusal as items_store
 use Rattle.limit_checker.specs.Limits.{limits_refusal}
 use Rattle.rule_checker.specs.Refused.{has_no_start, start_refusal, refused}
 use Rattle.checker_laws.proofs.Unrefused.{none_both, none_earlier, none_at_line, none_broken}
-use Rattle.checker_laws.proofs.Lists.{not_false}
 
 -- for each kind of statement, none is refused for its names, and none for its items; no limit is passed
 pub record IsUnrefused (program : Program) : Type 0 where
@@ -37,7 +37,7 @@ unrefused program h =
     let groups = none_earlier (first_of group_refusal [] program.groups) (first_of (rules_refusal (stated program)) [] program.groups) stores.1 in
     let items = none_earlier (first_of (items_store_refusal (known program)) [] program.stores) (first_of (items_rules_refusal (known program)) [] program.groups) three.0 in
     record {
-      start = not_false (list_any is_unicode program.begins)
+      start = not-false (list_any is_unicode program.begins)
           (none_broken C01 (has_no_start program) [] (none_at_line 1 (broken ((C01, has_no_start program) ∷ [])) one.0)).0;
       begins = begins.0;
       stores = stores.0;

@@ -2,7 +2,7 @@
 use Rattle.std.proofs.Common.{◌≡◌, ℕ, zero, suc, ◌+◌, ◌<◌, ◌≤◌, inl, inr, Bool, true, List, [], ◌∷◌, ◌++◌, length, map, take, Option, Some, None, refl, sym, ap, subst, ◌∙◌, arith, append-nil, append_assoc, length-append}
 use Rattle.std.specs.Prelude.{All, slice_get, slice_index_or, IsSomeAnd, option_map, flat_map, ◌&&◌}
 use Rattle.std.specs.List.{list_all}
-use Rattle.std.proofs.lemmas.Bool.{and_parts}
+use Rattle.std.proofs.lemmas.Bool.{and_parts, not-false}
 use Rattle.std.proofs.lemmas.Option.{slice_get-map, slice_get_cases}
 use Rattle.std.proofs.lemmas.List.{map-append, length-map}
 use Rattle.std.proofs.lemmas.List.Elements.{All-nil, All-cons, All-head, All-tail, All-append}
@@ -24,7 +24,6 @@ use Rattle.kmn_parser.specs.ProgramLaws.{IsReadItem}
 use Rattle.item_checker.specs.Items.{is_pattern_item, is_any_item, passes, points_to, misses_pattern, misses_any, context_item_code, context_code}
 use Rattle.rule_checker.specs.Refused.{IsRead}
 use Rattle.checker_laws.proofs.Unrefused.{none_both, none_broken}
-use Rattle.checker_laws.proofs.Lists.{not_false}
 use Rattle.checker_laws.proofs.Accepted.{IsUnrefused}
 use Rattle.checker_laws.proofs.Within.{few_stores}
 use Rattle.checker_laws.proofs.Numbers.{store_number, stores_end, value_number}
@@ -59,10 +58,10 @@ module _ (numbers : Numbers) where
   item_back before (source.Index store offset) h =
       let rows = none_broken C08 (misses_pattern before offset) ((C09, misses_any before offset) ∷ []) h in
       let any = none_broken C09 (misses_any before offset) [] rows.1 in
-      pointing is_any_item is_any any_there before offset (not_false (points_to is_any_item before offset) any.0)
+      pointing is_any_item is_any any_there before offset (not-false (points_to is_any_item before offset) any.0)
   item_back before (source.ContextAt offset) h =
       let rows = none_broken C08 (misses_pattern before offset) [] h in
-      pointing is_pattern_item is_matched matched before offset (not_false (points_to is_pattern_item before offset) rows.0)
+      pointing is_pattern_item is_matched matched before offset (not-false (points_to is_pattern_item before offset) rows.0)
   item_back before (source.Char c) h = tt
   item_back before (source.Dead name) h = tt
   item_back before (source.Any store) h = tt
@@ -101,10 +100,10 @@ pointed test items (suc place) h = by (slice_get items place) refl h
     ]
 
 index_points : (before : List SrcItem) (store : List ℕ) (offset : ℕ) → context_item_code before (source.Index store offset) ≡ None → points_to is_pattern_item before offset ≡ true
-index_points before store offset h = not_false (points_to is_pattern_item before offset) (none_broken C08 (misses_pattern before offset) ((C09, misses_any before offset) ∷ []) h).0
+index_points before store offset h = not-false (points_to is_pattern_item before offset) (none_broken C08 (misses_pattern before offset) ((C09, misses_any before offset) ∷ []) h).0
 
 context_points : (before : List SrcItem) (offset : ℕ) → context_item_code before (source.ContextAt offset) ≡ None → points_to is_pattern_item before offset ≡ true
-context_points before offset h = not_false (points_to is_pattern_item before offset) (none_broken C08 (misses_pattern before offset) [] h).0
+context_points before offset h = not-false (points_to is_pattern_item before offset) (none_broken C08 (misses_pattern before offset) [] h).0
 
 -- an item of a context that is written: it is spelled, and names stores of the file
 pub record PatternIsWritten (store_count : ℕ) (item : Pat) : Type 0 where

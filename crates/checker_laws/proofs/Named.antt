@@ -2,7 +2,7 @@
 use Rattle.std.proofs.Common.{◌≡◌, ℕ, suc, ◌+◌, Bool, true, false, not, List, [], ◌∷◌, ◌++◌, length, Option, Some, None, refl, sym, ap, ◌∙◌, arith, is_some, if◌then◌else◌, true≢false, inl, inr}
 use Rattle.std.specs.Prelude.{find, ◌&&◌, ◌||◌, nat_eq, nat_lt, slice_get, option_to_list}
 use Rattle.std.specs.List.{list_all, list_any, AllByRecursion}
-use Rattle.std.proofs.lemmas.Bool.{and_parts}
+use Rattle.std.proofs.lemmas.Bool.{and_parts, not-false, or_parts, or_right}
 use Rattle.std.proofs.lemmas.Option.{slice_get_cases}
 use Rattle.std.proofs.lemmas.List.Folds.{list_any-append}
 use Rattle.kmn_base.specs.declared.codes.Code.TheVariants.{C02, C05, C06, C08, C09, C10, C12, C13, C15}
@@ -31,7 +31,6 @@ use Rattle.store_table.specs.Known.{known}
 use Rattle.item_checker.specs.Items.{is_option, passes, points_to, is_pattern_item, is_any_item, is_any_key, are_unfit_keys, is_unfit_key, context_code, key_code, rule_output_code, match_output_code, rule_code as items_rule_code, rules_refusal as items_rules_refusal, rule_refusal as items_rule_refusal}
 use Rattle.rule_checker.specs.Refused.{IsRead, refused}
 use Rattle.checker_laws.proofs.Unrefused.{none_both, none_at_line, none_broken, none_codes, Stands, none_first}
-use Rattle.checker_laws.proofs.Lists.{not_false, none_or}
 use Rattle.checker_laws.proofs.Accepted.{IsUnrefused, unrefused}
 use Rattle.checker_laws.proofs.Stated.{group_there, store_there}
 use Rattle.checker_laws.proofs.Reading.{has_parts, have_parts, all_have_parts, words_read, no_dictionary_read}
@@ -41,7 +40,7 @@ use Rattle.checker_laws.proofs.Options.{fixed}
 start_names_group : (names : Stated) (start : BeginDef) → Stands (begin_refusal names) start → is_named names.groups start.group ≡ true
 start_names_group names start stands =
     let rows = none_broken C02 (is_begun stands.0 start) ((C06, not (is_named names.groups start.group)) ∷ []) (none_at_line start.line (begin_code names (is_begun stands.0 start) start) stands.1) in
-    not_false (is_named names.groups start.group) (none_broken C06 (not (is_named names.groups start.group)) [] rows.1).0
+    not-false (is_named names.groups start.group) (none_broken C06 (not (is_named names.groups start.group)) [] rows.1).0
 
 first_start : (program : Program) (starts : List BeginDef) → AllByRecursion (Stands (begin_refusal (stated program))) starts → list_any is_unicode starts ≡ true → is_known_start program (find is_unicode starts) ≡ true
 first_start program [] all h = absurd (cc)
@@ -58,7 +57,7 @@ known_start program whole =
 
 -- an item of a context names a store that is stated
 named_there : (program : Program) (name : List ℕ) → lacks (store_names program.stores) (name ∷ []) ≡ false → is_store program name ≡ true
-named_there program name h = store_there program name (not_false (is_named (store_names program.stores) name) h)
+named_there program name h = store_there program name (not-false (is_named (store_names program.stores) name) h)
 
 store_is_named : (program : Program) (item : SrcItem) → rule_item_code (stated program) item ≡ None → lacks (store_names program.stores) (store_named item) ≡ false
 store_is_named program item h = (none_broken C05 (lacks (store_names program.stores) (store_named item)) ((C06, lacks (group_names program.groups) (group_named item)) ∷ []) h).0
@@ -83,7 +82,7 @@ points_past test context = by (slice_get context (length context)) refl
     ]
 
 points_there : (test : SrcItem → Bool) (context : List SrcItem) (offset : ℕ) → offset ≡ suc (length context) → not (points_to test context offset) ≡ false → ⊥
-points_there test context offset e h = true≢false (sym (not_false (points_to test context offset) h) ∙ ap (points_to test context) e ∙ points_past test context)
+points_there test context offset e h = true≢false (sym (not-false (points_to test context offset) h) ∙ ap (points_to test context) e ∙ points_past test context)
 
 next_place : (offset count : ℕ) → nat_eq offset (count + 1) ≡ true → offset ≡ suc count
 next_place offset count h = grind (arith, h)
@@ -111,7 +110,7 @@ module _ (program : Program) (rule : RuleDef) where
       by true is = index_fixed program rule store offset is h
       by false is = named_there program store (store_is_named program (source.Index store offset) named)
   known_output (source.Enter group) named h =
-      group_there program group (not_false (is_named (group_names program.groups) group)
+      group_there program group (not-false (is_named (group_names program.groups) group)
       (none_broken C06 (lacks (group_names program.groups) (group ∷ [])) [] (none_broken C05 false ((C06, lacks (group_names program.groups) (group ∷ [])) ∷ []) named).1).0)
   known_output (source.Set store value) named h = named_there program store (store_is_named program (source.Set store value) named)
   known_output (source.Save store) named h = named_there program store (store_is_named program (source.Save store) named)
@@ -125,7 +124,7 @@ module _ (program : Program) (rule : RuleDef) where
   known_match_output : (item : SrcItem) → rule_item_code (stated program) item ≡ None → match_output_code (known program) item ≡ None → is_known_output program (length rule.context) item ≡ true
   known_match_output (source.Index store offset) named h = absurd (never_both (nat_eq offset 0) h)
   known_match_output (source.Enter group) named h =
-      group_there program group (not_false (is_named (group_names program.groups) group)
+      group_there program group (not-false (is_named (group_names program.groups) group)
       (none_broken C06 (lacks (group_names program.groups) (group ∷ [])) [] (none_broken C05 false ((C06, lacks (group_names program.groups) (group ∷ [])) ∷ []) named).1).0)
   known_match_output (source.Set store value) named h = named_there program store (store_is_named program (source.Set store value) named)
   known_match_output (source.Save store) named h = named_there program store (store_is_named program (source.Save store) named)
@@ -177,10 +176,6 @@ module _ (program : Program) (using_keys : Bool) where
   no_key None h = refl
   no_key (Some item) h = absurd (cc)
 
-  or_second : (a b : Bool) → b ≡ true → (a || b) ≡ true
-  or_second true b h = refl
-  or_second false b h = h
-
   abbrev IsNamed : SrcItem → Type 0
   IsNamed item = rule_item_code (stated program) item ≡ None
 
@@ -208,7 +203,7 @@ module _ (program : Program) (using_keys : Bool) where
           let both = and_parts (nat_eq (length rule.context) 0) (not (is_some rule.key)) fits in
           let outputs = all_known_by_two (is_known_output program (length rule.context)) IsNamed (λ item. match_output_code (known program) item ≡ None) (known_match_output program rule) rule.output output
           (none_codes (match_output_code (known program)) rule.output codes) in
-          λ j. or_second (is_plain rule) (nat_eq (length rule.context) 0) both.0 j && (patterns j && (no_key rule.key both.1 j && outputs j))
+          λ j. or_right (is_plain rule) (nat_eq (length rule.context) 0) both.0 j && (patterns j && (no_key rule.key both.1 j && outputs j))
 
       by : (k : RuleKind) → rule.kind ≡ k → items_rule_code (known program) k rule ≡ None → has_parts using_keys k rule ≡ true → is_known_rule program using_keys rule ≡ true
       by kind.Plain is codes fits =
@@ -242,7 +237,7 @@ no_dictionary : (names : SourceNames) (before : List Store) (stores : List Store
     → list_any is_dictionary (stores_onto names before stores) ≡ false
 no_dictionary names before [] none h = none
 no_dictionary names before (store ∷ stores) none h =
-    let both = none_or (nat_eq store.system 34) (list_any (λ (other : StoreDef). nat_eq other.system 34) stores) h in
+    let both = or_parts (nat_eq store.system 34) (list_any (λ (other : StoreDef). nat_eq other.system 34) stores) h in
     no_dictionary names (if is_dropped store then before else before ++ store_of names before store ∷ []) stores (kept (is_dropped store) both.0) both.1
   where
     kept : (b : Bool) → nat_eq store.system 34 ≡ false → list_any is_dictionary (if b then before else before ++ store_of names before store ∷ []) ≡ false

@@ -2,7 +2,7 @@
 use Rattle.std.proofs.Common.{◌≡◌, ℕ, zero, suc, ◌+◌, ◌<◌, ◌≤◌, Bool, true, false, List, [], ◌∷◌, ◌++◌, length, map, Option, Some, None, is_some, refl, sym, ap, subst, ◌∙◌, arith, length-append, if◌then◌else◌, lit≤}
 use Rattle.std.specs.Prelude.{All, flat_map, nat_eq, ◌&&◌}
 use Rattle.std.specs.List.{list_all}
-use Rattle.std.proofs.lemmas.Bool.{and_parts}
+use Rattle.std.proofs.lemmas.Bool.{and_parts, not-false}
 use Rattle.std.proofs.lemmas.List.Elements.{All-nil, All-cons, All-head, All-tail, All-append}
 use Rattle.std.proofs.lemmas.List.Concat.{flat_map-append}
 use Rattle.std.proofs.lemmas.List.Sums.{sum-map, sum_by-cons}
@@ -33,7 +33,6 @@ use Rattle.item_checker.specs.Items.{is_pattern_item, is_any_item, points_to, mi
 use Rattle.limit_checker.specs.Limits.{item_size, output_size}
 use Rattle.rule_checker.specs.Refused.{IsRead}
 use Rattle.checker_laws.proofs.Unrefused.{none_both, none_broken}
-use Rattle.checker_laws.proofs.Lists.{not_false}
 use Rattle.checker_laws.proofs.Accepted.{IsUnrefused}
 use Rattle.checker_laws.proofs.Within.{few_groups}
 use Rattle.checker_laws.proofs.Numbers.{group_number}
@@ -202,7 +201,7 @@ module _ (program : Program) (read : IsRead program) (whole : IsUnrefused progra
     index_written store offset false e named code =
         let rows = none_broken C08 (misses_pattern rule.context offset) ((C09, misses_any rule.context offset) ∷ []) (past_key store offset (is_some rule.key) (nat_eq offset (length rule.context + 1)) e code) in
         let any = none_broken C09 (misses_any rule.context offset) [] rows.1 in
-        let points = not_false (points_to is_any_item rule.context offset) any.0 in
+        let points = not-false (points_to is_any_item rule.context offset) any.0 in
         let at = pointed is_any_item rule.context offset points in
         let fits = store_fits program read whole store (named refl) in
         one_out (PointsInto context) (output.Index (number_of_store (numbers_of program) store) offset) (fits.1, (at.0, omega (arith, at.1))) (one_store program read whole _ fits.0) no_group
@@ -216,7 +215,7 @@ module _ (program : Program) (read : IsRead program) (whole : IsUnrefused progra
     rule_item_written source.Context is named values code = one_out (PointsInto context) output.Context tt no_store no_group tt
     rule_item_written (source.ContextAt offset) is named values code =
         let rows = none_broken C08 (misses_pattern rule.context offset) [] code in
-        let points = not_false (points_to is_pattern_item rule.context offset) rows.0 in
+        let points = not-false (points_to is_pattern_item rule.context offset) rows.0 in
         let at = pointed is_pattern_item rule.context offset points in
         one_out (PointsInto context) (output.ContextAt offset) (at.0, omega (arith, at.1)) no_store no_group
         (pointing (numbers_of program) is_pattern_item is_matched (matched (numbers_of program)) rule.context offset points)

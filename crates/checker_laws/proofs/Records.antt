@@ -2,7 +2,7 @@
 use Rattle.std.proofs.Common.{◌≡◌, ◌≢◌, ℕ, ◌+◌, ◌^◌, ◌<◌, Bool, true, false, List, [], ◌∷◌, ◌++◌, length, Option, Some, None, is_some, unwrap_or, refl, sym, ap, subst, ◌∙◌, arith, if◌then◌else◌}
 use Rattle.std.specs.Prelude.{All, IfSome, flat_map, filter, find, nat_eq, option_to_list, ◌||◌}
 use Rattle.std.specs.List.{list_all, list_any}
-use Rattle.std.proofs.lemmas.Bool.{and_parts}
+use Rattle.std.proofs.lemmas.Bool.{and_parts, or_parts}
 use Rattle.std.proofs.lemmas.Bool.Decides.{nat_tests}
 use Rattle.std.proofs.lemmas.List.Elements.{All-nil, All-cons, All-head, All-tail, All-append}
 use Rattle.std.proofs.lemmas.List.Folds.{list_all-append}
@@ -36,7 +36,6 @@ use Rattle.store_table.specs.Known.{known}
 use Rattle.item_checker.specs.Items.{is_far, is_unfit_key, are_unfit_keys, is_unfit_store, is_option, context_code, key_code, rule_output_code, match_output_code, plain_code, rule_code}
 use Rattle.rule_checker.specs.Refused.{IsRead}
 use Rattle.checker_laws.proofs.Unrefused.{none_both, none_broken}
-use Rattle.checker_laws.proofs.Lists.{none_or}
 use Rattle.checker_laws.proofs.Accepted.{IsUnrefused}
 use Rattle.checker_laws.proofs.Within.{IsShortRule}
 use Rattle.checker_laws.proofs.Numbers.{has_keys}
@@ -134,7 +133,7 @@ module _ (program : Program) (read : IsRead program) (whole : IsUnrefused progra
       → All (IsWritableRule stores groups true) (records_from (numbers_of program) rule place elements)
   store_records_written rule sound code place [] is fit = All-nil (IsWritableRule stores groups true)
   store_records_written rule sound code place (e ∷ elements) is fit =
-      let both = none_or (is_unfit_key e) (list_any is_unfit_key elements) fit in
+      let both = or_parts (is_unfit_key e) (list_any is_unfit_key elements) fit in
       All-cons (IsWritableRule stores groups true) (file_record (numbers_of program) rule (Some place) (unwrap_or (key_of_element e) key.Any)) (records_from (numbers_of program) rule (place + 1) elements)
       (record_written true rule sound code (Some place) (unwrap_or (key_of_element e) key.Any) (element_key e (All-head IsSoundElement e elements is) both.0))
       (store_records_written rule sound code (place + 1) elements (All-tail IsSoundElement e elements is) both.1)

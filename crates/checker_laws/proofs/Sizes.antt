@@ -7,6 +7,7 @@ use Rattle.std.proofs.lemmas.List.{length-map, map-append}
 use Rattle.std.proofs.lemmas.List.Concat.{flat_map-append}
 use Rattle.std.proofs.lemmas.List.Elements.{All-head, All-tail}
 use Rattle.std.proofs.lemmas.Str.{chars-append, encode_ascii, chars-IsAscii}
+use Rattle.std.proofs.lemmas.Bool.{not-false}
 use Rattle.kmn_base.specs.declared.codes.Code.TheVariants.{C03, C05, C07}
 use Rattle.kmn_base.specs.declared.items.Element.{Element}
 use Rattle.kmn_base.specs.declared.items.Element.TheVariants as element
@@ -29,7 +30,6 @@ use Rattle.store_table.proofs.Naming.{some_place}
 use Rattle.limit_checker.specs.Limits.{Statement, OfStore, OfRule, in_line_order, items_of, values_of_statement, statement_size, store_size, names_size, dictionary_size, sizes}
 use Rattle.rule_checker.specs.Refused.{IsRead}
 use Rattle.checker_laws.proofs.Unrefused.{none_both, none_earlier, none_at_line, none_broken}
-use Rattle.checker_laws.proofs.Lists.{not_false}
 use Rattle.checker_laws.proofs.Stated.{in_names}
 use Rattle.checker_laws.proofs.Accepted.{IsUnrefused}
 use Rattle.checker_laws.proofs.Reading.{own_keys_read}
@@ -57,7 +57,7 @@ nothing_of_stores : {Y : Type 0} (f : Statement → List Y) → ((s : StoreDef) 
 nothing_of_stores f none [] = refl
 nothing_of_stores f none (s ∷ stores) = λ j. none s j ++ nothing_of_stores f none stores j
 
-values_in_order : (stores : List StoreDef) (rules : List RuleDef) → flat_map values_of_statement (in_line_order stores rules) ≡ flat_map item_values (flat_map rule_items rules)
+pub values_in_order : (stores : List StoreDef) (rules : List RuleDef) → flat_map values_of_statement (in_line_order stores rules) ≡ flat_map item_values (flat_map rule_items rules)
 values_in_order stores [] = nothing_of_stores values_of_statement (λ s. refl) stores
 values_in_order stores (rule ∷ rules) =
     gathered values_of_statement stores rule rules
@@ -67,7 +67,7 @@ values_in_order stores (rule ∷ rules) =
 pub parted : (line : ℕ) (stores : List StoreDef) → stores_before line stores ++ stores_after line stores ≡ stores
 parted line stores = take-append-drop (prefix_len (λ (s : StoreDef). nat_lt s.line line) stores) stores
 
-stores_in_order : (facts : Known) (stores : List StoreDef) (rules : List RuleDef) → flat_map (statement_size facts) (in_line_order stores rules) ≡ flat_map (store_size facts) stores
+pub stores_in_order : (facts : Known) (stores : List StoreDef) (rules : List RuleDef) → flat_map (statement_size facts) (in_line_order stores rules) ≡ flat_map (store_size facts) stores
 stores_in_order facts stores [] = gathered_stores (statement_size facts) (store_size facts) (λ s. refl) stores
 stores_in_order facts stores (rule ∷ rules) =
     gathered (statement_size facts) stores rule rules
@@ -92,13 +92,13 @@ module _ (facts : Known) (names_stated : Stated) where
   item_before before more (source.Outs name) all later =
       ap (λ stores. elements_named stores name) all
       ∙ found_before before more name
-      (sym (some_place (λ (s : Store). same_name s.name name) before) ∙ sym (in_names (λ (s : Store). s.name) name before) ∙ not_false (is_named (map (λ (s : Store). s.name) before) name) later)
+      (sym (some_place (λ (s : Store). same_name s.name name) before) ∙ sym (in_names (λ (s : Store). s.name) name before) ∙ not-false (is_named (map (λ (s : Store). s.name) before) name) later)
   item_before before more (source.Char c) all later = refl
   item_before before more (source.Dead name) all later = refl
   item_before before more (source.Key key) all later = refl
   item_before before more item all later = refl
 
-  items_before : (before more : List Store) (items : List SrcItem) → facts.stores ≡ before ++ more
+  pub items_before : (before more : List Store) (items : List SrcItem) → facts.stores ≡ before ++ more
       → first_code (store_item_code names_stated (map (λ (s : Store). s.name) before)) items ≡ None
       → flat_map (brought facts) items ≡ flat_map (item_elements facts.names before) items
   items_before before more [] all h = refl
@@ -109,11 +109,11 @@ module _ (facts : Known) (names_stated : Stated) where
       λ j. item_before before more item all two.0 j ++ items_before before more items all both.1 j
 
   -- stores that are put behind others
-  record Onto (before after : List Store) : Type 0 where
-    more : List Store
-    is : after ≡ before ++ more
+  pub record Onto (before after : List Store) : Type 0 where
+    pub more : List Store
+    pub is : after ≡ before ++ more
 
-  onto : (before : List Store) (stores : List StoreDef) → Onto before (stores_onto facts.names before stores)
+  pub onto : (before : List Store) (stores : List StoreDef) → Onto before (stores_onto facts.names before stores)
   onto before [] = record { more = []; is = sym (append-nil before) }
   onto before (store ∷ stores) = by (is_dropped store) (onto before stores) (onto (before ++ store_of facts.names before store ∷ []) stores)
     where
@@ -123,7 +123,7 @@ module _ (facts : Known) (names_stated : Stated) where
       by false same rest =
           record { more = store_of facts.names before store ∷ rest.more; is = rest.is ∙ append_assoc before (store_of facts.names before store ∷ []) rest.more }
 
-  names_next : (before : List StoreDef) (store : StoreDef) (names : List (List ℕ)) → names ≡ store_names before → names ++ kept_name store ≡ store_names (before ++ store ∷ [])
+  pub names_next : (before : List StoreDef) (store : StoreDef) (names : List (List ℕ)) → names ≡ store_names before → names ++ kept_name store ≡ store_names (before ++ store ∷ [])
   names_next before store names same =
       ap (λ (ns : List (List ℕ)). ns ++ kept_name store) same
       ∙ sym (flat_map-append kept_name before (store ∷ []) ∙ ap (λ (ns : List (List ℕ)). store_names before ++ ns) (append-nil (kept_name store)))
@@ -191,12 +191,12 @@ joined_size name (next ∷ names) own =
       length-append (chars (32 ∷ [])) (chars (join_with_byte 32 (next ∷ names))),
     )
 
-dictionary_sized : (keys : List (List ℕ)) → All IsOwnKey keys → dictionary_size keys ≡ map element_count (dictionary_stores keys)
+pub dictionary_sized : (keys : List (List ℕ)) → All IsOwnKey keys → dictionary_size keys ≡ map element_count (dictionary_stores keys)
 dictionary_sized [] own = refl
 dictionary_sized (name ∷ names) own =
     ap (λ (n : ℕ). n ∷ []) (sym (length-map (chars (join_with_byte 32 (name ∷ names))) element.Char ∙ joined_size name names own))
 
-values_sized : (values : List (List ℕ)) → map length values ≡ map element_count (map value_store values)
+pub values_sized : (values : List (List ℕ)) → map length values ≡ map element_count (map value_store values)
 values_sized [] = refl
 values_sized (value ∷ values) = λ j. sym (length-map value element.Char) j ∷ values_sized values j
 

@@ -8,6 +8,7 @@ use Rattle.std.proofs.lemmas.List.{length-map}
 use Rattle.std.proofs.lemmas.List.Concat.{length-flat_map}
 use Rattle.std.proofs.lemmas.List.Elements.{All-nil, All-cons, All-head, All-tail}
 use Rattle.std.proofs.lemmas.List.Sums.{sum-map}
+use Rattle.std.proofs.lemmas.Bool.{or_parts}
 use Rattle.kmn_base.specs.declared.codes.Code.TheVariants.{C16, C17, C18, C19, C20, C21, C22}
 use Rattle.kmn_base.specs.declared.items.Element.TheVariants as element
 use Rattle.kmn_base.specs.declared.limits.TheConstants.{CONTEXT_ITEMS, OUTPUT_ITEMS, STORE_ELEMENTS, ALL_ELEMENTS, STORES, GROUPS, RECORDS, DEADKEYS, KEY_NAMES}
@@ -31,7 +32,7 @@ use Rattle.limit_checker.specs.Limits.{Statement, OfStore, OfRule, in_line_order
 use Rattle.rule_checker.specs.Refused.{IsRead, refused}
 use Rattle.checker_laws.specs.Laws.{statements_of}
 use Rattle.checker_laws.proofs.Unrefused.{none_earlier, none_at_line, none_broken, none_first, Stands}
-use Rattle.checker_laws.proofs.Lists.{none_or, All-append_parts, all_behind}
+use Rattle.checker_laws.proofs.Lists.{All-append_parts, all_behind}
 use Rattle.checker_laws.proofs.Accepted.{IsUnrefused, unrefused}
 use Rattle.checker_laws.proofs.Reading.{own_keys_read}
 use Rattle.checker_laws.proofs.Sizes.{element_count, items_in_order, joined_size, sizes_counted}
@@ -142,7 +143,7 @@ few_records program whole = (all_within program whole.limits).records
 none_large : (sizes : List Store) → list_any (nat_lt STORE_ELEMENTS) (map element_count sizes) ≡ false → All (λ (s : Store). length s.elements ≤ STORE_ELEMENTS) sizes
 none_large [] h = All-nil (λ (s : Store). length s.elements ≤ STORE_ELEMENTS)
 none_large (s ∷ stores) h =
-    let both = none_or (nat_lt STORE_ELEMENTS (length s.elements)) (list_any (nat_lt STORE_ELEMENTS) (map element_count stores)) h in
+    let both = or_parts (nat_lt STORE_ELEMENTS (length s.elements)) (list_any (nat_lt STORE_ELEMENTS) (map element_count stores)) h in
     All-cons (λ (t : Store). length t.elements ≤ STORE_ELEMENTS) s stores (not_more STORE_ELEMENTS (length s.elements) both.0) (none_large stores both.1)
 
 module _ (program : Program) (read : IsRead program) (whole : IsUnrefused program) where
@@ -155,7 +156,7 @@ module _ (program : Program) (read : IsRead program) (whole : IsUnrefused progra
 
   elements_within : (list_any (nat_lt STORE_ELEMENTS) (map element_count (compiled_stores program)) ≡ false) × (nat_lt ALL_ELEMENTS (sum (map element_count (compiled_stores program))) ≡ false)
   elements_within =
-      none_or (list_any (nat_lt STORE_ELEMENTS) (map element_count (compiled_stores program))) (nat_lt ALL_ELEMENTS (sum (map element_count (compiled_stores program))))
+      or_parts (list_any (nat_lt STORE_ELEMENTS) (map element_count (compiled_stores program))) (nat_lt ALL_ELEMENTS (sum (map element_count (compiled_stores program))))
       (subst (λ (ns : List ℕ). have_many_elements ns ≡ false) counted (all_within program whole.limits).elements)
 
   pub few_elements : All (λ (s : Store). length s.elements ≤ STORE_ELEMENTS) (compiled_stores program)

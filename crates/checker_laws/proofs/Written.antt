@@ -2,7 +2,7 @@
 use Rattle.std.proofs.Common.{◌≡◌, ℕ, suc, ◌+◌, ◌<◌, ◌⊎◌, inl, inr, Bool, true, false, List, [], ◌∷◌, length, map, Option, Some, None, option_map, unwrap_or, refl, sym, ap, subst, ◌∙◌, arith, if◌then◌else◌, length-append}
 use Rattle.std.specs.Prelude.{All, flat_map, filter, find, ◌||◌}
 use Rattle.std.specs.List.{list_all, list_any, sum_by, AllByRecursion}
-use Rattle.std.proofs.lemmas.Bool.{and_parts}
+use Rattle.std.proofs.lemmas.Bool.{and_parts, not-false}
 use Rattle.std.proofs.lemmas.List.{length-map}
 use Rattle.std.proofs.lemmas.List.Elements.{All-nil, All-cons, All-head, All-tail}
 use Rattle.std.proofs.lemmas.List.Sums.{sum-map, sum_by-cons, sum_by-append}
@@ -40,7 +40,7 @@ use Rattle.item_checker.specs.Items.{rule_code, rule_refusal, rules_refusal}
 use Rattle.limit_checker.specs.Limits.{OfStore, OfRule, in_line_order, key_count, record_count, records_of_statement, all_records}
 use Rattle.rule_checker.specs.Refused.{IsRead, refused}
 use Rattle.checker_laws.proofs.Unrefused.{none_at_line, none_broken, none_first, Stands}
-use Rattle.checker_laws.proofs.Lists.{not_false, all_true, All-append_parts}
+use Rattle.checker_laws.proofs.Lists.{all_true, All-append_parts}
 use Rattle.checker_laws.proofs.Accepted.{IsUnrefused, unrefused}
 use Rattle.checker_laws.proofs.Stated.{group_there}
 use Rattle.checker_laws.proofs.Named.{well_named}
@@ -72,7 +72,7 @@ module _ (program : Program) (read : IsRead program) (accepted : refused program
   start_number : (start : BeginDef) → Stands (begin_refusal (stated program)) start → number_of_group (numbers_of program) start.group < length program.groups
   start_number start stands =
       let rows = none_broken C02 (is_begun stands.0 start) ((C06, begins_no_group (stated program) start) ∷ []) (none_at_line start.line (begin_code (stated program) (is_begun stands.0 start) start) stands.1) in
-      let named = not_false (is_named (stated program).groups start.group) (none_broken C06 (begins_no_group (stated program) start) [] rows.1).0 in
+      let named = not-false (is_named (stated program).groups start.group) (none_broken C06 (begins_no_group (stated program) start) [] rows.1).0 in
       group_number program start.group (group_there program start.group named)
 
   ansi_start : (starts : List BeginDef) → AllByRecursion (Stands (begin_refusal (stated program))) starts

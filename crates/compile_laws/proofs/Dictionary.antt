@@ -77,12 +77,12 @@ not_empty (name ∷ names) h =
     let each = and_parts (is_word name) (list_all is_word names) h in
     λ i. (word_parts name each.0).some i && not_empty names each.1 i
 
-read_chars : (cs : List ℕ) → filter_map element_char (map element.Char cs) ≡ cs
+pub read_chars : (cs : List ℕ) → filter_map element_char (map element.Char cs) ≡ cs
 read_chars [] = refl
 read_chars (c ∷ cs) = ap (λ rest. c ∷ rest) (read_chars cs)
 
 -- the words that a store of words gives
-words_again : (names : List (List ℕ)) → list_all is_word names ≡ true → words (encode_utf8_all (chars (join_with_byte 32 names))) ≡ names
+pub words_again : (names : List (List ℕ)) → list_all is_word names ≡ true → words (encode_utf8_all (chars (join_with_byte 32 names))) ≡ names
 words_again [] h = ap (λ cs. words (encode_utf8_all cs)) chars-nil
 words_again (name ∷ names) h =
     ap words (encodes-chars (join_with_byte 32 (name ∷ names)) (joined_text name names h))

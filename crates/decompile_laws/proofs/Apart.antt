@@ -1,10 +1,11 @@
 -- The names that a text gives are told apart.
-use Rattle.std.proofs.Common.{◌≡◌, ℕ, zero, suc, ◌+◌, ◌<◌, ◌≤◌, ◌⊎◌, inl, inr, Bool, true, false, not, ◌&&◌, List, [], ◌∷◌, ◌++◌, length, drop, map, Option, None, Some, refl, sym, ◌∙◌, ap, arith, length-drop, is_some, if◌then◌else◌}
+use Rattle.std.proofs.Common.{◌≡◌, ℕ, zero, suc, ◌+◌, ◌<◌, ◌≤◌, ◌⊎◌, inl, inr, true, false, not, ◌&&◌, List, [], ◌∷◌, ◌++◌, length, drop, map, Option, None, Some, refl, sym, ◌∙◌, ap, arith, length-drop, is_some}
 use Rattle.std.specs.Prelude.{slice_get, unwrap_or, nat_eq}
 use Rattle.std.specs.List.{list_any}
 use Rattle.std.specs.Str.{str_to_ascii_lowercase, bytes_eq}
 use Rattle.std.proofs.lemmas.Slice.Eq.{bytes_eq-Decides}
 use Rattle.std.proofs.lemmas.Option.{none-some, same_Some}
+use Rattle.std.proofs.lemmas.Bool.{false_from_ne_true, not-true, and_parts, or_parts, cond_both}
 use Rattle.kmn_base.specs.Names.{same_name}
 use Rattle.rule_model.specs.declared.tables.Store.{Store}
 use Rattle.decompile_laws.specs.Names.{is_free, keeps_name, is_written, store_names}
@@ -12,7 +13,7 @@ use Rattle.program_text.specs.Names.{is_source_name}
 use Rattle.kmn_items.specs.Words.{is_system_name}
 use Rattle.kmn_items.specs.TokenTexts.{is_wordy}
 use Rattle.kmn_lines.specs.Tokens.{token_size, token_kind, token_fault}
-use Rattle.decompile_laws.proofs.Choosing.{clash, unless_true, not-true, and-true, or-false}
+use Rattle.decompile_laws.proofs.Choosing.{clash}
 
 -- names of which the one at a place is the first that is the same
 abbrev pub StandsFirst : List ℕ → ℕ → List (Option (List ℕ)) → Type 0
@@ -29,7 +30,7 @@ same-itself name = (bytes_eq-Decides (str_to_ascii_lowercase name) (str_to_ascii
 pub same-turned : (a b : List ℕ) → same_name a b ≡ false → same_name b a ≡ false
 unfolding same_name
 same-turned a b e =
-    unless_true (bytes_eq (str_to_ascii_lowercase b) (str_to_ascii_lowercase a))
+    false_from_ne_true (bytes_eq (str_to_ascii_lowercase b) (str_to_ascii_lowercase a))
     (λ h. clash (bytes_eq (str_to_ascii_lowercase a) (str_to_ascii_lowercase b)) ((bytes_eq-Decides (str_to_ascii_lowercase a) (str_to_ascii_lowercase b)).1 (sym ((bytes_eq-Decides (str_to_ascii_lowercase b) (str_to_ascii_lowercase a)).0 h))) e)
 
 abbrev pub Has : List ℕ → List (List ℕ) → Type 0
@@ -47,8 +48,8 @@ has-last x (y ∷ xs) = inr (has-last x xs)
 
 pub free-not : (x y : List ℕ) (names : List (List ℕ)) → list_any (same_name y) names ≡ false → Has x names → same_name y x ≡ false
 free-not x y [] e h = absurd h
-free-not x y (z ∷ names) e (inl k) = ap (same_name y) k ∙ (or-false (same_name y z) (list_any (same_name y) names) e).0
-free-not x y (z ∷ names) e (inr h) = free-not x y names (or-false (same_name y z) (list_any (same_name y) names) e).1 h
+free-not x y (z ∷ names) e (inl k) = ap (same_name y) k ∙ (or_parts (same_name y z) (list_any (same_name y) names) e).0
+free-not x y (z ∷ names) e (inr h) = free-not x y names (or_parts (same_name y z) (list_any (same_name y) names) e).1 h
 
 -- a name is the same as none of a list
 abbrev pub Differs : List ℕ → List (List ℕ) → Type 0
@@ -95,31 +96,23 @@ AreApart [] = Unit {0}
 AreApart (None ∷ names) = AreApart names
 AreApart (Some x ∷ names) = (same_name x [] ≡ false → EachApart x names) × AreApart names
 
-choose-apart : (x : List ℕ) (b : Bool) (xs ys : List (Option (List ℕ))) → (b ≡ true → EachApart x xs) → (b ≡ false → EachApart x ys) → EachApart x (if b then xs else ys)
-choose-apart x true xs ys g h = g refl
-choose-apart x false xs ys g h = h refl
-
 pub later : (x : List ℕ) (named : List ℕ) (free earlier : List (List ℕ)) (n : ℕ) (stores : List Store) → same_name x [] ≡ false → Differs x free → (Has x earlier ⊎ Differs x (map own_name stores))
     → EachApart x (store_names named free earlier n stores)
 later x named free earlier n [] some d known = tt
 later x named free earlier n (store ∷ stores) some d known =
     let rest : Has x earlier ⊎ Differs x (map own_name stores) = elim known [ inl h ↦ inl h | inr k ↦ inr k.1 ] in
     let behind : Has x (earlier ++ store.name ∷ []) ⊎ Differs x (map own_name stores) = elim known [ inl h ↦ inl (has-append x earlier (store.name ∷ []) h) | inr k ↦ inr k.1 ] in
-    choose-apart x (not (is_written named n store)) _ _ (λ e. later x named free earlier (n + 1) stores some d rest)
-    (λ e. choose-apart x (not (nat_eq store.system 0)) _ _ (λ e. (some, later x named free earlier (n + 1) stores some d rest))
-    (λ e. choose-apart x (not (is_system_name store.name) && keeps_name earlier store.name) _ _
+    cond_both (not (is_written named n store)) _ _ (EachApart x) (λ e. later x named free earlier (n + 1) stores some d rest)
+    (λ e. cond_both (not (nat_eq store.system 0)) _ _ (EachApart x) (λ e. (some, later x named free earlier (n + 1) stores some d rest))
+    (λ e. cond_both (not (is_system_name store.name) && keeps_name earlier store.name) _ _ (EachApart x)
     (λ e. (
       elim known [
-        | inl h ↦ same-turned store.name x (free-not x store.name earlier (not-true _ (and-true (is_source_name store.name) (is_free earlier store.name) (and-true (not (is_system_name store.name)) (keeps_name earlier store.name) e).1).1) h)
+        | inl h ↦ same-turned store.name x (free-not x store.name earlier (not-true _ (and_parts (is_source_name store.name) (is_free earlier store.name) (and_parts (not (is_system_name store.name)) (keeps_name earlier store.name) e).1).1) h)
         | inr k ↦ k.0
       ],
       later x named free (earlier ++ store.name ∷ []) (n + 1) stores some d behind,
     ))
     (λ e. (differs-first x free some d, later x named (drop 1 free) (earlier ++ store.name ∷ []) (n + 1) stores some (differs-drop x free d) behind))))
-
-choose-are : (b : Bool) (xs ys : List (Option (List ℕ))) → (b ≡ true → AreApart xs) → (b ≡ false → AreApart ys) → AreApart (if b then xs else ys)
-choose-are true xs ys g h = g refl
-choose-are false xs ys g h = h refl
 
 abbrev pub AllTaken : List (List ℕ) → List Store → Type 0
 AllTaken taken [] = Unit {0}
@@ -131,9 +124,9 @@ filled byte bytes = refl
 
 pub source-some : (name : List ℕ) → is_source_name name ≡ true → same_name name [] ≡ false
 source-some [] e =
-    let one = and-true (nat_eq (token_size []) 0) (is_wordy (token_kind []) && (not (is_some (token_fault [])) && false)) e in
-    let two = and-true (is_wordy (token_kind [])) (not (is_some (token_fault [])) && false) one.1 in
-    let three = and-true (not (is_some (token_fault []))) false two.1 in
+    let one = and_parts (nat_eq (token_size []) 0) (is_wordy (token_kind []) && (not (is_some (token_fault [])) && false)) e in
+    let two = and_parts (is_wordy (token_kind [])) (not (is_some (token_fault [])) && false) one.1 in
+    let three = and_parts (not (is_some (token_fault []))) false two.1 in
     let bad : false ≡ true = three.1 in absurd cc
 source-some (byte ∷ bytes) e = filled byte bytes
 
@@ -149,11 +142,11 @@ pub names_apart : (named : List ℕ) (taken free earlier : List (List ℕ)) (n :
 names_apart named taken free earlier n [] f enough all = tt
 names_apart named taken free earlier n (store ∷ stores) f enough all =
     let some_free : 0 < length free = omega arith in
-    choose-are (not (is_written named n store)) _ _ (λ e. names_apart named taken free earlier (n + 1) stores f (omega arith) all.1)
-    (λ e. choose-are (not (nat_eq store.system 0)) _ _ (λ e. (λ k. clash (same_name [] []) (same-itself []) k, names_apart named taken free earlier (n + 1) stores f (omega arith) all.1))
-    (λ e. choose-are (not (is_system_name store.name) && keeps_name earlier store.name) _ _
+    cond_both (not (is_written named n store)) _ _ AreApart (λ e. names_apart named taken free earlier (n + 1) stores f (omega arith) all.1)
+    (λ e. cond_both (not (nat_eq store.system 0)) _ _ AreApart (λ e. (λ k. clash (same_name [] []) (same-itself []) k, names_apart named taken free earlier (n + 1) stores f (omega arith) all.1))
+    (λ e. cond_both (not (is_system_name store.name) && keeps_name earlier store.name) _ _ AreApart
     (λ e. (
-      λ k. later store.name named free (earlier ++ store.name ∷ []) (n + 1) stores (source-some store.name (and-true (is_source_name store.name) _ (and-true _ (keeps_name earlier store.name) e).1).0)
+      λ k. later store.name named free (earlier ++ store.name ∷ []) (n + 1) stores (source-some store.name (and_parts (is_source_name store.name) _ (and_parts _ (keeps_name earlier store.name) e).1).0)
           (taken-differs store.name taken free all.0 f) (inl (has-last store.name earlier)),
       names_apart named taken free (earlier ++ store.name ∷ []) (n + 1) stores f (omega arith) all.1,
     ))

@@ -1,8 +1,8 @@
 -- What is known of the names that stores are called by.
-use Rattle.std.proofs.Common.{◌≡◌, ℕ, zero, suc, ◌+◌, ◌≤◌, Bool, true, false, not, List, [], ◌∷◌, ◌++◌, length, drop, map, Option, None, Some, refl, sym, ◌∙◌, ap, arith, length-drop, if◌then◌else◌}
+use Rattle.std.proofs.Common.{◌≡◌, ℕ, zero, suc, ◌+◌, ◌≤◌, true, false, not, List, [], ◌∷◌, ◌++◌, length, drop, map, Option, None, Some, refl, sym, ◌∙◌, ap, arith, length-drop, if◌then◌else◌}
 use Rattle.std.specs.Prelude.{slice_get, nat_eq, flat_map}
 use Rattle.std.specs.List.{list_any, AllByRecursion}
-use Rattle.std.proofs.lemmas.Bool.{eqb-true}
+use Rattle.std.proofs.lemmas.Bool.{eqb-true, false_from_ne_true, not-true, and_parts, not-false, cond_both}
 use Rattle.std.proofs.lemmas.Option.{none-some, same_Some}
 use Rattle.kmn_base.specs.declared.items.Element.{Element}
 use Rattle.kmn_base.specs.declared.items.Element.TheVariants as element
@@ -19,7 +19,7 @@ use Rattle.kmn_items.specs.Words.{is_system_name}
 use Rattle.decompile_laws.proofs.Apart.{AreFree, free-drop, first-free, source-some}
 use Rattle.decompile_laws.proofs.Thin.{KeepsOptions}
 use Rattle.decompile_laws.proofs.Linking.{IsSimple}
-use Rattle.decompile_laws.proofs.Choosing.{clash, unless_true, not-true, and-true}
+use Rattle.decompile_laws.proofs.Choosing.{clash}
 
 -- each store has a name where it is written, and an ordinary one a name that isn't empty
 abbrev pub AreCalls : List ℕ → ℕ → List (Option (List ℕ)) → List Store → Type 0
@@ -30,26 +30,18 @@ AreCalls named n (None ∷ calls) (store ∷ stores) = (is_written named n store
 AreCalls named n (Some name ∷ calls) (store ∷ stores) =
     (is_written named n store ≡ true) × (nat_eq store.system 0 ≡ true → same_name name [] ≡ false) × AreCalls named (n + 1) calls stores
 
-choose-call : (P : List (Option (List ℕ)) → Type 0) (b : Bool) (xs ys : List (Option (List ℕ))) → (b ≡ true → P xs) → (b ≡ false → P ys) → P (if b then xs else ys)
-choose-call P true xs ys g h = g refl
-choose-call P false xs ys g h = h refl
-
-not-false : (a : Bool) → not a ≡ false → a ≡ true
-not-false true e = refl
-not-false false e = sym e
-
 pub are_calls : (named : List ℕ) (taken free earlier : List (List ℕ)) (n : ℕ) (stores : List Store) → AreFree taken free → length stores ≤ length free
     → AreCalls named n (store_names named free earlier n stores) stores
 are_calls named taken free earlier n [] f enough = tt
 are_calls named taken free earlier n (store ∷ stores) f enough =
-    choose-call (λ calls. AreCalls named n calls (store ∷ stores)) (not (is_written named n store)) _ _
+    cond_both (not (is_written named n store)) _ _ (λ calls. AreCalls named n calls (store ∷ stores))
     (λ e. (not-true (is_written named n store) e, are_calls named taken free earlier (n + 1) stores f (omega arith)))
-    (λ w. choose-call (λ calls. AreCalls named n calls (store ∷ stores)) (not (nat_eq store.system 0)) _ _
+    (λ w. cond_both (not (nat_eq store.system 0)) _ _ (λ calls. AreCalls named n calls (store ∷ stores))
     (λ e. (not-false (is_written named n store) w, (λ o. clash (nat_eq store.system 0) o (not-true (nat_eq store.system 0) e)), are_calls named taken free earlier (n + 1) stores f (omega arith)))
-    (λ e. choose-call (λ calls. AreCalls named n calls (store ∷ stores)) (keeps_store_name earlier store.name) _ _
+    (λ e. cond_both (keeps_store_name earlier store.name) _ _ (λ calls. AreCalls named n calls (store ∷ stores))
     (λ k. (
       not-false (is_written named n store) w,
-      (λ o. source-some store.name (and-true (is_source_name store.name) _ (and-true (not (is_system_name store.name)) (keeps_name earlier store.name) k).1).0),
+      (λ o. source-some store.name (and_parts (is_source_name store.name) _ (and_parts (not (is_system_name store.name)) (keeps_name earlier store.name) k).1).0),
       are_calls named taken free (earlier ++ store.name ∷ []) (n + 1) stores f (omega arith),
     ))
     (λ k. (
@@ -104,7 +96,7 @@ keeps_options f named opts j [] (s ∷ stores) c keeps = absurd c
 keeps_options f named opts j (call ∷ calls) [] c keeps = absurd c
 keeps_options f named opts j (None ∷ calls) (s ∷ stores) c keeps =
     let k : j ≡ j + 0 = omega arith in (
-      unless_true (list_any (nat_eq j) opts) (λ e. none-some s.name ((keeps 0 s None refl refl (ap (λ (x : ℕ). list_any (nat_eq x) opts) (sym k) ∙ e)).0)),
+      false_from_ne_true (list_any (nat_eq j) opts) (λ e. none-some s.name ((keeps 0 s None refl refl (ap (λ (x : ℕ). list_any (nat_eq x) opts) (sym k) ∙ e)).0)),
       keeps_options f named opts (j + 1) calls stores c.1 (λ n store call a b e. let l : j + suc n ≡ j + 1 + n = omega arith in keeps (suc n) store call a b (ap (λ (x : ℕ). list_any (nat_eq x) opts) l ∙ e)),
     )
 keeps_options f named opts j (Some name ∷ calls) (s ∷ stores) c keeps =
@@ -133,7 +125,7 @@ elements-are-alone names called (e ∷ es) = (element-alone names called e, elem
 
 no-system : (named : List ℕ) (n : ℕ) (store : Store) → is_written named n store ≡ true → nat_eq store.system 0xFFFF ≡ false
 no-system named n store w =
-    unless_true (nat_eq store.system 0xFFFF)
+    false_from_ne_true (nat_eq store.system 0xFFFF)
     (λ e. let same : store.system ≡ 0xFFFF = eqb-true store.system 0xFFFF e in
     clash (is_written named n store) w (λ i. if nat_eq (same i) 0 then list_any (nat_eq n) named else list_any (nat_eq (same i)) written_ids))
 

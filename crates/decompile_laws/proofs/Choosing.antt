@@ -1,34 +1,10 @@
 -- Choices that are known, and what holds of each item of lists.
-use Rattle.std.proofs.Common.{◌≡◌, Bool, true, false, not, ◌&&◌, ◌||◌, List, [], ◌∷◌, ◌++◌, refl, sym, ◌∙◌, if◌then◌else◌}
+use Rattle.std.proofs.Common.{◌≡◌, Bool, true, false, List, [], ◌∷◌, ◌++◌, sym, ◌∙◌}
 use Rattle.std.specs.Prelude.{flat_map}
 use Rattle.std.specs.List.{AllByRecursion}
 
 pub clash : {X : Type 0} (b : Bool) → b ≡ true → b ≡ false → X
 clash b e f = let h : true ≡ false = sym e ∙ f in absurd cc
-
-pub unless_true : (b : Bool) → (b ≡ true → ⊥) → b ≡ false
-unless_true true h = absurd (h refl)
-unless_true false h = refl
-
-pub not-true : (a : Bool) → not a ≡ true → a ≡ false
-not-true true h = sym h
-not-true false h = refl
-
-pub choose-else : {A : Type 0} (b : Bool) (x y : A) → b ≡ false → (if b then x else y) ≡ y
-choose-else true x y e = absurd cc
-choose-else false x y e = refl
-
-pub choose-then : {A : Type 0} (b : Bool) (x y : A) → b ≡ true → (if b then x else y) ≡ x
-choose-then true x y e = refl
-choose-then false x y e = absurd cc
-
-pub or-false : (a b : Bool) → (a || b) ≡ false → (a ≡ false) × (b ≡ false)
-or-false true b h = absurd cc
-or-false false b h = (refl, h)
-
-pub and-true : (a b : Bool) → (a && b) ≡ true → (a ≡ true) × (b ≡ true)
-and-true true b h = (refl, h)
-and-true false b h = absurd cc
 
 module _ {X : Type 0} (P : X → Type 0) where
   pub all_parts : (xs ys : List X) → AllByRecursion P (xs ++ ys) → AllByRecursion P xs × AllByRecursion P ys

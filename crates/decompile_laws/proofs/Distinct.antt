@@ -4,12 +4,12 @@ use Rattle.std.specs.Prelude.{slice_get, position, option_map}
 use Rattle.std.specs.List.{list_any, AllByRecursion, range_with_len}
 use Rattle.std.specs.Fmt.{decimal}
 use Rattle.std.proofs.lemmas.Option.{none-some, same_Some}
+use Rattle.std.proofs.lemmas.Bool.{cond-true, cond-false, or_parts, or_right}
 use Rattle.kmn_base.specs.Names.{same_name}
 use Rattle.rule_model.specs.Tab.{distinct_onto}
 use Rattle.compile_laws.proofs.Places.{position-cons}
 use Rattle.decompile_laws.proofs.Apart.{same-itself, Differs}
 use Rattle.decompile_laws.proofs.Free.{AreDistinct}
-use Rattle.decompile_laws.proofs.Choosing.{choose-then, choose-else, or-false}
 
 -- a name is one of these
 abbrev pub Among : List (List ℕ) → List ℕ → Type 0
@@ -55,7 +55,7 @@ distinct-first xs ys d all =
 
 pushed : (xs : List (List ℕ)) (y : List ℕ) → AreDistinct xs → list_any (λ x. same_name x y) xs ≡ false → AreDistinct (xs ++ y ∷ [])
 pushed [] y d e = (tt, tt)
-pushed (x ∷ xs) y d e = let two = or-false (same_name x y) (list_any (λ x. same_name x y) xs) e in (behind xs d.0 two.0, pushed xs y d.1 two.1)
+pushed (x ∷ xs) y d e = let two = or_parts (same_name x y) (list_any (λ x. same_name x y) xs) e in (behind xs d.0 two.0, pushed xs y d.1 two.1)
   where
     behind : (xs : List (List ℕ)) → Differs x xs → same_name x y ≡ false → Differs x (xs ++ y ∷ [])
     behind [] d e = (e, tt)
@@ -81,19 +81,15 @@ pub found-at : (p : List ℕ → Bool) (name : List ℕ) (k : ℕ) (xs : List (L
     → AreDistinct xs → slice_get xs k ≡ Some name → position p xs ≡ Some k
 found-at p name k [] here others d at = absurd (none-some name at)
 found-at p name zero (x ∷ xs) here others d at =
-    position-cons p x xs ∙ choose-then (p x) _ _ (ap p (same_Some x name at) ∙ here)
+    position-cons p x xs ∙ cond-true (p x) _ _ (ap p (same_Some x name at) ∙ here)
 found-at p name (suc k) (x ∷ xs) here others d at =
-    position-cons p x xs ∙ (choose-else (p x) _ _ (others x (differs-at x name k xs d.0 at)) ∙ ap (option_map suc) (found-at p name k xs here others d.1 at))
-
-or-right : (a b : Bool) → b ≡ true → (a || b) ≡ true
-or-right true b h = refl
-or-right false b h = h
+    position-cons p x xs ∙ (cond-false (p x) _ _ (others x (differs-at x name k xs d.0 at)) ∙ ap (option_map suc) (found-at p name k xs here others d.1 at))
 
 pub at-among : (names : List (List ℕ)) (k : ℕ) (name : List ℕ) → slice_get names k ≡ Some name → Among names name
 at-among [] k name at = absurd (none-some name at)
 at-among (x ∷ names) zero name at =
     ap (λ b. b || list_any (λ y. same_name y name) names) (ap (λ k. same_name k name) (same_Some x name at) ∙ same-itself name)
-at-among (x ∷ names) (suc k) name at = or-right (same_name x name) (list_any (λ y. same_name y name) names) (at-among names k name at)
+at-among (x ∷ names) (suc k) name at = or_right (same_name x name) (list_any (λ y. same_name y name) names) (at-among names k name at)
 
 -- a number of a range stands in it
 pub range-at : (from n k : ℕ) → k < n → slice_get (map decimal (range_with_len from n)) k ≡ Some (decimal (from + k))

@@ -5,7 +5,7 @@ use Rattle.std.specs.List.{list_any, range_with_len}
 use Rattle.std.specs.Char.{to_ascii_lowercase}
 use Rattle.std.specs.Fmt.{decimal}
 use Rattle.std.specs.Str.Parse.{AllDigits, digits_value}
-use Rattle.std.proofs.lemmas.Bool.{lt-ltb}
+use Rattle.std.proofs.lemmas.Bool.{lt-ltb, false_from_ne_true, cond-true}
 use Rattle.std.proofs.lemmas.Fmt.{decimal_is_IsNumeral}
 use Rattle.std.proofs.lemmas.Str.Parse.{digit_from_value}
 use Rattle.std.proofs.lemmas.List.{map-append, length-map}
@@ -14,7 +14,7 @@ use Rattle.std.proofs.lemmas.Slice.Eq.{bytes_eq-Decides}
 use Rattle.kmn_base.specs.Names.{same_name}
 use Rattle.decompile_laws.specs.Names.{is_free, numbered_name, free_names}
 use Rattle.decompile_laws.proofs.Apart.{Has, Differs, AreFree}
-use Rattle.decompile_laws.proofs.Choosing.{clash, unless_true, choose-then}
+use Rattle.decompile_laws.proofs.Choosing.{clash}
 
 -- names of which no two are the same
 abbrev pub AreDistinct : List (List ℕ) → Type 0
@@ -88,7 +88,7 @@ lower-digits : (ds : List ℕ) → AllDigits 10 ds → map to_ascii_lowercase ds
 lower-digits [] all = refl
 lower-digits (d ∷ ds) all =
     let range = digit_from_value d all.0 in
-    (λ i. choose-then (nat_lt d 65) d (if nat_lt d 91 then d + 32 else d) (lt-ltb d 65 (let h = range.1 in omega arith)) i ∷ lower-digits ds all.1 i)
+    (λ i. cond-true (nat_lt d 65) d (if nat_lt d 91 then d + 32 else d) (lt-ltb d 65 (let h = range.1 in omega arith)) i ∷ lower-digits ds all.1 i)
 
 drop-letter : (xs ys : List ℕ) → drop (length xs) (xs ++ ys) ≡ ys
 drop-letter [] ys = refl
@@ -111,7 +111,7 @@ same-number letter a b h k e =
 differs-later : (letter : List ℕ) (a from n : ℕ) → a < from → from + n < 2 ^ 64 → Differs (numbered_name letter a) (map (numbered_name letter) (range_with_len from n))
 differs-later letter a from zero less small = tt
 differs-later letter a from (suc n) less small = (
-  unless_true (same_name (numbered_name letter a) (numbered_name letter from)) (λ e. let same = same-number letter a from (omega arith) (omega arith) e in omega (arith, same, less)),
+  false_from_ne_true (same_name (numbered_name letter a) (numbered_name letter from)) (λ e. let same = same-number letter a from (omega arith) (omega arith) e in omega (arith, same, less)),
   differs-later letter a (from + 1) n (omega arith) (omega arith),
 )
 

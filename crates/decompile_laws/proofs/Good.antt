@@ -4,7 +4,7 @@ use Rattle.std.specs.Prelude.{nat_eq, flat_map, fold, max}
 use Rattle.std.specs.List.{AllByRecursion, list_any}
 use Rattle.std.proofs.Math.Nat.{le-max_left, le-max_right}
 use Rattle.std.proofs.Common.{arith}
-use Rattle.std.proofs.lemmas.Bool.{eq-eqb}
+use Rattle.std.proofs.lemmas.Bool.{eq-eqb, or_right}
 use Rattle.std.proofs.lemmas.List.Elements.{recursion_from_All}
 use Rattle.kmn_base.specs.declared.items.Element.{Element}
 use Rattle.kmn_base.specs.declared.items.Element.TheVariants as element
@@ -77,16 +77,12 @@ pub record GoodGroup (t : Tables) (g : Group) : Type 0 where
   pub on_nomatch : AllByRecursion (GoodOutput t) g.on_nomatch
   pub order : has_falling_contexts g.rules ≡ true
 
-or-right : (a b : Bool) → b ≡ true → (a || b) ≡ true
-or-right true b h = refl
-or-right false b h = h
-
 -- each number of a list is among them
 pub members : (xs : List ℕ) → AllByRecursion (λ n. list_any (nat_eq n) xs ≡ true) xs
 members [] = tt
 members (x ∷ xs) = (
   ap (λ b. b || list_any (nat_eq x) xs) (eq-eqb x x refl),
-  all_weaker (λ n. list_any (nat_eq n) xs ≡ true) (λ n. (nat_eq n x || list_any (nat_eq n) xs) ≡ true) (λ n h. or-right (nat_eq n x) (list_any (nat_eq n) xs) h) xs (members xs),
+  all_weaker (λ n. list_any (nat_eq n) xs ≡ true) (λ n. (nat_eq n x || list_any (nat_eq n) xs) ≡ true) (λ n h. or_right (nat_eq n x) (list_any (nat_eq n) xs) h) xs (members xs),
 )
 
 max-first : (xs : List ℕ) (a : ℕ) → a ≤ fold max a xs

@@ -1,8 +1,8 @@
 -- The groups of a text correspond to those of the file.
-use Rattle.std.proofs.Common.{◌≡◌, ℕ, zero, suc, ◌+◌, ◌<◌, ◌≤◌, ◌⊎◌, inl, inr, Bool, true, false, ◌&&◌, ◌||◌, List, [], ◌∷◌, ◌++◌, length, drop, map, Option, Some, refl, sym, ◌∙◌, ap, subst, arith, length-drop, if◌then◌else◌}
+use Rattle.std.proofs.Common.{◌≡◌, ℕ, zero, suc, ◌+◌, ◌<◌, ◌≤◌, ◌⊎◌, inl, inr, Bool, true, false, ◌&&◌, ◌||◌, List, [], ◌∷◌, ◌++◌, length, drop, map, Option, Some, refl, sym, ◌∙◌, ap, subst, arith, length-drop}
 use Rattle.std.specs.Prelude.{slice_get, position, option_map, unwrap_or, nat_eq, nat_lt, nat_le, filter, find}
 use Rattle.std.specs.List.{AllByRecursion, AllZip}
-use Rattle.std.proofs.lemmas.Bool.{ltb-true, leb-true}
+use Rattle.std.proofs.lemmas.Bool.{ltb-true, leb-true, false_from_ne_true, not-true, and_parts, cond_both}
 use Rattle.std.proofs.lemmas.List.{length-map}
 use Rattle.std.proofs.lemmas.Option.{none-some, same_Some}
 use Rattle.kmn_base.specs.Names.{same_name}
@@ -34,25 +34,21 @@ use Rattle.decompile_laws.proofs.Distinct.{found-at}
 use Rattle.decompile_laws.proofs.Good.{GoodOutput, GoodRule, GoodGroup}
 use Rattle.decompile_laws.proofs.Renamed.{Renamed, Called, rule_same, outputs-same}
 use Rattle.decompile_laws.proofs.Uses.{plain-rules, none-plain, append-none, found-match, found-nomatch}
-use Rattle.decompile_laws.proofs.Choosing.{unless_true, not-true, and-true, all_weaker}
+use Rattle.decompile_laws.proofs.Choosing.{all_weaker}
 
 -- the names of groups are told apart
 abbrev pub group_name : Group → List ℕ
 group_name group = group.name
-
-choose-names : (P : List (List ℕ) → Type 0) (b : Bool) (xs ys : List (List ℕ)) → (b ≡ true → P xs) → (b ≡ false → P ys) → P (if b then xs else ys)
-choose-names P true xs ys g h = g refl
-choose-names P false xs ys g h = h refl
 
 later-group : (x : List ℕ) (free earlier : List (List ℕ)) (groups : List Group) → same_name x [] ≡ false → Differs x free → (Has x earlier ⊎ Differs x (map group_name groups))
     → Differs x (group_names free earlier groups)
 later-group x free earlier [] some d known = tt
 later-group x free earlier (g ∷ groups) some d known =
     let behind : Has x (earlier ++ g.name ∷ []) ⊎ Differs x (map group_name groups) = elim known [ inl h ↦ inl (has-append x earlier (g.name ∷ []) h) | inr k ↦ inr k.1 ] in
-    choose-names (Differs x) (keeps_name earlier g.name) _ _
+    cond_both (keeps_name earlier g.name) _ _ (Differs x)
     (λ e. (
       elim known [
-        | inl h ↦ same-turned g.name x (free-not x g.name earlier (not-true _ (and-true (is_source_name g.name) (is_free earlier g.name) e).1) h)
+        | inl h ↦ same-turned g.name x (free-not x g.name earlier (not-true _ (and_parts (is_source_name g.name) (is_free earlier g.name) e).1) h)
         | inr k ↦ k.0
       ],
       later-group x free (earlier ++ g.name ∷ []) groups some d behind,
@@ -68,9 +64,9 @@ pub groups_apart : (taken free earlier : List (List ℕ)) (groups : List Group) 
 groups_apart taken free earlier [] f enough all = tt
 groups_apart taken free earlier (g ∷ groups) f enough all =
     let some_free : 0 < length free = omega arith in
-    choose-names AreDistinct (keeps_name earlier g.name) _ _
+    cond_both (keeps_name earlier g.name) _ _ AreDistinct
     (λ e. (
-      later-group g.name free (earlier ++ g.name ∷ []) groups (source-some g.name (and-true (is_source_name g.name) (is_free earlier g.name) e).0)
+      later-group g.name free (earlier ++ g.name ∷ []) groups (source-some g.name (and_parts (is_source_name g.name) (is_free earlier g.name) e).0)
           (taken-differs g.name taken free all.0 f) (inl (has-last g.name earlier)),
       groups_apart taken free (earlier ++ g.name ∷ []) groups f (omega arith) all.1,
     ))
@@ -82,7 +78,7 @@ groups_apart taken free earlier (g ∷ groups) f enough all =
 pub group_count : (free earlier : List (List ℕ)) (groups : List Group) → length (group_names free earlier groups) ≡ length groups
 group_count free earlier [] = refl
 group_count free earlier (g ∷ groups) =
-    choose-names (λ names. length names ≡ suc (length groups)) (keeps_name earlier g.name) _ _
+    cond_both (keeps_name earlier g.name) _ _ (λ names. length names ≡ suc (length groups))
     (λ e. ap suc (group_count free (earlier ++ g.name ∷ []) groups)) (λ e. ap suc (group_count (drop 1 free) (earlier ++ g.name ∷ []) groups))
 
 pub names_taken : (groups : List Group) → AllByRecursion (λ (g : Group). Has g.name (map group_name groups)) groups
@@ -135,7 +131,7 @@ good-at P (y ∷ xs) (suc k) x h at = good-at P xs k x h.1 at
 -- rules by falling length, in rising lines, stand in the order in which they are tried
 before-false : (a b l m : ℕ) → a ≤ b → m < l → (nat_lt b a || (nat_eq a b && nat_lt l m)) ≡ false
 before-false a b l m less rising =
-    (λ i. unless_true (nat_lt b a) (λ e. let h = ltb-true b a e in absurd (omega (arith, h))) i || (nat_eq a b && unless_true (nat_lt l m) (λ e. let h = ltb-true l m e in absurd (omega (arith, h))) i))
+    (λ i. false_from_ne_true (nat_lt b a) (λ e. let h = ltb-true b a e in absurd (omega (arith, h))) i || (nat_eq a b && false_from_ne_true (nat_lt l m) (λ e. let h = ltb-true l m e in absurd (omega (arith, h))) i))
     ∙ and-none (nat_eq a b)
   where
     and-none : (c : Bool) → (c && false) ≡ false
@@ -150,7 +146,7 @@ module _ (n : SourceNames) (names : Names) where
       → NoneBefore x (map (src_rule n) (back_rules names line rules))
   none-before x line [] longest falls less rising = tt
   none-before x line (r ∷ rules) longest falls less rising =
-      let two = and-true (nat_le (length r.context) longest) (fall_from (length r.context) rules) falls in
+      let two = and_parts (nat_le (length r.context) longest) (fall_from (length r.context) rules) falls in
       let here = leb-true (length r.context) longest two.0 in
       let same = context-length line r in (
         before-false (length (src_rule n (back_rule names line r)).context) (length x.context) line x.line (omega (arith, here, same, less)) rising,
@@ -160,7 +156,7 @@ module _ (n : SourceNames) (names : Names) where
   in-order : (line : ℕ) (rules : List Rule) (longest : ℕ) → fall_from longest rules ≡ true → AreInOrder (map (src_rule n) (back_rules names line rules))
   in-order line [] longest falls = tt
   in-order line (r ∷ rules) longest falls =
-      let two = and-true (nat_le (length r.context) longest) (fall_from (length r.context) rules) falls in
+      let two = and_parts (nat_le (length r.context) longest) (fall_from (length r.context) rules) falls in
       let same = context-length line r in (
         none-before (src_rule n (back_rule names line r)) (line + 1) rules (length r.context) two.1 (omega (arith, same)) (omega arith),
         in-order (line + 1) rules (length r.context) two.1,

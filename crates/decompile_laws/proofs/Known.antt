@@ -3,7 +3,7 @@ use Rattle.std.proofs.Common.{◌≡◌, ℕ, ◌+◌, ◌-◌, Bool, true, fals
 use Rattle.std.specs.Prelude.{slice_get, option_to_list, unwrap_or, nat_eq, nat_lt, flat_map}
 use Rattle.std.specs.List.{AllByRecursion, range_with_len}
 use Rattle.std.specs.Fmt.{decimal}
-use Rattle.std.proofs.lemmas.Bool.{eqb-true}
+use Rattle.std.proofs.lemmas.Bool.{eqb-true, false_from_ne_true, cond-true, cond-false}
 use Rattle.kmn_base.specs.declared.items.Element.{Element}
 use Rattle.kmn_base.specs.declared.items.Element.TheVariants as element
 use Rattle.kmn_base.specs.declared.keys.RuleKey.{RuleKey}
@@ -33,7 +33,7 @@ use Rattle.decompile_laws.specs.Back.{back_rule, back_rules, back_statement, mat
 use Rattle.decompile_laws.specs.WrittenOut.{key_codes_of}
 use Rattle.decompile_laws.proofs.Good.{IsMark, IsKey, GoodPattern, GoodOutput, GoodElement, GoodRule, GoodGroup}
 use Rattle.decompile_laws.proofs.Distinct.{Among, at-among, range-at}
-use Rattle.decompile_laws.proofs.Choosing.{clash, unless_true, choose-then, choose-else, all_join}
+use Rattle.decompile_laws.proofs.Choosing.{clash, all_join}
 
 abbrev pub mark_list : Tables → List (List ℕ)
 mark_list t = map decimal (range_with_len 1 (greatest_mark t))
@@ -63,7 +63,7 @@ no-zero = refl
 
 own-code : (code : ℕ) → is_some (key_name code) ≡ true → nat_eq code 0 ≡ false
 own-code code e =
-    unless_true (nat_eq code 0) (λ z. let same : code ≡ 0 = eqb-true code 0 z in clash (is_some (key_name 0)) (ap (λ (k : ℕ). is_some (key_name k)) (sym same) ∙ e) no-zero)
+    false_from_ne_true (nat_eq code 0) (λ z. let same : code ≡ 0 = eqb-true code 0 z in clash (is_some (key_name 0)) (ap (λ (k : ℕ). is_some (key_name k)) (sym same) ∙ e) no-zero)
 
 some-name : (o : Option (List ℕ)) → is_some o ≡ true → (name : List ℕ) × (o ≡ Some name)
 some-name None e = absurd cc
@@ -83,14 +83,14 @@ Fine t i = AllByRecursion (Among (mark_list t)) (mark_names i) × AllByRecursion
 pub called-name : (t : Tables) (names : Names) (code : ℕ) → names.keys ≡ key_list t → (named : IsNamedCode t code) → unwrap_or (name_in names.keys code) [] ≡ named.name
 called-name t names code is named =
     ap (λ (keys : List (List ℕ)). unwrap_or (name_in keys code) []) is
-    ∙ (ap (λ (o : Option (List ℕ)). unwrap_or o []) (choose-else (nat_lt code 256) None (slice_get (key_list t) (code - 256)) named.large) ∙ ap (λ (o : Option (List ℕ)). unwrap_or o []) named.at)
+    ∙ (ap (λ (o : Option (List ℕ)). unwrap_or o []) (cond-false (nat_lt code 256) None (slice_get (key_list t) (code - 256)) named.large) ∙ ap (λ (o : Option (List ℕ)). unwrap_or o []) named.at)
 
 key-fine : (t : Tables) (names : Names) (flags code : ℕ) → names.keys ≡ key_list t → IsKey t code → AllByRecursion (Among (key_list t)) (key_names (source.Key (key_called names flags code)))
 key-fine t names flags code is ok =
     known-key t code ok
-    (λ own. subst (λ (k : KeyName). AllByRecursion (Among (key_list t)) (key_names (source.Key k))) (sym (choose-then (nat_lt code 256) (key_by_code flags code) (key_by_name names flags code) own.small))
+    (λ own. subst (λ (k : KeyName). AllByRecursion (Among (key_list t)) (key_names (source.Key k))) (sym (cond-true (nat_lt code 256) (key_by_code flags code) (key_by_name names flags code) own.small))
     (subst (λ b. AllByRecursion (Among (key_list t)) (if b then [] ∷ [] else [])) (sym own.some) tt))
-    (λ named. subst (λ (k : KeyName). AllByRecursion (Among (key_list t)) (key_names (source.Key k))) (sym (choose-else (nat_lt code 256) (key_by_code flags code) (key_by_name names flags code) named.large))
+    (λ named. subst (λ (k : KeyName). AllByRecursion (Among (key_list t)) (key_names (source.Key k))) (sym (cond-false (nat_lt code 256) (key_by_code flags code) (key_by_name names flags code) named.large))
     (subst (λ (name : List ℕ). Among (key_list t) name) (sym (called-name t names code is named)) (at-among (key_list t) (code - 256) named.name named.at), tt))
 
 module _ (t : Tables) (names : Names) (is : names.keys ≡ key_list t) where

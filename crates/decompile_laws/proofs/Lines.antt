@@ -2,7 +2,7 @@
 use Rattle.std.proofs.Common.{◌≡◌, ℕ, suc, ◌+◌, ◌<◌, ◌≤◌, Bool, true, false, List, [], ◌∷◌, ◌++◌, length, take, drop, Option, None, Some, refl, sym, ◌∙◌, ap, arith, append-nil, if◌then◌else◌}
 use Rattle.std.specs.Prelude.{slice_get, unwrap_or, nat_eq, nat_lt, flat_map}
 use Rattle.std.specs.List.{prefix_len, AllByRecursion}
-use Rattle.std.proofs.lemmas.Bool.{lt-ltb}
+use Rattle.std.proofs.lemmas.Bool.{lt-ltb, cond-true}
 use Rattle.std.proofs.lemmas.List.{length-append}
 use Rattle.rule_model.specs.declared.program.StoreDef.{StoreDef}
 use Rattle.rule_model.specs.declared.program.RuleKind.{RuleKind}
@@ -19,10 +19,10 @@ use Rattle.rule_model.specs.Naming.{rule_items, store_items, items_from}
 use Rattle.decompile_laws.specs.Marks.{greatest_mark}
 use Rattle.decompile_laws.specs.Items.{Names}
 use Rattle.decompile_laws.specs.Back.{back_rules, back_statement, match_line, nomatch_line, back_group, back_groups, back_stores, numbered, mark_store, key_store, stated_marks, mark_stores, key_stores, front_stores, free_stores, names_for, written_stores}
-use Rattle.decompile_laws.proofs.Choosing.{choose-then, all_join, all_weaker}
+use Rattle.decompile_laws.proofs.Choosing.{all_join, all_weaker}
 
 length-step : {X : Type 0} (p : X → Bool) (x : X) (xs : List X) → p x ≡ true → prefix_len p (x ∷ xs) ≡ suc (prefix_len p xs)
-length-step p x xs h = choose-then (p x) (1 + prefix_len p xs) 0 h ∙ omega arith
+length-step p x xs h = cond-true (p x) (1 + prefix_len p xs) 0 h ∙ omega arith
 
 all-before : {X : Type 0} (p : X → Bool) (xs : List X) → AllByRecursion (λ x. p x ≡ true) xs → take (prefix_len p xs) xs ≡ xs
 all-before p [] h = refl

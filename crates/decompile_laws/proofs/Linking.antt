@@ -2,7 +2,7 @@
 use Rattle.std.proofs.Common.{◌≡◌, ℕ, zero, suc, ◌+◌, ◌<◌, ◌≤◌, true, false, ◌||◌, List, [], ◌∷◌, ◌++◌, length, map, Option, None, Some, refl, sym, ◌∙◌, ap, arith, append_assoc, append-nil}
 use Rattle.std.specs.Prelude.{nat_eq, flat_map, position, slice_get, option_map, option_to_list}
 use Rattle.std.specs.List.{list_any, AllByRecursion}
-use Rattle.std.proofs.lemmas.Bool.{eq-eqb, ne_eqb, eqb-true, eqb-false}
+use Rattle.std.proofs.lemmas.Bool.{eq-eqb, ne_eqb, eqb-true, eqb-false, cond-true, cond-false}
 use Rattle.std.proofs.lemmas.Option.{none-some, same_Some}
 use Rattle.kmn_base.specs.declared.items.Element.{Element}
 use Rattle.kmn_base.specs.Names.{same_name}
@@ -17,7 +17,6 @@ use Rattle.decompile_laws.specs.Items.{Names, back_element}
 use Rattle.decompile_laws.specs.Back.{back_stores}
 use Rattle.decompile_laws.proofs.Apart.{StandsFirst}
 use Rattle.decompile_laws.proofs.Thin.{thin}
-use Rattle.decompile_laws.proofs.Choosing.{choose-then, choose-else}
 
 -- the stores of a file that have a name here, under that name
 abbrev pub thin_stores : (Element → Element) → List (Option (List ℕ)) → List Store → List Store
@@ -33,7 +32,7 @@ IsSimple names s = (is_dropped s ≡ false) × ((before : List Store) → store_
 pub stores-mapped : (names : SourceNames) (before : List Store) (stores : List StoreDef) → AllByRecursion (IsSimple names) stores → stores_onto names before stores ≡ before ++ map (store_of names []) stores
 stores-mapped names before [] simple = sym (append-nil before)
 stores-mapped names before (s ∷ stores) simple =
-    ap (λ (b : List Store). stores_onto names b stores) (choose-else (is_dropped s) _ _ simple.0.0 ∙ ap (λ k. before ++ k ∷ []) (simple.0.1 before))
+    ap (λ (b : List Store). stores_onto names b stores) (cond-false (is_dropped s) _ _ simple.0.0 ∙ ap (λ k. before ++ k ∷ []) (simple.0.1 before))
     ∙ stores-mapped names (before ++ store_of names [] s ∷ []) stores simple.1
     ∙ append_assoc before (store_of names [] s ∷ []) (map (store_of names []) stores)
 
@@ -140,11 +139,11 @@ within n (call ∷ calls) [] f name first along = absurd (omega (arith, along))
 within zero (None ∷ calls) (store ∷ stores) f name first along = absurd first
 within zero (Some other ∷ calls) (store ∷ stores) f name (is, same) along =
     position-cons (λ (store : Store). same_name store.name name) (record { system = store.system; name = other; elements = map f store.elements }) (thin_stores f calls stores)
-    ∙ choose-then (same_name other name) _ _ (ap (λ k. same_name k name) is ∙ same)
+    ∙ cond-true (same_name other name) _ _ (ap (λ k. same_name k name) is ∙ same)
 within (suc n) (None ∷ calls) (store ∷ stores) f name first along = within n calls stores f name first (omega (arith, along))
 within (suc n) (Some other ∷ calls) (store ∷ stores) f name (apart, first) along =
     position-cons (λ (store : Store). same_name store.name name) (record { system = store.system; name = other; elements = map f store.elements }) (thin_stores f calls stores)
-    ∙ (choose-else (same_name other name) _ _ apart ∙ (ap (option_map suc) (within n calls stores f name first (omega (arith, along)))
+    ∙ (cond-false (same_name other name) _ _ apart ∙ (ap (option_map suc) (within n calls stores f name first (omega (arith, along)))
     ∙ (let e : suc (written_before n calls) ≡ 1 + written_before n calls = omega arith in ap (λ (k : ℕ). Some k) e)))
 
 pub found-behind : (front : List Store) (n : ℕ) (calls : List (Option (List ℕ))) (stores : List Store) (f : Element → Element) (name : List ℕ)
@@ -154,7 +153,7 @@ found-behind [] n calls stores f name other first along =
     within n calls stores f name first along ∙ (let e : written_before n calls ≡ 0 + written_before n calls = omega arith in ap (λ (k : ℕ). Some k) e)
 found-behind (x ∷ front) n calls stores f name (apart, other) first along =
     position-cons (λ (store : Store). same_name store.name name) x (front ++ thin_stores f calls stores)
-    ∙ (choose-else (same_name x.name name) _ _ apart ∙ (ap (option_map suc) (found-behind front n calls stores f name other first along)
+    ∙ (cond-false (same_name x.name name) _ _ apart ∙ (ap (option_map suc) (found-behind front n calls stores f name other first along)
     ∙ (let e : suc (length front + written_before n calls) ≡ suc (length front) + written_before n calls = omega arith in ap (λ (k : ℕ). Some k) e)))
 
 -- options of stores one after the other

@@ -5,7 +5,7 @@ use Rattle.std.specs.List.{AllByRecursion, range_with_len}
 use Rattle.std.specs.Fmt.{decimal}
 use Rattle.std.specs.Str.{encode_utf8_all}
 use Rattle.std.proofs.Math.Nat.{max-le}
-use Rattle.std.proofs.lemmas.Bool.{eqb-true, ltb-false}
+use Rattle.std.proofs.lemmas.Bool.{eqb-true, ltb-false, cond-true, cond-false}
 use Rattle.std.proofs.lemmas.Grind.{flat_map-append}
 use Rattle.kmn_base.specs.Names.{same_name}
 use Rattle.virtual_keys.specs.Dictionary.{code_in}
@@ -28,7 +28,7 @@ use Rattle.decompile_laws.proofs.Good.{IsMark, IsKey, groups_good, stores_good}
 use Rattle.decompile_laws.proofs.Distinct.{Among, distinct-first, distinct-apart, found-at}
 use Rattle.decompile_laws.proofs.SmallMarks.{IsSmall, small_marks}
 use Rattle.decompile_laws.proofs.Known.{mark_list, key_list, mark-at, known-key, called-name, Fine, stores-fine, groups-fine}
-use Rattle.decompile_laws.proofs.Choosing.{choose-then, choose-else, all_join, all_weaker}
+use Rattle.decompile_laws.proofs.Choosing.{all_join, all_weaker}
 use Rattle.decompile_laws.proofs.Lines.{items-in-order, stores-lines, groups-from}
 
 -- what an item is named by, of many items of a form
@@ -161,9 +161,9 @@ pub key-number : (t : Tables) → IsPlayable t → CanBeWrittenOut t → (flags 
 unfolding code_in
 key-number t p c flags code ok =
     known-key t code ok
-    (λ own. ap (key_number (names_of (back t))) (choose-then (nat_lt code 256) (key_by_code flags code) (key_by_name (names_for t) flags code) own.small)
-    ∙ choose-else (nat_eq code 0) _ code own.some)
-    (λ named. ap (key_number (names_of (back t))) (choose-else (nat_lt code 256) (key_by_code flags code) (key_by_name (names_for t) flags code) named.large)
+    (λ own. ap (key_number (names_of (back t))) (cond-true (nat_lt code 256) (key_by_code flags code) (key_by_name (names_for t) flags code) own.small)
+    ∙ cond-false (nat_eq code 0) _ code own.some)
+    (λ named. ap (key_number (names_of (back t))) (cond-false (nat_lt code 256) (key_by_code flags code) (key_by_name (names_for t) flags code) named.large)
     ∙ ((λ i. unwrap_or (code_in (keys-are t p c i) (called-name t (names_for t) code refl named i)) 0)
     ∙ (ap (λ (o : Option ℕ). unwrap_or (option_map (λ place. 256 + place) o) 0)
     (found-at (same_name named.name) named.name (code - 256) (key_list t) (same-itself named.name) (λ x e. same-turned x named.name e) (keys-distinct t) named.at)

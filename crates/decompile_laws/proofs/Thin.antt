@@ -2,6 +2,7 @@
 use Rattle.std.proofs.Common.{◌≡◌, ℕ, zero, suc, ◌+◌, Bool, true, false, List, [], ◌∷◌, ◌++◌, map, Option, None, Some, refl, sym, ◌∙◌, ap, if◌then◌else◌}
 use Rattle.std.specs.Prelude.{position, slice_get, unwrap_or, option_map}
 use Rattle.std.specs.List.{AllByRecursion}
+use Rattle.std.proofs.lemmas.Bool.{cond-true, cond-false}
 use Rattle.kmn_base.specs.declared.items.Element.{Element}
 use Rattle.kmn_base.specs.Names.{same_name}
 use Rattle.rule_model.specs.Keyboard.{Named, Numbered, StoreMeaning}
@@ -9,7 +10,6 @@ use Rattle.rule_model.specs.Content.{options_before, store_number, elements_of_s
 use Rattle.rule_model.specs.Trace.{options_of}
 use Rattle.compile_laws.proofs.Places.{position-cons}
 use Rattle.decompile_laws.proofs.Apart.{StandsFirst}
-use Rattle.decompile_laws.proofs.Choosing.{choose-then, choose-else}
 
 -- a store under another name, with each element changed
 abbrev pub renamed : (Element → Element) → List ℕ → StoreMeaning → StoreMeaning
@@ -49,7 +49,7 @@ stands f name zero (None ∷ names) (store ∷ stores) first keeps = absurd firs
 stands f name zero (Some other ∷ names) (store ∷ stores) (is, same) (named, keeps) = record {
   place = 0;
   found = position-cons (λ (store : StoreMeaning). same_name store.name name) (renamed f other store) (thin f names stores)
-      ∙ choose-then (same_name other name) _ _ (ap (λ k. same_name k name) is ∙ same);
+      ∙ cond-true (same_name other name) _ _ (ap (λ k. same_name k name) is ∙ same);
   store = store;
   old = refl;
   new = ap (λ k. Some (renamed f k store)) is;
@@ -63,14 +63,14 @@ stands f name (suc n) (None ∷ names) (store ∷ stores) first (plain, keeps) =
       store = more.store;
       old = more.old;
       new = more.new;
-      before = more.before ∙ sym (choose-else store.is_option _ _ plain);
+      before = more.before ∙ sym (cond-false store.is_option _ _ plain);
       kept = more.kept;
     }
 stands f name (suc n) (Some other ∷ names) (store ∷ stores) (apart, first) (named, keeps) =
     let more = stands f name n names stores first keeps in record {
       place = suc more.place;
       found = position-cons (λ (store : StoreMeaning). same_name store.name name) (renamed f other store) (thin f names stores)
-          ∙ choose-else (same_name other name) _ _ apart ∙ ap (option_map suc) more.found;
+          ∙ cond-false (same_name other name) _ _ apart ∙ ap (option_map suc) more.found;
       store = more.store;
       old = more.old;
       new = more.new;
@@ -86,11 +86,11 @@ behind f name n [] new_stores old_stores other plain s = s
 behind f name n (x ∷ front) new_stores old_stores (apart, other) (fixed, plain) s =
     let more = behind f name n front new_stores old_stores other plain s in record {
       place = suc more.place;
-      found = position-cons (λ (store : StoreMeaning). same_name store.name name) x (front ++ new_stores) ∙ choose-else (same_name x.name name) _ _ apart ∙ ap (option_map suc) more.found;
+      found = position-cons (λ (store : StoreMeaning). same_name store.name name) x (front ++ new_stores) ∙ cond-false (same_name x.name name) _ _ apart ∙ ap (option_map suc) more.found;
       store = more.store;
       old = more.old;
       new = more.new;
-      before = choose-else x.is_option _ _ fixed ∙ more.before;
+      before = cond-false x.is_option _ _ fixed ∙ more.before;
       kept = more.kept;
     }
 
@@ -141,7 +141,7 @@ pub options-same : (f : Element → Element) (names : List (Option (List ℕ))) 
 options-same f [] [] keeps = refl
 options-same f [] (store ∷ stores) keeps = absurd keeps
 options-same f (name ∷ names) [] keeps = absurd keeps
-options-same f (None ∷ names) (store ∷ stores) (plain, keeps) = options-same f names stores keeps ∙ sym (choose-else store.is_option _ _ plain)
+options-same f (None ∷ names) (store ∷ stores) (plain, keeps) = options-same f names stores keeps ∙ sym (cond-false store.is_option _ _ plain)
 options-same f (Some name ∷ names) (store ∷ stores) (named, keeps) =
     elim store.is_option as (λ b. (b ≡ true → (name ≡ store.name) × (map f store.elements ≡ store.elements))
     → (if b then renamed f name store ∷ options_of (thin f names stores) else options_of (thin f names stores)) ≡ (if b then store ∷ options_of stores else options_of stores)) [
@@ -152,4 +152,4 @@ options-same f (Some name ∷ names) (store ∷ stores) (named, keeps) =
 -- stores in front that are no options add none
 pub options-behind : (front stores : List StoreMeaning) → AllByRecursion (λ (store : StoreMeaning). store.is_option ≡ false) front → options_of (front ++ stores) ≡ options_of stores
 options-behind [] stores plain = refl
-options-behind (x ∷ front) stores (fixed, plain) = choose-else x.is_option _ _ fixed ∙ options-behind front stores plain
+options-behind (x ∷ front) stores (fixed, plain) = cond-false x.is_option _ _ fixed ∙ options-behind front stores plain

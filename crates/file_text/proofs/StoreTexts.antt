@@ -1,5 +1,5 @@
 -- The lines of stores, those of a file and those in front of them.
-use Rattle.std.proofs.Common.{◌≡◌, ℕ, zero, suc, ◌+◌, Bool, true, false, nat_eq, if◌then◌else◌, List, [], ◌∷◌, ◌++◌, drop, Option, Some, None, map, refl, sym, ap, ◌∙◌, append_assoc, codes, arith}
+use Rattle.std.proofs.Common.{◌≡◌, ℕ, ◌+◌, Bool, true, false, nat_eq, if◌then◌else◌, List, [], ◌∷◌, ◌++◌, drop, Option, Some, None, map, refl, sym, ap, ◌∙◌, append_assoc, codes, arith}
 use Rattle.std.specs.Prelude.{slice_get, unwrap_or}
 use Rattle.std.specs.List.{list_any}
 use Rattle.std.proofs.lemmas.Bool.Decides.{nat_tests}
@@ -11,6 +11,7 @@ use Rattle.decompile_laws.specs.Names.{is_written, written_ids, keeps_store_name
 use Rattle.decompile_laws.specs.Back.{back_stores}
 use Rattle.file_text.specs.Texts.{elements_text, store_text, stores_text, if_called}
 use Rattle.file_text.proofs.LineTexts.{printed_elements}
+use Rattle.file_text.proofs.WholeTexts.{first_left, one_less}
 
 -- a store that is called something isn't `&version`
 abbrev NotVersion : List (Option (List ℕ)) → List Store → Type 0
@@ -80,23 +81,6 @@ lines_called names line (None ∷ calls) (store ∷ stores) h = lines_called nam
 lines_called names line (Some name ∷ calls) (store ∷ stores) h =
     store_line names line name store _ h.0
     ∙ ap (λ (text : List ℕ). store_text names name store ++ text) (lines_called names (line + 1) calls stores h.1)
-
-first_left : {X : Type 0} (xs : List X) (n : ℕ) → slice_get (drop n xs) 0 ≡ slice_get xs n
-first_left [] zero = refl
-first_left [] (suc n) = refl
-first_left (x ∷ xs) zero = refl
-first_left (x ∷ xs) (suc n) = first_left xs n
-
-one_by_one : {X : Type 0} (xs : List X) (n : ℕ) → drop 1 (drop n xs) ≡ drop (suc n) xs
-one_by_one [] zero = refl
-one_by_one [] (suc n) = refl
-one_by_one (x ∷ xs) zero = refl
-one_by_one (x ∷ xs) (suc n) = one_by_one xs n
-
-one_less : {X : Type 0} (xs : List X) (n : ℕ) → drop 1 (drop n xs) ≡ drop (n + 1) xs
-one_less xs n =
-    let next : suc n ≡ n + 1 = omega arith in
-    one_by_one xs n ∙ ap (λ (m : ℕ). drop m xs) next
 
 from_number : (names : Names) (n : ℕ) (calls : List (Option (List ℕ))) (stores : List Store) → calls ≡ drop n names.stores → called_text names calls stores ≡ stores_text names n stores
 from_number names n calls [] e = refl

@@ -55,7 +55,7 @@ printed_group names line name group =
     ∙ group_header (back_group names line name group) name group.using_keys _ refl refl
 
 -- the first of what is left behind a place stands at the place
-first_left : {X : Type 0} (xs : List X) (n : ℕ) → slice_get (drop n xs) 0 ≡ slice_get xs n
+pub first_left : {X : Type 0} (xs : List X) (n : ℕ) → slice_get (drop n xs) 0 ≡ slice_get xs n
 first_left [] zero = refl
 first_left [] (suc n) = refl
 first_left (x ∷ xs) zero = refl
@@ -67,7 +67,7 @@ one_by_one [] (suc n) = refl
 one_by_one (x ∷ xs) zero = refl
 one_by_one (x ∷ xs) (suc n) = one_by_one xs n
 
-one_less : {X : Type 0} (xs : List X) (n : ℕ) → drop 1 (drop n xs) ≡ drop (n + 1) xs
+pub one_less : {X : Type 0} (xs : List X) (n : ℕ) → drop 1 (drop n xs) ≡ drop (n + 1) xs
 one_less xs n =
     let next : suc n ≡ n + 1 = omega arith in
     one_by_one xs n ∙ ap (λ (m : ℕ). drop m xs) next

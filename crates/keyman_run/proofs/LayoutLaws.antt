@@ -1,6 +1,5 @@
 -- What a layout states that was read, and the run that checks one.
 use Rattle.std.proofs.Common.{◌≡◌, List, ℕ, None, Some, Ok, Err, refl, sym, ap, ◌∙◌, subst, append-nil}
-use Rattle.compile_laws.specs.Ordered.{compiled_tables}
 use Rattle.kmn_compiler.specs.declared.compiling.Compiled.{Compiled}
 use Rattle.rule_model.specs.declared.tables.Tables.{Tables}
 use Rattle.touch_layout.specs.Layout.{key_count, layout_fault}

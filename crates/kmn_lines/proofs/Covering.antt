@@ -1,7 +1,8 @@
 -- The tokens of a line cover its parts.
-use Rattle.std.proofs.Common.{◌≡◌, ℕ, zero, suc, ◌+◌, ◌-◌, ◌<◌, ◌≤◌, Bool, true, false, ◌&&◌, if◌then◌else◌, List, [], ◌∷◌, length, take, drop, refl, sym, ◌∙◌, ap, subst, arith}
+use Rattle.std.proofs.Common.{◌≡◌, ℕ, zero, suc, ◌+◌, ◌-◌, ◌<◌, ◌≤◌, Bool, true, false, if◌then◌else◌, List, [], ◌∷◌, length, take, drop, refl, sym, ◌∙◌, ap, subst, arith}
 use Rattle.std.specs.Prelude.{All}
 use Rattle.std.specs.List.{list_all}
+use Rattle.std.proofs.lemmas.Bool.{and_from}
 use Rattle.std.proofs.lemmas.List.{length-take}
 use Rattle.std.proofs.lemmas.List.Elements.{All-cons, All-nil}
 use Rattle.kmn_base.specs.Bytes.{is_blank}
@@ -14,20 +15,16 @@ use Rattle.kmn_lines.specs.declared.token.Token.{Token}
 use Rattle.kmn_lines.specs.declared.token.TokenKind.TheVariants.{Word}
 use Rattle.kmn_lines.proofs.Sizes.{token_size-within, token_size-some, words_plain}
 
-and-both : (a b : Bool) → a ≡ true → b ≡ true → (a && b) ≡ true
-and-both true b e f = f
-and-both false b e f = e
-
 -- a blank before a text that is covered
 covers-blank : (holds : Token → List ℕ → Type 0) (at byte : ℕ) (text : List ℕ) (ts : List Token) → is_blank byte ≡ true → Covers holds (at + 1) text ts → Covers holds at (byte ∷ text) ts
-covers-blank holds at byte text [] e c = and-both (is_blank byte) (list_all is_blank text) e c
+covers-blank holds at byte text [] e c = and_from (is_blank byte) (list_all is_blank text) e c
 covers-blank holds at byte text (t ∷ ts) e (l, m, r, b, h, c) =
     let one : suc (t.from - (at + 1)) ≡ t.from - at = omega arith in
     let two : suc (t.to - (at + 1)) ≡ t.to - at = omega arith in (
       omega arith,
       m,
       omega arith,
-      subst (λ (k : ℕ). IsBlankText (take k (byte ∷ text))) one (and-both (is_blank byte) (list_all is_blank (take (t.from - (at + 1)) text)) e b),
+      subst (λ (k : ℕ). IsBlankText (take k (byte ∷ text))) one (and_from (is_blank byte) (list_all is_blank (take (t.from - (at + 1)) text)) e b),
       subst (λ (k : ℕ). holds t (take (t.to - t.from) (drop k (byte ∷ text)))) one h,
       subst (λ (k : ℕ). Covers holds t.to (drop k (byte ∷ text)) ts) two c,
     )

@@ -3,7 +3,7 @@ use Rattle.std.proofs.Common.{◌≡◌, ℕ, ◌+◌, ◌<◌, ◌≤◌, ◌�
 use Rattle.std.specs.Prelude.{All, unwrap_or}
 use Rattle.std.specs.List.{list_all}
 use Rattle.std.proofs.Math.Seq.{take-append_seam, drop-append_seam}
-use Rattle.std.proofs.lemmas.Bool.{eqb-true}
+use Rattle.std.proofs.lemmas.Bool.{eqb-true, and_from, and_left, and_right}
 use Rattle.std.proofs.lemmas.List.{append-nil, take-append-le, drop-append-le}
 use Rattle.std.proofs.lemmas.List.Elements.{All-head, All-tail}
 use Rattle.kmn_base.specs.Bytes.{is_blank, is_quote}
@@ -13,18 +13,6 @@ use Rattle.kmn_lines.specs.Laws.{quote_behind, open_quote, first_or, last_or, is
 use Rattle.kmn_lines.proofs.Sizes.{or-false, and-true}
 
 -- tests that are put together
-and-first : (a b : Bool) → a ≡ false → (a && b) ≡ false
-and-first true b h = absurd cc
-and-first false b h = refl
-
-and-last : (a b : Bool) → b ≡ false → (a && b) ≡ false
-and-last true b h = h
-and-last false b h = refl
-
-pub and-both : (a b : Bool) → a ≡ true → b ≡ true → (a && b) ≡ true
-and-both true b g h = h
-and-both false b g h = g
-
 and-still : (a b c : Bool) → (a && b) ≡ false → (b ≡ false → c ≡ false) → (a && c) ≡ false
 and-still true b c h f = f h
 and-still false b c h f = refl
@@ -71,12 +59,12 @@ all-blank_less [] byte h = absurd cc
 all-blank_less (x ∷ xs) byte h = and-still (is_blank x) (list_all is_blank xs) _ h (all-blank_less xs byte)
 
 all-blank_more : (text : List ℕ) (byte : ℕ) → list_all is_blank text ≡ true → is_blank byte ≡ true → list_all is_blank (text ++ byte ∷ []) ≡ true
-all-blank_more [] byte h b = and-both (is_blank byte) true b refl
-all-blank_more (x ∷ xs) byte h b = let both = and-true (is_blank x) (list_all is_blank xs) h in and-both (is_blank x) _ both.0 (all-blank_more xs byte both.1 b)
+all-blank_more [] byte h b = and_from (is_blank byte) true b refl
+all-blank_more (x ∷ xs) byte h b = let both = and-true (is_blank x) (list_all is_blank xs) h in and_from (is_blank x) _ both.0 (all-blank_more xs byte both.1 b)
 
 all-blank_not : (text : List ℕ) (byte : ℕ) (bytes : List ℕ) → is_blank byte ≡ false → list_all is_blank (text ++ byte ∷ bytes) ≡ false
-all-blank_not [] byte bytes b = and-first (is_blank byte) _ b
-all-blank_not (x ∷ xs) byte bytes b = and-last (is_blank x) _ (all-blank_not xs byte bytes b)
+all-blank_not [] byte bytes b = and_left (is_blank byte) _ b
+all-blank_not (x ∷ xs) byte bytes b = and_right (is_blank x) _ (all-blank_not xs byte bytes b)
 
 lone-less : (text : List ℕ) (byte : ℕ) → 0 < length text → is_lone_backslash text ≡ false → is_lone_backslash (text ++ byte ∷ []) ≡ false
 lone-less [] byte l h = absurd (omega arith)
@@ -84,11 +72,11 @@ lone-less (x ∷ xs) byte l h = and-still (x == 92) (list_all is_blank xs) _ h (
 
 lone-more : (text : List ℕ) (byte : ℕ) → is_lone_backslash text ≡ true → is_blank byte ≡ true → is_lone_backslash (text ++ byte ∷ []) ≡ true
 lone-more [] byte h b = absurd cc
-lone-more (x ∷ xs) byte h b = let both = and-true (x == 92) (list_all is_blank xs) h in and-both (x == 92) _ both.0 (all-blank_more xs byte both.1 b)
+lone-more (x ∷ xs) byte h b = let both = and-true (x == 92) (list_all is_blank xs) h in and_from (x == 92) _ both.0 (all-blank_more xs byte both.1 b)
 
 lone-not : (text : List ℕ) (byte : ℕ) (bytes : List ℕ) → 0 < length text → is_blank byte ≡ false → is_lone_backslash (text ++ byte ∷ bytes) ≡ false
 lone-not [] byte bytes l b = absurd (omega arith)
-lone-not (x ∷ xs) byte bytes l b = and-last (x == 92) _ (all-blank_not xs byte bytes b)
+lone-not (x ∷ xs) byte bytes l b = and_right (x == 92) _ (all-blank_not xs byte bytes b)
 
 abbrev comment_between : List ℕ → List ℕ → Bool
 comment_between before behind = not (is_some (open_quote None before)) && (is_blank (last_or 32 before) && is_lone_c behind)
@@ -123,11 +111,11 @@ joint-less text byte k l h =
 joint-more : (text : List ℕ) (byte k : ℕ) → k < length text → joint_at text k ≡ true → is_blank byte ≡ true → joint_at (text ++ byte ∷ []) k ≡ true
 joint-more text byte k l h b =
     let both = and-true (is_outside text k) (is_lone_backslash (drop k text)) h in
-    joint-within text (byte ∷ []) k l ∙ and-both (is_outside text k) _ both.0 (lone-more (drop k text) byte both.1 b)
+    joint-within text (byte ∷ []) k l ∙ and_from (is_outside text k) _ both.0 (lone-more (drop k text) byte both.1 b)
 
 joint-not : (text : List ℕ) (byte : ℕ) (bytes : List ℕ) (k : ℕ) → k < length text → is_blank byte ≡ false → joint_at (text ++ byte ∷ bytes) k ≡ false
 joint-not text byte bytes k l b =
-    joint-within text (byte ∷ bytes) k l ∙ and-last (is_outside text k) _ (lone-not (drop k text) byte bytes (some-left text k l) b)
+    joint-within text (byte ∷ bytes) k l ∙ and_right (is_outside text k) _ (lone-not (drop k text) byte bytes (some-left text k l) b)
 
 -- what holds of each place of a text and of its end holds of each place of the text with one byte more
 more : (P : ℕ → Type 0) (text : List ℕ) (byte : ℕ) → ((k : ℕ) → k < length text → P k) → P (length text) → (k : ℕ) → k < length (text ++ byte ∷ []) → P k
@@ -250,7 +238,7 @@ joint-blank : (text : List ℕ) (from byte : ℕ) (slash : Option ℕ) → open_
 joint-blank text from byte None outside b k =
     more (λ n. joint_at (text ++ byte ∷ []) n ≡ false) text byte
     (λ n l. joint-less text byte n l (k n l))
-    (joint-seam text (byte ∷ []) ∙ and-last (not (is_some (open_quote None text))) _ (and-first (byte == 92) _ (blank-no_backslash byte b)))
+    (joint-seam text (byte ∷ []) ∙ and_right (not (is_some (open_quote None text))) _ (and_left (byte == 92) _ (blank-no_backslash byte b)))
 joint-blank text from byte (Some slash) outside b k = record {
   outside = quoted-more text byte outside (blank-no_quote byte b);
   place = k.place;
@@ -298,7 +286,7 @@ knows-other text line from byte blank slash k plain other none = record {
   behind_blank = blank-other text byte (is_quote byte) refl plain;
   joint = more (λ n. joint_at (text ++ byte ∷ []) n ≡ false) text byte
       (λ n l. joint-not text byte [] n l plain)
-      (joint-seam text (byte ∷ []) ∙ and-last (not (is_some (open_quote None text))) _ (and-first (byte == 92) _ other));
+      (joint-seam text (byte ∷ []) ∙ and_right (not (is_some (open_quote None text))) _ (and_left (byte == 92) _ other));
   comments = more (λ n. comment_at line n ≡ false) text byte k.comments none;
 }
 
@@ -368,7 +356,7 @@ cut (byte ∷ bytes) text line from at None blank slash next e f n p k =
     subst P (sym (after-in_line None blank slash at byte (first_or next bytes) (All-head IsInLine byte bytes p)))
     (chosen P (is_blank byte) _ _
     (λ b. cut bytes (text ++ byte ∷ []) line from (at + 1) None true slash next longer place n rest
-    (knows-blank text line from byte blank slash k b (comment ∙ and-first (blank && ((byte == 99) || (byte == 67))) _ (and-last blank _ (blank-no_c byte b)))))
+    (knows-blank text line from byte blank slash k b (comment ∙ and_left (blank && ((byte == 99) || (byte == 67))) _ (and_right blank _ (blank-no_c byte b)))))
     (λ b. chosen P (starts_comment blank byte (first_or next bytes)) _ _
     (λ c. subst (Cut line from) (sym (frozen None blank None at (at + 1) bytes next)) (cut-comment text line bytes from at byte blank slash e f k b (comment ∙ c)))
     (λ c. chosen P (byte == 92) _ _

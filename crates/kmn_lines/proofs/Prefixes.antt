@@ -2,17 +2,18 @@
 use Rattle.std.proofs.Common.{◌≡◌, ℕ, ◌+◌, ◌⊎◌, inl, inr, true, List, [], ◌∷◌, take, drop, refl, sym, subst}
 use Rattle.std.specs.Prelude.{codes}
 use Rattle.std.specs.List.{list_all}
+use Rattle.std.proofs.lemmas.Bool.{and_from}
 use Rattle.kmn_base.specs.Bytes.{is_blank}
 use Rattle.kmn_lines.specs.Lines.{blanks, begins_with, is_skipped, dropped}
 use Rattle.kmn_lines.specs.Laws.{IsBlankText, IsPrefix, PrefixesAreDropped}
 use Rattle.kmn_lines.proofs.Sizes.{both, take-one}
-use Rattle.kmn_lines.proofs.Cuts.{and-both, or-cases}
+use Rattle.kmn_lines.proofs.Cuts.{or-cases}
 
 blank-first : (text : List ℕ) → IsBlankText (take (blanks text) text)
 blank-first [] = refl
 blank-first (byte ∷ bytes) =
     both (λ n. IsBlankText (take n (byte ∷ bytes))) (is_blank byte) (1 + blanks bytes) 0
-    (λ e. subst IsBlankText (sym (take-one (blanks bytes) byte bytes)) (and-both (is_blank byte) (list_all is_blank (take (blanks bytes) bytes)) e (blank-first bytes)))
+    (λ e. subst IsBlankText (sym (take-one (blanks bytes) byte bytes)) (and_from (is_blank byte) (list_all is_blank (take (blanks bytes) bytes)) e (blank-first bytes)))
     (λ e. refl)
 
 abbrev IsDropped : List ℕ → ℕ → Type 0

@@ -1,7 +1,7 @@
 -- How far tokens reach, and which bytes words have.
 use Rattle.std.proofs.Common.{◌≡◌, ℕ, zero, suc, ◌+◌, ◌<◌, ◌≤◌, Bool, true, false, ◌&&◌, ◌||◌, not, if◌then◌else◌, ◌==◌, List, [], ◌∷◌, length, take, drop, Option, None, Some, is_some, refl, sym, ◌∙◌, ap, subst, arith, length-drop}
 use Rattle.std.specs.Prelude.{◌≢◌, nat_le, All, unwrap_or}
-use Rattle.std.proofs.lemmas.Bool.{ne_eqb, leb-true}
+use Rattle.std.proofs.lemmas.Bool.{ne_eqb, leb-true, not-true, cond-false}
 use Rattle.std.proofs.lemmas.List.Elements.{All-cons, All-nil}
 use Rattle.kmn_base.specs.Bytes.{is_blank, is_quote, hex_digit}
 use Rattle.kmn_lines.specs.Bytes.{first_or_end}
@@ -15,7 +15,7 @@ pub both : (P : ℕ → Type 0) (b : Bool) (n m : ℕ) → (b ≡ true → P n) 
 both P true n m g h = g refl
 both P false n m g h = h refl
 
--- how a conjunction, a disjunction and a negation come to be
+-- how a conjunction and a disjunction come to be
 pub or-false : (a b : Bool) → (a || b) ≡ false → (a ≡ false) × (b ≡ false)
 or-false true b h = absurd cc
 or-false false b h = (refl, h)
@@ -23,10 +23,6 @@ or-false false b h = (refl, h)
 pub and-true : (a b : Bool) → (a && b) ≡ true → (a ≡ true) × (b ≡ true)
 and-true true b h = (refl, h)
 and-true false b h = absurd cc
-
-not-true : (a : Bool) → not a ≡ true → a ≡ false
-not-true true h = sym h
-not-true false h = refl
 
 none_of : (a b c d : Bool) → a ≡ false → b ≡ false → c ≡ false → d ≡ false → not (a || b || c || d) ≡ true
 none_of true b c d e f g h = cc
@@ -107,7 +103,7 @@ token_size-some (byte ∷ bytes) h blank =
     (λ alone. both some (in_word byte (first_or_end bytes)) _ _ (λ e. omega arith)
     (λ e. let w = in_word-from byte (first_or_end bytes) blank quote alone unequal in absurd cc)))))
 
-not_number-take : (n : ℕ) (text : List ℕ) → starts_number text ≡ false → starts_number (take n text) ≡ false
+pub not_number-take : (n : ℕ) (text : List ℕ) → starts_number text ≡ false → starts_number (take n text) ≡ false
 not_number-take zero text h = refl
 not_number-take (suc n) [] h = refl
 not_number-take (suc n) (a ∷ []) h = elim n as (λ k. starts_number (take (suc k) (a ∷ [])) ≡ false) [ zero ↦ refl | suc m ↦ refl ]
@@ -116,7 +112,7 @@ not_number-take (suc (suc n)) (a ∷ b ∷ []) h = elim n as (λ k. starts_numbe
 not_number-take (suc (suc zero)) (a ∷ b ∷ c ∷ bytes) h = refl
 not_number-take (suc (suc (suc n))) (a ∷ b ∷ c ∷ bytes) h = h
 
-number-take : (n : ℕ) (text : List ℕ) → 3 ≤ n → starts_number (take n text) ≡ starts_number text
+pub number-take : (n : ℕ) (text : List ℕ) → 3 ≤ n → starts_number (take n text) ≡ starts_number text
 number-take n [] h = elim n as (λ k. starts_number (take k []) ≡ false) [ zero ↦ refl | suc m ↦ refl ]
 number-take zero (a ∷ bytes) h = absurd (omega arith)
 number-take (suc zero) (a ∷ bytes) h = absurd (omega arith)
@@ -186,13 +182,9 @@ number-no_word : (text : List ℕ) → starts_number text ≡ true → token_kin
 unfolding token_kind
 number-no_word text = chosen-number (starts_number text) _ _
 
-unless-number : (b : Bool) (x y : TokenKind) → b ≡ false → (if b then x else y) ≡ y
-unless-number true x y e = absurd cc
-unless-number false x y e = refl
-
 kind-plain : (text : List ℕ) → starts_number text ≡ false → token_kind text ≡ plain_kind (first_or_end text) (first_or_end (drop 1 text))
 unfolding token_kind
-kind-plain text = unless-number (starts_number text) _ _
+kind-plain text = cond-false (starts_number text) _ _
 
 chosen-word : (q u : Bool) (k : TokenKind) → (if q then Quoted else (if u then Unequal else k)) ≡ Word → (q ≡ false) × (u ≡ false) × (k ≡ Word)
 chosen-word true u k h = absurd cc
@@ -204,7 +196,7 @@ word-first m byte bytes number h =
     let none : starts_number (byte ∷ take m bytes) ≡ false = not_number-take (suc m) (byte ∷ bytes) number in
     chosen-word (is_quote byte) (is_unequal byte (first_or_end (take m bytes))) (unwrap_or (single byte) Word) (sym (kind-plain (byte ∷ take m bytes) none) ∙ h)
 
-number-digit : (text : List ℕ) → starts_number text ≡ true → 3 ≤ 2 + word_size (drop 2 text)
+pub number-digit : (text : List ℕ) → starts_number text ≡ true → 3 ≤ 2 + word_size (drop 2 text)
 number-digit [] h = absurd cc
 number-digit (a ∷ []) h = absurd cc
 number-digit (a ∷ b ∷ []) h = absurd cc
@@ -213,7 +205,7 @@ number-digit (a ∷ b ∷ c ∷ bytes) h =
     let some : 0 < word_size (c ∷ bytes) = both (λ n. 0 < n) (in_word c (first_or_end bytes)) _ _ (λ e. omega arith) (λ e. let w = hex-in_word c (first_or_end bytes) digit.1 in absurd cc) in
     omega arith
 
-first-take : (bytes : List ℕ) → first_or_end (take 1 bytes) ≡ first_or_end bytes
+pub first-take : (bytes : List ℕ) → first_or_end (take 1 bytes) ≡ first_or_end bytes
 first-take [] = refl
 first-take (byte ∷ bytes) = refl
 

@@ -94,15 +94,15 @@ then-read : (group : LastGroup) (place : Where) (items : Result (List SrcItem) F
 then-read group place (Ok items) next read more = more items (section-read place items read)
 then-read group place (Err found) next read more = tt
 
-first-none : (head : Option Code) (later : Option Fault) → first_of head later ≡ None → (head ≡ None) × (later ≡ None)
+pub first-none : (head : Option Code) (later : Option Fault) → first_of head later ≡ None → (head ≡ None) × (later ≡ None)
 first-none None later e = (refl, e)
 first-none (Some head) later e = cc
 
-unless-none : (test : Bool) (wrong : Code) → unless test wrong ≡ None → test ≡ true
+pub unless-none : (test : Bool) (wrong : Code) → unless test wrong ≡ None → test ≡ true
 unless-none true wrong e = refl
 unless-none false wrong e = cc
 
-mapped-none : {A B : Type 0} (f : A → B) (o : Option A) → option_map f o ≡ None → o ≡ None
+pub mapped-none : {A B : Type 0} (f : A → B) (o : Option A) → option_map f o ≡ None → o ≡ None
 mapped-none f None e = refl
 mapped-none f (Some x) e = cc
 

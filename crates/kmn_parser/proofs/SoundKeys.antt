@@ -46,7 +46,7 @@ record AreFlags (flags : ℕ) : Type 0 where
   virtual : bit_and flags 0x4000 ≡ 0x4000
   known : bit_and flags 0x437F ≡ flags
 
-or-within : (a b mask : ℕ) → bit_and a mask ≡ a → bit_and b mask ≡ b → bit_and (bit_or a b) mask ≡ bit_or a b
+pub or-within : (a b mask : ℕ) → bit_and a mask ≡ a → bit_and b mask ≡ b → bit_and (bit_or a b) mask ≡ bit_or a b
 or-within a b mask e f =
     same_from_bits (bit_and (bit_or a b) mask) (bit_or a b)
     (λ i.
@@ -140,7 +140,7 @@ own-key token sound word own = record {
   form = own;
 }
 
-no-code : (code : Option ℕ) (own : Bool) → (is_some code || own) ≡ true → code ≡ None → own ≡ true
+pub no-code : (code : Option ℕ) (own : Bool) → (is_some code || own) ≡ true → code ≡ None → own ≡ true
 no-code None own e f = e
 no-code (Some code) own e f = cc
 

@@ -39,7 +39,7 @@ drop-suc zero text byte bytes e = ap (drop 1) e
 drop-suc (suc n) [] byte bytes e = cc
 drop-suc (suc n) (x ∷ xs) byte bytes e = drop-suc n xs byte bytes e
 
-drop-next : (at : ℕ) (text : List ℕ) (byte : ℕ) (bytes : List ℕ) → drop at text ≡ byte ∷ bytes → drop (at + 1) text ≡ bytes
+pub drop-next : (at : ℕ) (text : List ℕ) (byte : ℕ) (bytes : List ℕ) → drop at text ≡ byte ∷ bytes → drop (at + 1) text ≡ bytes
 drop-next at text byte bytes e = ap (λ (n : ℕ). drop n text) (add-one at) ∙ drop-suc at text byte bytes e
 
 taken-length : (n : ℕ) (bytes : List ℕ) → take (length (take n bytes)) bytes ≡ take n bytes
@@ -48,7 +48,7 @@ taken-length (suc n) [] = refl
 taken-length (suc n) (byte ∷ bytes) = ap (λ more. byte ∷ more) (taken-length n bytes)
 
 -- the text of a token that begins with the bytes behind a place
-text-at : (source : List ℕ) (end line at size : ℕ) (bytes : List ℕ) → drop at (take end source) ≡ bytes → 0 < length bytes
+pub text-at : (source : List ℕ) (end line at size : ℕ) (bytes : List ℕ) → drop at (take end source) ≡ bytes → 0 < length bytes
     → text_of source (token_at line at (take size bytes)) ≡ take size bytes
 text-at source end line at size bytes e some =
     let text : List ℕ = take end source in
@@ -99,7 +99,7 @@ parts-faultless source (p ∷ ps) none =
     (scanned-faultless source p.to p.line 0 p.from (part_text source p) refl both.0)
     (parts-faultless source ps both.1)
 
-no-refusal : (line : ℕ) (code : Option Code) → option_map (refusal line) code ≡ None → code ≡ None
+pub no-refusal : (line : ℕ) (code : Option Code) → option_map (refusal line) code ≡ None → code ≡ None
 no-refusal line None e = refl
 no-refusal line (Some code) e = cc
 

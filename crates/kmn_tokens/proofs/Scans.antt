@@ -1,5 +1,6 @@
 -- One step of a scan: the token that the bytes begin with, and what is left behind it.
 use Rattle.std.proofs.Common.{◌≡◌, ℕ, zero, suc, ◌+◌, ◌-◌, ◌<◌, ◌≤◌, Bool, true, false, ◌||◌, not, if◌then◌else◌, List, [], ◌∷◌, ◌++◌, length, take, drop, get_or, Option, None, Some, is_some, Ok, refl, sym, ◌∙◌, ap, subst, arith, append_assoc, add-one, drop-cons}
+use Rattle.std.proofs.lemmas.Bool.{cond-false, or_left}
 use Rattle.kmn_base.specs.declared.codes.Code.{Code}
 use Rattle.kmn_base.specs.Bytes.{is_blank, is_quote}
 use Rattle.kmn_lines.specs.Bytes.{first_or_end, or_else}
@@ -36,10 +37,6 @@ first_fault_skip zero bytes = refl
 first_fault_skip (suc n) [] = refl
 first_fault_skip (suc n) (byte ∷ bytes) = first_fault_skip n bytes
 
-unless : {X : Type 0} (b : Bool) (x y : X) → b ≡ false → (if b then x else y) ≡ y
-unless true x y e = cc
-unless false x y e = refl
-
 drop_behind : (byte : ℕ) (bytes : List ℕ) (size : ℕ) → 0 < size → drop (size - 1) bytes ≡ drop size (byte ∷ bytes)
 drop_behind byte bytes zero h = absurd (omega arith)
 drop_behind byte bytes (suc n) h = ap (λ (k : ℕ). drop k bytes) (omega arith)
@@ -51,7 +48,7 @@ scanned_step line at byte bytes size blank e some =
     scanned_skip line (size - 1) (at + 1) bytes
     ∙ ap (λ (k : ℕ). scanned line 0 k (drop (size - 1) bytes)) (omega arith)
     ∙ ap (λ (bs : List ℕ). scanned line 0 (at + size) bs) (drop_behind byte bytes size some) in
-    unless (is_blank byte) _ _ blank
+    cond-false (is_blank byte) _ _ blank
     ∙ subst (λ (n : ℕ). token_at line at (take n (byte ∷ bytes)) ∷ scanned line (n - 1) (at + 1) bytes ≡ token_at line at (take size (byte ∷ bytes)) ∷ scanned line 0 (at + size) (drop size (byte ∷ bytes))) e
     (ap (λ (ts : List Token). token_at line at (take size (byte ∷ bytes)) ∷ ts) rest)
 
@@ -60,7 +57,7 @@ pub first_fault_step : (byte : ℕ) (bytes : List ℕ) (size : ℕ) → is_blank
 first_fault_step byte bytes size blank e some =
     let rest : first_fault (size - 1) bytes ≡ first_fault 0 (drop size (byte ∷ bytes)) =
     first_fault_skip (size - 1) bytes ∙ ap (λ (bs : List ℕ). first_fault 0 bs) (drop_behind byte bytes size some) in
-    unless (is_blank byte) _ _ blank
+    cond-false (is_blank byte) _ _ blank
     ∙ subst (λ (n : ℕ). or_else (token_fault (take n (byte ∷ bytes))) (first_fault (n - 1) bytes) ≡ or_else (token_fault (take size (byte ∷ bytes))) (first_fault 0 (drop size (byte ∷ bytes)))) e
     (ap (λ (f : Option Code). or_else (token_fault (take size (byte ∷ bytes))) f) rest)
 
@@ -92,10 +89,6 @@ first_is (byte ∷ bytes) h = refl
 drop-step : (text : List ℕ) (at : ℕ) → at < length text → drop at text ≡ get_or text at 0 ∷ drop (at + 1) text
 drop-step text at h = rw (add-one at) (drop-cons text at 0 h)
 
-either-true : (a b : Bool) → a ≡ true → (a || b) ≡ true
-either-true true b e = refl
-either-true false b e = cc
-
 either-false : (a b : Bool) → a ≡ false → (a || b) ≡ b
 either-false true b e = cc
 either-false false b e = refl
@@ -104,7 +97,7 @@ either-false false b e = refl
 pub forbidden_here : (text : List ℕ) (at : ℕ) → at < length text → begins_forbidden (drop at text) ≡ true → has_forbidden (drop at text) ≡ true
 forbidden_here text at h e =
     let cons = drop-step text at h in
-    ap has_forbidden cons ∙ either-true (begins_forbidden (get_or text at 0 ∷ drop (at + 1) text)) (has_forbidden (drop (at + 1) text)) (ap begins_forbidden (sym cons) ∙ e)
+    ap has_forbidden cons ∙ or_left (begins_forbidden (get_or text at 0 ∷ drop (at + 1) text)) (has_forbidden (drop (at + 1) text)) (ap begins_forbidden (sym cons) ∙ e)
 
 -- no forbidden character at a place
 pub forbidden_step : (text : List ℕ) (at : ℕ) → at < length text → begins_forbidden (drop at text) ≡ false → has_forbidden (drop (at + 1) text) ≡ has_forbidden (drop at text)

@@ -1,5 +1,5 @@
 -- The lengths of the stores that the statements of a text stand for.
-use Rattle.std.proofs.Common.{◌≡◌, ℕ, zero, suc, ◌+◌, ◌-◌, Bool, true, false, List, [], ◌∷◌, ◌++◌, length, drop, map, Option, None, Some, is_some, refl, sym, ap, ◌∙◌, arith, length-append, if◌then◌else◌}
+use Rattle.std.proofs.Common.{◌≡◌, ℕ, suc, ◌+◌, ◌-◌, Bool, true, false, List, [], ◌∷◌, ◌++◌, length, drop, map, Option, None, Some, is_some, refl, sym, ap, ◌∙◌, arith, length-append, if◌then◌else◌}
 use Rattle.std.specs.Prelude.{All, flat_map, nat_eq, slice_get, unwrap_or, chars}
 use Rattle.std.specs.List.{range_with_len, join_with_byte}
 use Rattle.std.specs.Str.{IsUtf8}
@@ -24,6 +24,7 @@ use Rattle.checker_laws.proofs.Sizes.{space_chars}
 use Rattle.decompile_laws.specs.Marks.{greatest_mark}
 use Rattle.decompile_laws.specs.Items.{Names, back_element}
 use Rattle.decompile_laws.specs.Back.{back_stores, numbered, stated_marks, stated_key, mark_store, key_store, version_text, mark_stores, key_stores, front_stores, free_stores, names_for, written_stores}
+use Rattle.file_text.proofs.WholeTexts.{first_left, one_less}
 use Rattle.kmx_decompiler.specs.Counting.{some_length, called_lengths, spaced_size, joined_length}
 
 abbrev pub length_of : Store → ℕ
@@ -97,23 +98,6 @@ module _ (names : SourceNames) where
   back-listed called line (None ∷ calls) (store ∷ stores) = back-listed called line calls stores
   back-listed called line (Some name ∷ calls) (store ∷ stores) =
       λ j. singles (back_element called) (element-single called) store.elements j ∷ back-listed called (line + 1) calls stores j
-
-  first_left : {X : Type 0} (xs : List X) (n : ℕ) → slice_get (drop n xs) 0 ≡ slice_get xs n
-  first_left [] zero = refl
-  first_left [] (suc n) = refl
-  first_left (x ∷ xs) zero = refl
-  first_left (x ∷ xs) (suc n) = first_left xs n
-
-  one_by_one : {X : Type 0} (xs : List X) (n : ℕ) → drop 1 (drop n xs) ≡ drop (suc n) xs
-  one_by_one [] zero = refl
-  one_by_one [] (suc n) = refl
-  one_by_one (x ∷ xs) zero = refl
-  one_by_one (x ∷ xs) (suc n) = one_by_one xs n
-
-  one_less : {X : Type 0} (xs : List X) (n : ℕ) → drop 1 (drop n xs) ≡ drop (n + 1) xs
-  one_less xs n =
-      let next : suc n ≡ n + 1 = omega arith in
-      one_by_one xs n ∙ ap (λ (m : ℕ). drop m xs) next
 
   from_number : (all : List (Option (List ℕ))) (n : ℕ) (calls : List (Option (List ℕ))) (stores : List Store) → calls ≡ drop n all → listed calls stores ≡ called_lengths all n stores
   from_number all n calls [] e = refl

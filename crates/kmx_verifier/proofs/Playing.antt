@@ -2,7 +2,7 @@
 use Rattle.std.proofs.Common.{◌≡◌, ◌≢◌, ℕ, zero, suc, ◌+◌, ◌^◌, ◌<◌, ◌≤◌, ◌⊎◌, Bool, true, false, not, ◌&&◌, nat_eq, nat_lt, List, [], length, map, None, refl, sym, ap, subst, ◌∙◌, arith, length-append, lit≤, bit_and}
 use Rattle.std.specs.Prelude.{if◌then◌else◌}
 use Rattle.std.specs.List.{All, flat_map}
-use Rattle.std.proofs.lemmas.Bool.{eqb-true}
+use Rattle.std.proofs.lemmas.Bool.{eqb-true, not-false}
 use Rattle.std.proofs.lemmas.List.Elements.{All-nil, All-cons, All-weaker}
 use Rattle.kmn_base.specs.declared.keys.RuleKey.TheVariants as key
 use Rattle.kmn_base.specs.declared.keys.TheConstants.{SHIFT_FLAGS}
@@ -23,7 +23,7 @@ use Rattle.kmx_verifier.specs.Items.{target_of, points_right}
 use Rattle.kmx_verifier.specs.FaultOf.{walk_fault, context_fault, item_count, read_at, read_fault, string_fault, read_context_fault, context_string_fault, context_targets, too_many_elements, store_fault, stores_fault, elements_in, flags_fault, record_fault, records_fault, records_place_fault, group_strings_fault, group_fault, groups_fault, no_group, size_fault, header_fault, arrays_fault, fault_of, IsValid}
 use Rattle.kmn_base.proofs.SmallBytes.{AreBytes}
 use Rattle.kmx_format.proofs.SmallNumbers.{word_at-small, half_at-small, half_at-word, string_at-small}
-use Rattle.kmx_verifier.proofs.Sound.{or_else-none, broken-none, broken_by-none, unnot, ItemStands}
+use Rattle.kmx_verifier.proofs.Sound.{or_else-none, broken-none, broken_by-none, ItemStands}
 use Rattle.kmx_verifier.proofs.Contents.{Contents, elements_read, outputs_read, match_outputs_read, acts_alone, outputs_stores, outputs_groups, targets_of, ContextRead, context_read, points_into}
 
 -- a string without a fault: its walk has none, and its items aren't too many
@@ -56,7 +56,7 @@ key_by_flags false code flags nonzero small known = (nonzero refl, known, small)
 key_playable : (using_keys : Bool) (code flags : ℕ) → code < 2 ^ 16 → (using_keys && not (nat_eq (bit_and flags SHIFT_FLAGS) flags)) ≡ false → IsWritableKey using_keys (key_of using_keys code flags)
 key_playable false code flags small h = tt
 key_playable true code flags small h =
-    key_by_flags (nat_eq flags 0) code flags (some flags) small (eqb-true (bit_and flags SHIFT_FLAGS) flags (unnot (nat_eq (bit_and flags SHIFT_FLAGS) flags) h))
+    key_by_flags (nat_eq flags 0) code flags (some flags) small (eqb-true (bit_and flags SHIFT_FLAGS) flags (not-false (nat_eq (bit_and flags SHIFT_FLAGS) flags) h))
 
 -- as many records are read as there are
 length-stores_from : (bytes : List ℕ) (place count : ℕ) → length (stores_from bytes place count) ≡ count
@@ -215,7 +215,7 @@ module _ (bytes : List ℕ) (are_bytes : AreBytes bytes) where
       let no_unicode = or_else-none _ _ many_groups.1 in
       let ansi = or_else-none _ _ no_unicode.1 in
       let unicode = or_else-none _ _ ansi.1 in
-      let known : is_version (word_at bytes 4) ≡ true = unnot _ (broken-none _ 4 _ version.0) in
+      let known : is_version (word_at bytes 4) ≡ true = not-false _ (broken-none _ 4 _ version.0) in
       let lower : half_at bytes 4 ≡ word_at bytes 4 = half_at-word bytes 4 are_bytes (omega (arith, not_more (length bytes) 64 long)) (version-small (word_at bytes 4) known) in
       let store_total = stores_playable 0 (word_at bytes 32) (store_count bytes) (lit≤ tt) stores.0 in
       let group_total = groups_playable 0 (word_at bytes 36) (group_count bytes) (lit≤ tt) groups.0 in

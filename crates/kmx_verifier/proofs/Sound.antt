@@ -1,6 +1,7 @@
 -- What holds of a string whose walk finds no fault.
-use Rattle.std.proofs.Common.{◌≡◌, ℕ, ◌+◌, ◌-◌, ◌<◌, ◌⊎◌, Bool, true, false, not, List, [], ◌∷◌, ◌++◌, map, Option, None, Some, refl, sym, ◌∙◌, ap, inl, inr, arith}
+use Rattle.std.proofs.Common.{◌≡◌, ℕ, ◌+◌, ◌-◌, ◌<◌, ◌⊎◌, Bool, true, false, List, [], ◌∷◌, ◌++◌, map, Option, None, Some, refl, sym, ◌∙◌, ap, inl, inr, arith}
 use Rattle.std.specs.Prelude.{Ok, Err}
+use Rattle.std.proofs.lemmas.Bool.{not-false}
 use Rattle.kmn_base.specs.declared.codes.Code.{Code}
 use Rattle.kmn_base.specs.declared.items.Element.{Element}
 use Rattle.kmn_base.specs.declared.units.UnitItem.{UnitItem}
@@ -31,10 +32,6 @@ pub broken_by-none : (unit at : ℕ) (c : Bool) → broken_by unit at c ≡ None
 broken_by-none unit at true h = absurd (cc)
 broken_by-none unit at false h = refl
 
-pub unnot : (c : Bool) → not c ≡ false → c ≡ true
-unnot true h = refl
-unnot false h = absurd (cc)
-
 -- an item without a fault
 pub record ItemStands (bytes : List ℕ) (kind : StringKind) (targets : List Target) (item : UnitItem) : Type 0 where
   pub stands : may_stand kind item ≡ true
@@ -48,9 +45,9 @@ item_stands bytes kind targets item at h =
     let second = or_else-none _ _ first.1 in
     let third = or_else-none _ _ second.1 in
     record {
-      stands = unnot _ (broken_by-none (code_of item) at _ first.0);
+      stands = not-false _ (broken_by-none (code_of item) at _ first.0);
       named = broken-none _ at _ second.0;
-      points = unnot _ (broken-none _ at _ third.0);
+      points = not-false _ (broken-none _ at _ third.0);
     }
 
 -- items without a fault, where offsets point into a context

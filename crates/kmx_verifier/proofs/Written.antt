@@ -3,6 +3,7 @@ use Rattle.std.proofs.Common.{◌≡◌, ◌≢◌, ℕ, zero, suc, ◌+◌, ◌
 use Rattle.std.specs.Prelude.{Ok, slice_get, slice_index_or, IsSomeAnd}
 use Rattle.std.specs.List.{All, flat_map, list_any}
 use Rattle.std.specs.Str.{chars}
+use Rattle.std.proofs.lemmas.Bool.{or_right}
 use Rattle.std.proofs.lemmas.List.{length-map}
 use Rattle.std.proofs.lemmas.List.Elements.{All-nil, All-cons, All-head, All-tail, All-append, All-map}
 use Rattle.kmn_base.specs.declared.codes.Code.TheVariants.{V10, V15}
@@ -36,10 +37,6 @@ use Rattle.kmx_verifier.proofs.Clean.{both, unbroken, unbroken_not, walk_clean, 
 use Rattle.kmx_verifier.proofs.Contents.{targets_of, targets_more}
 
 -- ---- strings that end
-
-or_right : (b c : Bool) → c ≡ true → (b || c) ≡ true
-or_right true c h = refl
-or_right false c h = h
 
 has_zero-behind : (units rest : List ℕ) → has_zero (units ++ 0 ∷ rest) ≡ true
 has_zero-behind [] rest = refl

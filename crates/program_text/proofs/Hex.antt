@@ -2,7 +2,7 @@
 use Rattle.std.proofs.Common.{◌≡◌, ℕ, zero, suc, ◌+◌, ◌-◌, ◌*◌, ◌/◌, ◌%◌, ◌<◌, ◌≤◌, inl, inr, Bool, true, false, not, ◌&&◌, ◌||◌, if◌then◌else◌, ◌==◌, List, [], ◌∷◌, ◌++◌, length, Option, None, Some, is_some, refl, sym, ◌∙◌, ap, subst, arith, length-append}
 use Rattle.std.specs.Prelude.{◌≢◌, unwrap_or, min, nat_le, nat_lt}
 use Rattle.std.specs.List.{list_all}
-use Rattle.std.proofs.lemmas.Bool.{and_from, ne_eqb, or_left, or_right, leb-true, le-leb, lt-leb, lt-ltb, cases_lt, ltb-true}
+use Rattle.std.proofs.lemmas.Bool.{and_from, ne_eqb, or_left, or_right, leb-true, le-leb, lt-leb, lt-ltb, cases_lt, ltb-true, cond-true, cond-false, and_left, and_right}
 use Rattle.std.proofs.Math.Nat.{mod-lt, min-eq_left}
 use Rattle.std.proofs.lemmas.Nat.{div-add-mod'}
 use lib.Utf8.{scalar, scalar_cases}
@@ -14,7 +14,7 @@ use Rattle.kmn_parser.specs.ProgramLaws.{IsCharacter}
 use Rattle.program_text.specs.Texts.{hex_glyph, hex_text, hex_count, char_text}
 use Rattle.program_text.specs.Names.{is_inner}
 use Rattle.program_text.proofs.LineForms.{IsReadBack, IsNumberText, ends_word, is_plain_byte, is_still_byte}
-use Rattle.program_text.proofs.Words.{choose-then, choose-else, word_size-ended}
+use Rattle.program_text.proofs.Words.{word_size-ended}
 
 -- a byte of a word that is no backslash
 abbrev pub is_safe_byte : ℕ → Bool
@@ -69,20 +69,16 @@ digits-ascii (d ∷ digits) e = let two = and-true (is_some (hex_digit d)) (all_
 -- a digit that is written has its value
 glyph-digit : (n : ℕ) → n < 16 → hex_digit (hex_glyph n) ≡ Some n
 glyph-digit n h = elim (cases_lt n 10) [
-  | inl l ↦ subst (λ (b : ℕ). hex_digit b ≡ Some n) (sym (choose-then (nat_lt n 10) (48 + n) (55 + n) (lt-ltb n 10 l)))
-      (choose-then (nat_le 48 (48 + n) && nat_le (48 + n) 57) _ _ (and_from _ _ (le-leb 48 (48 + n) (omega arith)) (le-leb (48 + n) 57 (omega arith)))
+  | inl l ↦ subst (λ (b : ℕ). hex_digit b ≡ Some n) (sym (cond-true (nat_lt n 10) (48 + n) (55 + n) (lt-ltb n 10 l)))
+      (cond-true (nat_le 48 (48 + n) && nat_le (48 + n) 57) _ _ (and_from _ _ (le-leb 48 (48 + n) (omega arith)) (le-leb (48 + n) 57 (omega arith)))
       ∙ (let e : 48 + n - 48 ≡ n = omega arith in ap Some e))
-  | inr g ↦ subst (λ (b : ℕ). hex_digit b ≡ Some n) (sym (choose-else (nat_lt n 10) (48 + n) (55 + n) (ltb-no n g)))
-      (choose-else (nat_le 48 (55 + n) && nat_le (55 + n) 57) _ _ (and-no _ _ (lt-leb (55 + n) 57 (omega arith)))
-      ∙ choose-then (nat_le 65 (55 + n) && nat_le (55 + n) 70) _ _ (and_from _ _ (le-leb 65 (55 + n) (omega arith)) (le-leb (55 + n) 70 (omega arith)))
+  | inr g ↦ subst (λ (b : ℕ). hex_digit b ≡ Some n) (sym (cond-false (nat_lt n 10) (48 + n) (55 + n) (ltb-no n g)))
+      (cond-false (nat_le 48 (55 + n) && nat_le (55 + n) 57) _ _ (and_right _ _ (lt-leb (55 + n) 57 (omega arith)))
+      ∙ cond-true (nat_le 65 (55 + n) && nat_le (55 + n) 70) _ _ (and_from _ _ (le-leb 65 (55 + n) (omega arith)) (le-leb (55 + n) 70 (omega arith)))
       ∙ (let e : 55 + n - 55 ≡ n = omega arith in ap Some e))
 ] where
   ltb-no : (n : ℕ) → 10 ≤ n → nat_lt n 10 ≡ false
   ltb-no n g = grind (arith, g)
-
-  and-no : (a b : Bool) → b ≡ false → (a && b) ≡ false
-  and-no true b e = e
-  and-no false b e = refl
 
 -- so many digits
 abbrev pub bound : ℕ → ℕ
@@ -111,11 +107,7 @@ forbidden-not byte bytes e =
     let two = and-true (nat_lt 0 byte) (nat_lt byte 128) e in
     let low : 0 < byte = ltb-true 0 byte two.0 in
     let high : byte < 128 = ltb-true byte 128 two.1 in
-    or-both _ _ (ne_eqb byte 0 (omega arith)) (and-no _ _ (ne_eqb 239 byte (omega arith)))
-  where
-    and-no : (a b : Bool) → a ≡ false → (a && b) ≡ false
-    and-no true b e = absurd cc
-    and-no false b e = refl
+    or-both _ _ (ne_eqb byte 0 (omega arith)) (and_left _ _ (ne_eqb 239 byte (omega arith)))
 
 pub ascii-allowed : (bytes : List ℕ) → list_all is_ascii_byte bytes ≡ true → has_forbidden bytes ≡ false
 ascii-allowed [] e = refl
@@ -148,11 +140,11 @@ pub record HasDigits (c count : ℕ) : Type 0 where
 
 counted : (c : ℕ) → c < 0x11_0000 → HasDigits c (hex_count c)
 counted c h = elim (cases_lt c 0x1_0000) [
-  | inl l ↦ subst (HasDigits c) (sym (choose-then (nat_lt c 0x1_0000) 4 _ (lt-ltb c 0x1_0000 l))) (record { few = omega arith; many = omega arith; fits = l })
-  | inr g ↦ subst (HasDigits c) (sym (choose-else (nat_lt c 0x1_0000) 4 _ (grind (arith, g))))
+  | inl l ↦ subst (HasDigits c) (sym (cond-true (nat_lt c 0x1_0000) 4 _ (lt-ltb c 0x1_0000 l))) (record { few = omega arith; many = omega arith; fits = l })
+  | inr g ↦ subst (HasDigits c) (sym (cond-false (nat_lt c 0x1_0000) 4 _ (grind (arith, g))))
       (elim (cases_lt c 0x10_0000) as (λ _. HasDigits c (if nat_lt c 0x10_0000 then 5 else 6)) [
-        | inl l ↦ subst (HasDigits c) (sym (choose-then (nat_lt c 0x10_0000) 5 6 (lt-ltb c 0x10_0000 l))) (record { few = omega arith; many = omega arith; fits = l })
-        | inr k ↦ subst (HasDigits c) (sym (choose-else (nat_lt c 0x10_0000) 5 6 (grind (arith, k)))) (record { few = omega arith; many = omega arith; fits = omega arith })
+        | inl l ↦ subst (HasDigits c) (sym (cond-true (nat_lt c 0x10_0000) 5 6 (lt-ltb c 0x10_0000 l))) (record { few = omega arith; many = omega arith; fits = l })
+        | inr k ↦ subst (HasDigits c) (sym (cond-false (nat_lt c 0x10_0000) 5 6 (grind (arith, k)))) (record { few = omega arith; many = omega arith; fits = omega arith })
       ])
 ]
 
@@ -171,8 +163,8 @@ valid-scalar c e = elim (scalar_cases c e) [
 
 sound-value : (c : ℕ) → IsCharacter c → value_fault c ≡ None
 sound-value c ok =
-    choose-else ((c == 0) || (c == 0xFFFF)) _ _ (or-both _ _ (ne_eqb c 0 ok.not_first) (ne_eqb c 0xFFFF ok.not_last))
-    ∙ choose-then (is_scalar c) _ _ (valid-scalar c ok.valid)
+    cond-false ((c == 0) || (c == 0xFFFF)) _ _ (or-both _ _ (ne_eqb c 0 ok.not_first) (ne_eqb c 0xFFFF ok.not_last))
+    ∙ cond-true (is_scalar c) _ _ (valid-scalar c ok.valid)
 
 -- a number before what ends a word
 number-back : (first c : ℕ) (digits rest : List ℕ) → ((first == 85) || (first == 117)) ≡ true → is_ascii_byte first ≡ true → is_blank first ≡ false → 4 ≤ length digits → length digits ≤ 6
@@ -183,13 +175,13 @@ number-back first c digits rest u ascii blank few many all value valid e =
     record {
       some = omega arith;
       solid = blank;
-      size = choose-then (starts_number (first ∷ 43 ∷ (digits ++ rest))) _ _ (number-starts first digits rest u (omega arith) all)
+      size = cond-true (starts_number (first ∷ 43 ∷ (digits ++ rest))) _ _ (number-starts first digits rest u (omega arith) all)
           ∙ (let size = word_size-ended digits rest (digits-plain digits all) e in omega (arith, size));
-      kind = choose-then (starts_number (first ∷ 43 ∷ digits)) _ _ starts ∙ ap kind.Number value;
-      sound = choose-else (has_forbidden (first ∷ 43 ∷ digits)) _ _ (ascii-allowed (first ∷ 43 ∷ digits) (and_from _ _ ascii (and_from _ _ refl (digits-ascii digits all))))
-          ∙ choose-else (not (is_closed (first ∷ 43 ∷ digits))) _ _ (number-closed first (43 ∷ digits) u)
-          ∙ choose-then (starts_number (first ∷ 43 ∷ digits)) _ _ starts
-          ∙ choose-then (nat_le 4 (length digits) && nat_le (length digits) 6 && all_digits digits) _ _ (and_from _ _ (and_from _ _ (le-leb 4 _ few) (le-leb _ 6 many)) all)
+      kind = cond-true (starts_number (first ∷ 43 ∷ digits)) _ _ starts ∙ ap kind.Number value;
+      sound = cond-false (has_forbidden (first ∷ 43 ∷ digits)) _ _ (ascii-allowed (first ∷ 43 ∷ digits) (and_from _ _ ascii (and_from _ _ refl (digits-ascii digits all))))
+          ∙ cond-false (not (is_closed (first ∷ 43 ∷ digits))) _ _ (number-closed first (43 ∷ digits) u)
+          ∙ cond-true (starts_number (first ∷ 43 ∷ digits)) _ _ starts
+          ∙ cond-true (nat_le 4 (length digits) && nat_le (length digits) 6 && all_digits digits) _ _ (and_from _ _ (and_from _ _ (le-leb 4 _ few) (le-leb _ 6 many)) all)
           ∙ ap value_fault value ∙ valid;
     }
   where

@@ -4,6 +4,7 @@ use Rattle.std.specs.Prelude.{Ok, Err, codes}
 use Rattle.std.specs.Prelude.{not, nat_eq, bit_and, filter, map}
 use Rattle.std.specs.List.{list_all}
 use Rattle.std.specs.Fmt.{decimal}
+use Rattle.std.proofs.lemmas.Bool.{cond-true, cond-false, and_from}
 use Rattle.virtual_keys.specs.Keys.{shift_flags}
 use Rattle.rule_model.specs.declared.program.KeyName.{KeyName}
 use Rattle.kmn_items.specs.Brackets.{flags_of, named_key, key_item, modifier_count}
@@ -36,7 +37,6 @@ use Rattle.program_text.specs.Spelled.{item_lead, seen_lead}
 use Rattle.program_text.specs.Texts.{bracket_closing, bracket_opening, char_token, closing, comma, equal, name_token, opening, unequal, word}
 use Rattle.program_text.proofs.Forms.{IsPrinted, IsPrintedName, IsPrintedOffset, IsPrintedOption}
 use Rattle.program_text.proofs.LineForms.{tokens_in}
-use Rattle.program_text.proofs.Words.{choose-then, choose-else}
 use Rattle.program_text.proofs.SoundItems.{wordy-name}
 
 -- tokens are read as items, wherever they stand in their line
@@ -66,7 +66,7 @@ name-fits name ok = ap (λ b. unless (b && is_name name) S02) (wordy-name name) 
 pub store-name-fits : (name : List ℕ) → IsPrintedName name → is_system_name name ≡ false → slot_fault slot.StoreName (name_token name) ≡ None
 store-name-fits name ok other =
     ap (λ b. unless (b && is_name (bare_name name)) S02) (wordy-name name)
-    ∙ ap (λ (n : List ℕ). unless (is_name n) S02) (choose-else (is_system_name name) (drop 1 name) name other) ∙ ap (λ b. unless b S02) ok.fits
+    ∙ ap (λ (n : List ℕ). unless (is_name n) S02) (cond-false (is_system_name name) (drop 1 name) name other) ∙ ap (λ b. unless b S02) ok.fits
 
 -- a name in parentheses
 call-fits : (last at : ℕ) (first : LineToken) (name : List ℕ) (rest : List LineToken) → IsPrintedName name
@@ -118,10 +118,10 @@ spaced-tokens (text ∷ texts) more = ap (λ (ts : List LineToken). word text �
 
 modifiers-counted : (texts : List (List ℕ)) (name : List ℕ) (rest : List LineToken) → list_all is_modifier texts ≡ true → is_modifier name ≡ false
     → modifier_count (map word texts ++ word name ∷ rest) ≡ length texts
-modifiers-counted [] name rest e f = choose-else (is_modifier name) _ _ f
+modifiers-counted [] name rest e f = cond-false (is_modifier name) _ _ f
 modifiers-counted (text ∷ texts) name rest e f =
     let two = and-true (is_modifier text) (list_all is_modifier texts) e in
-    choose-then (is_modifier text) _ _ two.0 ∙ (let more = modifiers-counted texts name rest two.1 f in omega (arith, more))
+    cond-true (is_modifier text) _ _ two.0 ∙ (let more = modifiers-counted texts name rest two.1 f in omega (arith, more))
 
 drop-bracket : (texts : List (List ℕ)) (more : List LineToken) → drop (length texts) (map word texts ++ more) ≡ more
 drop-bracket [] more = refl
@@ -179,13 +179,9 @@ all-mapped flags [] e = refl
 all-mapped flags (row ∷ rows) e =
     let two = and-true (is_modifier row.0) _ e in
     elim (not (nat_eq (bit_and flags row.1) 0)) as (λ b. list_all is_modifier (map (λ row. row.0) (if b then row ∷ filter (λ row. not (nat_eq (bit_and flags row.1) 0)) rows else filter (λ row. not (nat_eq (bit_and flags row.1) 0)) rows)) ≡ true) [
-      | true ↦ choose-and _ _ two.0 (all-mapped flags rows two.1)
+      | true ↦ and_from _ _ two.0 (all-mapped flags rows two.1)
       | false ↦ all-mapped flags rows two.1
     ]
-  where
-    choose-and : (a b : Bool) → a ≡ true → b ≡ true → (a && b) ≡ true
-    choose-and true b e f = f
-    choose-and false b e f = absurd cc
 
 table-words : list_all (λ row. is_modifier row.0) shift_flags ≡ true
 unfolding shift_flags same_name

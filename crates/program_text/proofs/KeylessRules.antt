@@ -3,7 +3,7 @@ use Rattle.std.proofs.Common.{◌≡◌, ℕ, ◌+◌, ◌-◌, ◌<◌, true, f
 use Rattle.std.specs.Prelude.{Ok, nat_lt}
 use Rattle.std.specs.List.{list_all}
 use Rattle.std.proofs.Math.Seq.{take-append_seam, drop-append-add}
-use Rattle.std.proofs.lemmas.Bool.{lt-ltb}
+use Rattle.std.proofs.lemmas.Bool.{lt-ltb, cond-true}
 use Rattle.kmn_base.specs.declared.codes.Code.TheVariants.{S01, S04, S06}
 use Rattle.kmn_lines.specs.Bytes.{or_else}
 use Rattle.kmn_lines.proofs.Sizes.{and-true}
@@ -24,7 +24,6 @@ use Rattle.program_text.specs.Statements.{plain_pieces}
 use Rattle.program_text.specs.Texts.{arrow, plus}
 use Rattle.program_text.proofs.Forms.{ArePrinted}
 use Rattle.program_text.proofs.LineForms.{items_tokens, tokens_in}
-use Rattle.program_text.proofs.Words.{choose-then}
 use Rattle.program_text.proofs.Sections.{tokens-spaced, tokens-joined, items_read}
 use Rattle.program_text.proofs.Rules.{Without, place-found, items-arrow, items-plus, items-begin, rule-line, output-has}
 
@@ -33,7 +32,7 @@ place-none : (wanted : Sign) (tokens : List LineToken) → Without wanted tokens
 place-none wanted [] none = refl
 place-none wanted (first ∷ tokens) none =
     let two = and-true (not (is_sign wanted first.kind)) (list_all (λ (t : LineToken). not (is_sign wanted t.kind)) tokens) none in
-    choose-then (not (is_sign wanted first.kind)) _ _ two.0 ∙ (let more = place-none wanted tokens two.1 in omega (arith, more))
+    cond-true (not (is_sign wanted first.kind)) _ _ two.0 ∙ (let more = place-none wanted tokens two.1 in omega (arith, more))
 
 free-head : (arrow place : ℕ) (tokens : List LineToken) → nat_lt arrow (length tokens) ≡ true → has_items (drop (arrow + 1) tokens) ≡ true → rule_head WithoutKeys arrow place tokens ≡ None
 unfolding rule_head
@@ -54,7 +53,7 @@ free-body line last arrow plus tokens context output c is e less g =
     ∙ ap (λ r. and_then r (λ key.
     and_then (read_items section.Output unseen last 0 (arrow + 1) (drop (arrow + 1) tokens)) (λ output.
     Ok (record { line = line; kind = Plain; context = context; key = key; output = output }))))
-    (choose-then (not (nat_lt plus arrow)) _ _ (ap not less))
+    (cond-true (not (nat_lt plus arrow)) _ _ (ap not less))
     ∙ ap (λ r. and_then r (λ output. Ok (record { line = line; kind = Plain; context = context; key = None; output = output }))) g
 
 pub free_rule_read : (line : ℕ) (context output : List SrcItem) (first : SrcItem) → ArePrinted section.Context unseen context → ArePrinted section.Output unseen (first ∷ output)

@@ -3,7 +3,7 @@ use Rattle.std.proofs.Common.{◌≡◌, ◌≢◌, ℕ, Bool, true, false, not,
 use Rattle.std.specs.Prelude.{nat_eq, nat_lt, nat_le, unwrap_or, option_map, find}
 use Rattle.std.specs.Char.{to_ascii_lowercase}
 use Rattle.std.specs.List.{list_all}
-use Rattle.std.proofs.lemmas.Bool.{and_parts, and_from, or_right, ne_eqb, eqb-true, eq-eqb, eqb-false, cond-true, cond-false}
+use Rattle.std.proofs.lemmas.Bool.{and_parts, and_from, or_right, ne_eqb, eqb-true, eq-eqb, eqb-false, cond-true, cond-false, not-true, and_left}
 use Rattle.kmn_base.specs.Names.{same_name, named_in}
 use Rattle.kmn_lines.specs.Tokens.{starts_number, begins_forbidden, hex_value}
 use Rattle.kmn_lines.specs.declared.token.TokenKind.TheVariants as kind
@@ -62,10 +62,6 @@ pub some-mapped : {A : Type 0} {B : Type 0} (f : A → B) (o : Option A) → is_
 some-mapped f None e = e
 some-mapped f (Some x) e = refl
 
-not-off : (b : Bool) → not b ≡ true → b ≡ false
-not-off true e = absurd cc
-not-off false e = refl
-
 code-key : (key : KeyName) → IsSpelledKey key → key.code ≢ 0 → IsPrintedKey key
 unfolding is_code_name
 code-key key ok other =
@@ -83,8 +79,8 @@ code-key key ok other =
     record {
       is_word = ap is_word_text text ∙ a.0;
       still = ap (list_all is_still_byte) text ∙ b.0;
-      lone = ap is_alone_c text ∙ not-off _ c.0;
-      apart = ap is_modifier text ∙ not-off _ d.0;
+      lone = ap is_alone_c text ∙ not-true _ c.0;
+      apart = ap is_modifier text ∙ not-true _ d.0;
       known = ap is_key_name text ∙ ap (λ (o : Option ℕ). is_some o || is_own_key name) code;
       flagged = flags_back key.flags ok.virtual ok.flags;
       named = ap (named_key key.flags) text ∙ ap (λ (o : Option ℕ). elim o [
@@ -153,16 +149,12 @@ letters-differ : (x a : ℕ) → not ((x == 116) || (x == 117)) ≡ true → ((a
 letters-differ x a e f = ne_eqb x a (λ same. clash same)
   where
     clash : x ≡ a → ⊥
-    clash same = let g : ((x == 116) || (x == 117)) ≡ true = subst (λ (k : ℕ). ((k == 116) || (k == 117)) ≡ true) (sym same) f in let h : ((x == 116) || (x == 117)) ≡ false = not-off _ e in let k : true ≡ false = sym g ∙ h in absurd cc
+    clash same = let g : ((x == 116) || (x == 117)) ≡ true = subst (λ (k : ℕ). ((k == 116) || (k == 117)) ≡ true) (sym same) f in let h : ((x == 116) || (x == 117)) ≡ false = not-true _ e in let k : true ≡ false = sym g ∙ h in absurd cc
 
 name-differs : (row : List ℕ) (a : ℕ) (rest : List ℕ) → begins_other row ≡ true → ((to_ascii_lowercase a == 116) || (to_ascii_lowercase a == 117)) ≡ true → same_name row (a ∷ rest) ≡ false
 unfolding same_name
 name-differs [] a rest e f = refl
-name-differs (x ∷ xs) a rest e f = and-first (to_ascii_lowercase x == to_ascii_lowercase a) _ (letters-differ (to_ascii_lowercase x) (to_ascii_lowercase a) e f)
-  where
-    and-first : (p q : Bool) → p ≡ false → (p && q) ≡ false
-    and-first true q h = absurd cc
-    and-first false q h = refl
+name-differs (x ∷ xs) a rest e f = and_left (to_ascii_lowercase x == to_ascii_lowercase a) _ (letters-differ (to_ascii_lowercase x) (to_ascii_lowercase a) e f)
 
 none-named : (rows : List (List ℕ × ℕ)) (a : ℕ) (rest : List ℕ) → list_all (λ row. begins_other row.0) rows ≡ true → ((to_ascii_lowercase a == 116) || (to_ascii_lowercase a == 117)) ≡ true
     → named_in rows (a ∷ rest) ≡ None

@@ -2,7 +2,7 @@
 use Rattle.std.proofs.Common.{◌≡◌, ℕ, ◌<◌, Bool, true, false, not, ◌&&◌, ◌||◌, if◌then◌else◌, ◌==◌, List, [], ◌∷◌, length, take, drop, Option, None, Some, is_some, refl, ◌∙◌, ap, subst, arith}
 use Rattle.std.specs.Prelude.{All, nat_le, nat_eq, unwrap_or}
 use Rattle.std.specs.List.{list_all}
-use Rattle.std.proofs.lemmas.Bool.{and_parts, and_from, or_from, not_from_false, eqb-true, leb-true, cond_both, cond-false}
+use Rattle.std.proofs.lemmas.Bool.{and_parts, and_from, or_from, not_from_false, eqb-true, leb-true, cond_both, cond-false, not-true}
 use Rattle.std.proofs.lemmas.List.Elements.{All-head, All-tail}
 use Rattle.kmn_base.specs.Bytes.{is_quote, hex_digit}
 use Rattle.kmn_base.specs.declared.codes.Code.{Code}
@@ -133,10 +133,6 @@ name-token : (name : List ℕ) (number : Bool) → starts_number name ≡ number
 name-token name true is fits size wordy faultless inner = number-name name is faultless
 name-token name false is fits size wordy faultless inner = word-name name (name-some name fits) is size wordy faultless inner
 
-not-off : (b : Bool) → not b ≡ true → b ≡ false
-not-off true e = absurd cc
-not-off false e = refl
-
 -- a source name is read as a name
 pub spelled_name : (name : List ℕ) → IsSpelledName name → IsPrintedName name
 spelled_name name ok =
@@ -145,6 +141,6 @@ spelled_name name ok =
     let c = and_parts (not (is_some (token_fault name))) _ b.1 in
     let d = and_parts (is_name name) (list_all is_inner name) c.1 in
     record {
-      token = name-token name (starts_number name) refl d.0 (eqb-true (token_size name) (length name) a.0) b.0 (not-off _ c.0) d.1;
+      token = name-token name (starts_number name) refl d.0 (eqb-true (token_size name) (length name) a.0) b.0 (not-true _ c.0) d.1;
       fits = d.0;
     }

@@ -5,7 +5,7 @@ use Rattle.std.specs.List.{list_all, starts_with}
 use Rattle.std.specs.Prelude.{nat_lt}
 use Rattle.std.specs.Char.{to_ascii_lowercase}
 use Rattle.std.proofs.lemmas.List.{drop-take}
-use Rattle.std.proofs.lemmas.Bool.{eq-eqb, ne_eqb, cases_lt, lt-ltb}
+use Rattle.std.proofs.lemmas.Bool.{eq-eqb, ne_eqb, cases_lt, lt-ltb, cond-true, cond-false, not-true, and_left}
 use Rattle.std.proofs.lemmas.List.Elements.{All-head, All-tail}
 use Rattle.std.proofs.Math.Seq.{take-append_seam}
 use Rattle.kmn_base.specs.Bytes.{is_blank}
@@ -20,7 +20,6 @@ use Rattle.kmn_lines.proofs.Sizes.{and-true, or-false, or-both}
 use Rattle.program_text.specs.Names.{is_inner}
 use Rattle.program_text.specs.Printed.{rows}
 use Rattle.program_text.proofs.LineForms.{IsWholeLine, begins_plainly, read_on, row_lines}
-use Rattle.program_text.proofs.Words.{choose-then, choose-else, not-true}
 
 next-same : (bytes rest : List ℕ) → first_or_end (bytes ++ 10 ∷ rest) ≡ first_or_end bytes
 next-same [] rest = refl
@@ -42,7 +41,7 @@ line-physical line number from r at (byte ∷ bytes) rest e =
     let two = and-true (is_inner byte) (list_all is_inner bytes) e in
     let none = not-true _ two.0 in
     let same : at + 1 + length bytes ≡ at + suc (length bytes) = omega arith in
-    choose-else (ends_line byte (first_or_end (bytes ++ 10 ∷ rest))) _ _ (goes-on (byte == 10) (byte == 13) _ none)
+    cond-false (ends_line byte (first_or_end (bytes ++ 10 ∷ rest))) _ _ (goes-on (byte == 10) (byte == 13) _ none)
     ∙ ap (λ (n : ℕ). physical_lines number from (after_byte r at byte n) (at + 1) (bytes ++ 10 ∷ rest)) (next-same bytes rest)
     ∙ line-physical line number from (after_byte r at byte (first_or_end bytes)) (at + 1) bytes rest two.1
     ∙ ap (λ (k : ℕ). physical_line number from k (k + 1) (read_on r at (byte ∷ bytes)) ∷ physical_lines (number + 1) (k + 1) line_start (k + 1) rest) same
@@ -64,7 +63,7 @@ line-whole number at line rest ok =
     (whole-physical number at (at + length line) (at + length line + 1) (read_on line_start at line) (ok.stop at) (ok.slash at))
 
 none-left : (number at : ℕ) → physical_lines number at line_start at [] ≡ []
-none-left number at = choose-then (at == at) _ _ (eq-eqb at at refl)
+none-left number at = cond-true (at == at) _ _ (eq-eqb at at refl)
 
 rows_gathered : (number at : ℕ) (lines : List (List ℕ)) → All IsWholeLine lines → gather None (physical_lines number at line_start at (rows lines)) ≡ row_lines number at lines
 rows_gathered number at [] ok = ap (gather None) (none-left number at)
@@ -74,7 +73,7 @@ rows_gathered number at (line ∷ lines) ok =
 
 -- the first byte is not that of a mark
 marks-not : (lines : List (List ℕ)) → starts_with (λ a b. a == b) (rows lines) (0xEF ∷ 0xBB ∷ 0xBF ∷ []) ≡ false → mark_size (rows lines) ≡ 0
-marks-not lines e = choose-else _ 3 0 e
+marks-not lines e = cond-false _ 3 0 e
 
 pub rows_logicals : (lines : List (List ℕ)) → starts_with (λ a b. a == b) (rows lines) (0xEF ∷ 0xBB ∷ 0xBF ∷ []) ≡ false → All IsWholeLine lines → logicals (rows lines) ≡ row_lines 1 0 lines
 unfolding logicals
@@ -84,24 +83,20 @@ rows_logicals lines e ok =
 -- no prefix
 lower-not : (byte : ℕ) → (byte == 36) ≡ false → (to_ascii_lowercase byte == 36) ≡ false
 lower-not byte e = elim (cases_lt byte 65) [
-  | inl l ↦ ap (λ (b : ℕ). b == 36) (choose-then (nat_lt byte 65) byte _ (lt-ltb byte 65 l)) ∙ e
-  | inr g ↦ ap (λ (b : ℕ). b == 36) (choose-else (nat_lt byte 65) byte _ (grind (arith, g)))
+  | inl l ↦ ap (λ (b : ℕ). b == 36) (cond-true (nat_lt byte 65) byte _ (lt-ltb byte 65 l)) ∙ e
+  | inr g ↦ ap (λ (b : ℕ). b == 36) (cond-false (nat_lt byte 65) byte _ (grind (arith, g)))
       ∙ (elim (cases_lt byte 91) [
-        | inl l ↦ ap (λ (b : ℕ). b == 36) (choose-then (nat_lt byte 91) (byte + 32) byte (lt-ltb byte 91 l)) ∙ ne_eqb (byte + 32) 36 (omega arith)
-        | inr k ↦ ap (λ (b : ℕ). b == 36) (choose-else (nat_lt byte 91) (byte + 32) byte (grind (arith, k))) ∙ e
+        | inl l ↦ ap (λ (b : ℕ). b == 36) (cond-true (nat_lt byte 91) (byte + 32) byte (lt-ltb byte 91 l)) ∙ ne_eqb (byte + 32) 36 (omega arith)
+        | inr k ↦ ap (λ (b : ℕ). b == 36) (cond-false (nat_lt byte 91) (byte + 32) byte (grind (arith, k))) ∙ e
       ])
 ]
 
-and-first : (a b : Bool) → a ≡ false → (a && b) ≡ false
-and-first true b e = absurd cc
-and-first false b e = refl
-
 not-prefix : (byte : ℕ) (bytes word : List ℕ) → (byte == 36) ≡ false → begins_with (byte ∷ bytes) (36 ∷ word) ≡ false
 unfolding same_name
-not-prefix byte bytes word e = and-first (to_ascii_lowercase byte == 36) _ (lower-not byte e)
+not-prefix byte bytes word e = and_left (to_ascii_lowercase byte == 36) _ (lower-not byte e)
 
 no-blanks : (byte : ℕ) (bytes : List ℕ) → is_blank byte ≡ false → drop (blanks (byte ∷ bytes)) (byte ∷ bytes) ≡ byte ∷ bytes
-no-blanks byte bytes e = ap (λ (n : ℕ). drop n (byte ∷ bytes)) (choose-else (is_blank byte) (1 + blanks bytes) 0 e)
+no-blanks byte bytes e = ap (λ (n : ℕ). drop n (byte ∷ bytes)) (cond-false (is_blank byte) (1 + blanks bytes) 0 e)
 
 not-skipped : (text : List ℕ) → begins_plainly text ≡ true → is_skipped text ≡ false
 unfolding is_skipped
@@ -116,8 +111,8 @@ unfolding dropped
 none-dropped [] e = absurd cc
 none-dropped (byte ∷ bytes) e =
     let two = or-false (is_blank byte) (byte == 36) (not-true _ e) in
-    choose-else _ _ _ (ap (λ (words : List ℕ). begins_with words (codes "$keyman:")) (no-blanks byte bytes two.0) ∙ not-prefix byte bytes (drop 1 (codes "$keyman:")) two.1)
-    ∙ choose-else _ _ _ (ap (λ (words : List ℕ). begins_with words (codes "$keymanonly:")) (no-blanks byte bytes two.0) ∙ not-prefix byte bytes (drop 1 (codes "$keymanonly:")) two.1)
+    cond-false _ _ _ (ap (λ (words : List ℕ). begins_with words (codes "$keyman:")) (no-blanks byte bytes two.0) ∙ not-prefix byte bytes (drop 1 (codes "$keyman:")) two.1)
+    ∙ cond-false _ _ _ (ap (λ (words : List ℕ). begins_with words (codes "$keymanonly:")) (no-blanks byte bytes two.0) ∙ not-prefix byte bytes (drop 1 (codes "$keymanonly:")) two.1)
 
 if-same : {A : Type 0} (b : Bool) (x : A) → (if b then x else x) ≡ x
 if-same true x = refl
@@ -138,7 +133,7 @@ one-part : (text : List ℕ) (number at : ℕ) (line : List ℕ) → drop at tex
 one-part text number at line e plain =
     let is : physical_text text (whole number at line) ≡ line = line-text text at line (10 ∷ []) e in
     let same : at + 0 ≡ at = omega arith in
-    choose-else (is_skipped (physical_text text (whole number at line))) _ _ (ap is_skipped is ∙ not-skipped line plain)
+    cond-false (is_skipped (physical_text text (whole number at line))) _ _ (ap is_skipped is ∙ not-skipped line plain)
     ∙ ap (λ (ps : List Part). part_behind (dropped (physical_text text (whole number at line))) (whole number at line) ∷ ps) (if-same (list_all is_blank (physical_text text (whole number at line))) [])
     ∙ ap (λ (n : ℕ). part_behind n (whole number at line) ∷ []) (ap dropped is ∙ none-dropped line plain)
     ∙ ap (λ (n : ℕ). record { line = number; from = n; to = at + length line } ∷ []) same

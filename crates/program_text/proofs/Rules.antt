@@ -5,7 +5,7 @@ use Rattle.std.specs.List.{list_all}
 use Rattle.std.proofs.Math.Seq.{take-append_seam, drop-append-add}
 use Rattle.std.proofs.lemmas.List.Folds.{list_all-append}
 use Rattle.std.specs.Fmt.{decimal}
-use Rattle.std.proofs.lemmas.Bool.{and_from, lt-ltb, ne_eqb, cond_both}
+use Rattle.std.proofs.lemmas.Bool.{and_from, lt-ltb, ne_eqb, cond_both, cond-true, cond-false}
 use Rattle.kmn_base.specs.Names.{same_name}
 use Rattle.kmn_base.specs.declared.codes.Code.TheVariants.{S01, S04, S06, S08}
 use Rattle.kmn_lines.specs.Bytes.{or_else}
@@ -31,7 +31,6 @@ use Rattle.program_text.specs.Statements.{plain_pieces}
 use Rattle.program_text.specs.Texts.{arrow, bracket_closing, closing, comma, equal, name_token, plus, unequal, word}
 use Rattle.program_text.proofs.Forms.{ArePrinted}
 use Rattle.program_text.proofs.LineForms.{items_tokens, tokens_in}
-use Rattle.program_text.proofs.Words.{choose-then, choose-else}
 use Rattle.program_text.proofs.Sections.{tokens-append, tokens-spaced, tokens-joined, items_read, key_reads}
 
 -- tokens among which a sign is not
@@ -98,10 +97,10 @@ items-plus [] = refl
 items-plus (i ∷ items) = without-append sign.Plus (tokens_in (item_pieces i)) (items_tokens items) (item-plus i) (items-plus items)
 
 pub place-found : (wanted : Sign) (before : List LineToken) (token : LineToken) (behind : List LineToken) → Without wanted before → is_sign wanted token.kind ≡ true → place_of wanted (before ++ token ∷ behind) ≡ length before
-place-found wanted [] token behind none is = choose-else (not (is_sign wanted token.kind)) _ _ (ap not is)
+place-found wanted [] token behind none is = cond-false (not (is_sign wanted token.kind)) _ _ (ap not is)
 place-found wanted (first ∷ before) token behind none is =
     let two = and-true (not (is_sign wanted first.kind)) (list_all (λ (t : LineToken). not (is_sign wanted t.kind)) before) none in
-    choose-then (not (is_sign wanted first.kind)) _ _ two.0 ∙ (let more = place-found wanted before token behind two.1 is in omega (arith, more))
+    cond-true (not (is_sign wanted first.kind)) _ _ two.0 ∙ (let more = place-found wanted before token behind two.1 is in omega (arith, more))
 
 -- an output has an item
 pub output-has : (i : SrcItem) (rest : List LineToken) → 0 < length (tokens_in (item_pieces i)) → has_items (tokens_in (item_pieces i) ++ rest) ≡ true
@@ -130,7 +129,7 @@ body-ok line last arrow plus tokens context output key c k is e less behind f g 
     ∙ ap (λ r. and_then r (λ key.
     and_then (read_items section.Output unseen last 0 (arrow + 1) (drop (arrow + 1) tokens)) (λ output.
     Ok (record { line = line; kind = Plain; context = context; key = key; output = output }))))
-    (choose-else (not (nat_lt plus arrow)) _ _ (ap not less)
+    (cond-false (not (nat_lt plus arrow)) _ _ (ap not less)
     ∙ ap (λ r. and_then r (λ key. Ok (Some key))) (ap (λ (ts : List LineToken). read_key last (plus + 1) ts) behind ∙ f))
     ∙ ap (λ r. and_then r (λ output. Ok (record { line = line; kind = Plain; context = context; key = Some key; output = output }))) g
 
@@ -177,7 +176,7 @@ items-begin (i ∷ items) rest e =
 pub rule-line : (group : LastGroup) (line : ℕ) (tokens : List LineToken) → 0 < length tokens → BeginsRule tokens → read_line group line tokens ≡ read_rule group line (length tokens - 1) tokens
 rule-line group line [] some begins = absurd (omega arith)
 rule-line group line (token ∷ tokens) some (a, b, c, d, e) =
-    choose-else (length (token ∷ tokens) == 0) _ _ (ne_eqb _ 0 (omega arith)) ∙ choose-else _ _ _ a ∙ choose-else _ _ _ b ∙ choose-else _ _ _ c ∙ choose-else _ _ _ d ∙ choose-else _ _ _ e
+    cond-false (length (token ∷ tokens) == 0) _ _ (ne_eqb _ 0 (omega arith)) ∙ cond-false _ _ _ a ∙ cond-false _ _ _ b ∙ cond-false _ _ _ c ∙ cond-false _ _ _ d ∙ cond-false _ _ _ e
 
 pub keyed_rule_read : (line : ℕ) (context output : List SrcItem) (key first : SrcItem) → ArePrinted section.Context unseen context → ArePrinted section.Key unseen (key ∷ []) → ArePrinted section.Output unseen (first ∷ output)
     → 0 < length (tokens_in (item_pieces first))

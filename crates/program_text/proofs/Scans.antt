@@ -2,6 +2,7 @@
 use Rattle.std.proofs.Common.{◌≡◌, ℕ, zero, suc, ◌+◌, ◌-◌, ◌≤◌, Bool, true, false, if◌then◌else◌, List, [], ◌∷◌, ◌++◌, length, take, drop, Option, None, Some, refl, sym, ◌∙◌, ap, arith, add-one}
 use Rattle.std.proofs.lemmas.List.{drop-take}
 use Rattle.std.proofs.Math.Seq.{take-append_seam, drop-append_seam}
+use Rattle.std.proofs.lemmas.Bool.{cond-false}
 use Rattle.kmn_base.specs.Bytes.{is_blank}
 use Rattle.kmn_lines.specs.Bytes.{first_or_end, or_else}
 use Rattle.kmn_lines.specs.Tokens.{token_kind, token_size, token_text, token_at, token_fault, scanned, first_fault}
@@ -61,10 +62,6 @@ lexed-skip (suc n) [] = refl
 lexed-skip zero (byte ∷ bytes) = refl
 lexed-skip (suc n) (byte ∷ bytes) = lexed-skip n bytes
 
-choose-else : {A : Type 0} (b : Bool) (x y : A) → b ≡ false → (if b then x else y) ≡ y
-choose-else true x y e = absurd cc
-choose-else false x y e = refl
-
 lexed-token : (token : LineToken) (text rest : List ℕ) → token.text ≡ text → IsReadBack token rest → lexed 0 (text ++ rest) ≡ token ∷ lexed 0 rest
 lexed-token token [] rest e back = let some = back.some in let none : length token.text ≡ 0 = ap length e in absurd (omega arith)
 lexed-token token (byte ∷ bytes) rest e back =
@@ -74,7 +71,7 @@ lexed-token token (byte ∷ bytes) rest e back =
     let less : token_size whole - 1 ≡ length bytes = omega (arith, size) in
     let here : token_text whole ≡ token.text = ap (λ (n : ℕ). take n whole) size ∙ take-append_seam (byte ∷ bytes) rest ∙ sym e in
     let is : token_of (token_text whole) ≡ token = ap token_of here ∙ ap (λ k. record { kind = k; text = token.text }) back.kind in
-    choose-else (is_blank byte) _ _ solid
+    cond-false (is_blank byte) _ _ solid
     ∙ ap (λ (t : LineToken). t ∷ lexed (token_size whole - 1) (bytes ++ rest)) is
     ∙ ap (λ (ts : List LineToken). token ∷ ts) (lexed-skip (token_size whole - 1) (bytes ++ rest) ∙ ap (λ (n : ℕ). lexed 0 (drop n (bytes ++ rest))) less ∙ ap (λ (xs : List ℕ). lexed 0 xs) (drop-append_seam bytes rest))
 
@@ -97,7 +94,7 @@ fault-token token (byte ∷ bytes) rest e back =
     let solid : is_blank byte ≡ false = ap (λ (xs : List ℕ). is_blank (first_or_end xs)) (sym e) ∙ back.solid in
     let less : token_size whole - 1 ≡ length bytes = omega (arith, size) in
     let here : token_text whole ≡ token.text = ap (λ (n : ℕ). take n whole) size ∙ take-append_seam (byte ∷ bytes) rest ∙ sym e in
-    choose-else (is_blank byte) _ _ solid
+    cond-false (is_blank byte) _ _ solid
     ∙ ap (λ f. or_else f (first_fault (token_size whole - 1) (bytes ++ rest))) (ap token_fault here ∙ back.sound)
     ∙ fault-skip (token_size whole - 1) (bytes ++ rest) ∙ ap (λ (n : ℕ). first_fault 0 (drop n (bytes ++ rest))) less ∙ ap (λ (xs : List ℕ). first_fault 0 xs) (drop-append_seam bytes rest)
 

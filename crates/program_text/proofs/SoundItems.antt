@@ -3,7 +3,7 @@ use Rattle.std.proofs.Common.{◌≡◌, ℕ, Bool, true, false, not, ◌&&◌, 
 use Rattle.std.specs.Prelude.{nat_eq, bit_and, filter, map}
 use Rattle.std.specs.Fmt.{decimal}
 use Rattle.std.specs.List.{list_all}
-use Rattle.std.proofs.lemmas.Bool.{and_from}
+use Rattle.std.proofs.lemmas.Bool.{and_from, not-true}
 use Rattle.kmn_lines.specs.Tokens.{begins_forbidden, starts_number, hex_value}
 use Rattle.kmn_lines.specs.declared.token.TokenKind.{TokenKind}
 use Rattle.kmn_lines.specs.declared.token.TokenKind.TheVariants as kind
@@ -18,7 +18,6 @@ use Rattle.program_text.specs.Texts.{word, name_kind, name_token, bracket_closin
 use Rattle.program_text.specs.Items.{item_pieces, spaced_words, flag_words, key_text, value_token}
 use Rattle.program_text.proofs.LineForms.{is_word_text, is_still_byte, is_alone_c, ends_word, ends_clean, IsTokenText, AreSound}
 use Rattle.program_text.proofs.Forms.{IsPrinted, IsPrintedName}
-use Rattle.program_text.proofs.Words.{not-true}
 use Rattle.program_text.proofs.Hex.{char_number}
 
 -- the words of a bracket

@@ -1,6 +1,7 @@
 -- What is printed begins no comment and joins no lines.
 use Rattle.std.proofs.Common.{◌≡◌, ℕ, ◌+◌, Bool, true, false, not, ◌&&◌, ◌||◌, if◌then◌else◌, ◌==◌, List, [], ◌∷◌, ◌++◌, Option, None, Some, is_some, refl, sym, ◌∙◌, ap, subst}
 use Rattle.std.specs.List.{list_all, list_any}
+use Rattle.std.proofs.lemmas.Bool.{cond-true, cond-false, not-true, and_right}
 use Rattle.kmn_base.specs.Bytes.{is_blank, is_quote}
 use Rattle.kmn_lines.specs.Bytes.{first_or_end}
 use Rattle.kmn_lines.specs.Lines.{starts_comment, outside, inside, in_line, after_byte}
@@ -8,7 +9,7 @@ use Rattle.kmn_lines.specs.declared.line_state.LineState.{LineState}
 use Rattle.kmn_lines.proofs.Sizes.{and-true, or-false, or-both}
 use Rattle.program_text.specs.Names.{is_inner}
 use Rattle.program_text.proofs.LineForms.{ends_clean, is_plain_byte, is_still_byte, read_on}
-use Rattle.program_text.proofs.Words.{choose-then, choose-else, not-true, plain-byte}
+use Rattle.program_text.proofs.Words.{plain-byte}
 
 -- outside quotes and comments, behind a blank or not, and with no backslash as the last byte but blanks
 pub record IsOutside (blank clean : Bool) (r : LineState) : Type 0 where
@@ -30,7 +31,7 @@ quiet-nil blank r at is = (is.stop, is.slash refl)
 -- a byte outside quotes
 outside-byte : (blank clean : Bool) (r : LineState) (at byte next : ℕ) → IsOutside blank clean r → (byte == 13) ≡ false → after_byte r at byte next ≡ outside r at byte next
 outside-byte blank clean r at byte next is e =
-    choose-else (is_some r.stop) _ _ (ap is_some is.stop) ∙ choose-else (byte == 13) _ _ e ∙ ap (λ (q : Option ℕ). in_line q r at byte next) is.quote
+    cond-false (is_some r.stop) _ _ (ap is_some is.stop) ∙ cond-false (byte == 13) _ _ e ∙ ap (λ (q : Option ℕ). in_line q r at byte next) is.quote
 
 pub quiet-blank : (blank clean : Bool) (text : List ℕ) → Quiet true clean text → Quiet blank clean (32 ∷ text)
 quiet-blank blank clean text rest r at is =
@@ -46,9 +47,9 @@ quiet-solid : (blank clean : Bool) (byte : ℕ) (text : List ℕ) → is_blank b
 quiet-solid blank clean byte text b q c s rest r at is =
     let first : after_byte r at byte (first_or_end text) ≡ (if byte == 92 then record r { after_blank = false; slash = Some at } else record r { quote = None; after_blank = false; slash = None }) =
     outside-byte blank clean r at byte (first_or_end text) is c
-    ∙ choose-else (is_blank byte) _ _ b
-    ∙ choose-else (starts_comment r.after_blank byte (first_or_end text)) _ _ (ap (λ (a : Bool). starts_comment a byte (first_or_end text)) is.after ∙ s)
-    ∙ ap (λ (k : Option ℕ). if byte == 92 then record r { after_blank = false; slash = Some at } else record r { quote = k; after_blank = false; slash = None }) (choose-else (is_quote byte) _ _ q) in
+    ∙ cond-false (is_blank byte) _ _ b
+    ∙ cond-false (starts_comment r.after_blank byte (first_or_end text)) _ _ (ap (λ (a : Bool). starts_comment a byte (first_or_end text)) is.after ∙ s)
+    ∙ ap (λ (k : Option ℕ). if byte == 92 then record r { after_blank = false; slash = Some at } else record r { quote = k; after_blank = false; slash = None }) (cond-false (is_quote byte) _ _ q) in
     subst (λ (k : LineState). Ends k (at + 1) text) (sym first)
     (elim (byte == 92) as (λ k. Quiet false (not k) text → Ends (if k then record r { after_blank = false; slash = Some at } else record r { quote = None; after_blank = false; slash = None }) (at + 1) text) [
       | true ↦ λ more. more (record r { after_blank = false; slash = Some at }) (at + 1) (record { quote = is.quote; stop = is.stop; after = refl; slash = λ e. absurd cc })
@@ -61,16 +62,12 @@ inner-return byte e = (or-false (byte == 10) (byte == 13) (not-true _ e)).1
 not-after : (byte next : ℕ) → starts_comment false byte next ≡ false
 not-after byte next = refl
 
-and-last : (a b : Bool) → b ≡ false → (a && b) ≡ false
-and-last true b e = e
-and-last false b e = refl
-
 -- before a byte of a word no comment begins
 pub before-plain : (blank : Bool) (byte next : ℕ) → is_still_byte next ≡ true → starts_comment blank byte next ≡ false
 before-plain blank byte next e =
     let two = and-true (is_plain_byte next) (is_inner next) e in
     let three = or-false (next == 10) (next == 13) (not-true _ two.1) in
-    and-last (blank && is_c byte) _ (or-both _ _ (or-both _ _ (plain-byte next two.0).blank three.0) three.1)
+    and_right (blank && is_c byte) _ (or-both _ _ (or-both _ _ (plain-byte next two.0).blank three.0) three.1)
 
 -- a word, whose first byte begins no comment
 pub quiet-word : (blank clean : Bool) (byte : ℕ) (bytes rest : List ℕ) → list_all is_still_byte (byte ∷ bytes) ≡ true → starts_comment blank byte (first_or_end (bytes ++ rest)) ≡ false
@@ -96,17 +93,17 @@ pub record IsInside (quote : ℕ) (r : LineState) : Type 0 where
 
 inside-byte : (quote : ℕ) (r : LineState) (at byte next : ℕ) → IsInside quote r → (byte == 13) ≡ false → after_byte r at byte next ≡ inside r quote byte
 inside-byte quote r at byte next is e =
-    choose-else (is_some r.stop) _ _ (ap is_some is.stop) ∙ choose-else (byte == 13) _ _ e ∙ ap (λ (q : Option ℕ). in_line q r at byte next) is.in_quote
+    cond-false (is_some r.stop) _ _ (ap is_some is.stop) ∙ cond-false (byte == 13) _ _ e ∙ ap (λ (q : Option ℕ). in_line q r at byte next) is.in_quote
 
 quiet-inside : (quote : ℕ) (bytes rest : List ℕ) (r : LineState) (at : ℕ) → IsInside quote r → (quote == quote) ≡ true → (quote == 13) ≡ false → list_any (λ b. b == quote) bytes ≡ false → list_all is_inner bytes ≡ true
     → Quiet false true rest → Ends r at (bytes ++ quote ∷ rest)
 quiet-inside quote [] rest r at is same c none inner more =
-    subst (λ (k : LineState). Ends k (at + 1) rest) (sym (inside-byte quote r at quote (first_or_end rest) is c ∙ choose-then (quote == quote) _ _ same))
+    subst (λ (k : LineState). Ends k (at + 1) rest) (sym (inside-byte quote r at quote (first_or_end rest) is c ∙ cond-true (quote == quote) _ _ same))
     (more (record r { quote = None }) (at + 1) (record { quote = refl; stop = is.stop; after = is.after; slash = λ e. is.slash }))
 quiet-inside quote (byte ∷ bytes) rest r at is same c none inner more =
     let two = and-true (is_inner byte) (list_all is_inner bytes) inner in
     let apart = or-false (byte == quote) (list_any (λ b. b == quote) bytes) none in
-    subst (λ (k : LineState). Ends k (at + 1) (bytes ++ quote ∷ rest)) (sym (inside-byte quote r at byte (first_or_end (bytes ++ quote ∷ rest)) is (inner-return byte two.0) ∙ choose-else (byte == quote) _ _ apart.0))
+    subst (λ (k : LineState). Ends k (at + 1) (bytes ++ quote ∷ rest)) (sym (inside-byte quote r at byte (first_or_end (bytes ++ quote ∷ rest)) is (inner-return byte two.0) ∙ cond-false (byte == quote) _ _ apart.0))
     (quiet-inside quote bytes rest r (at + 1) is same c apart.1 two.1 more)
 
 comment-not : (blank : Bool) (byte next : ℕ) → is_c byte ≡ false → starts_comment blank byte next ≡ false
@@ -118,10 +115,10 @@ pub quiet-quoted : (blank clean : Bool) (quote : ℕ) (bytes rest : List ℕ) �
 quiet-quoted blank clean quote bytes rest b q same c z s none inner more r at is =
     let next = first_or_end (bytes ++ quote ∷ rest) in
     subst (λ (k : LineState). Ends k (at + 1) (bytes ++ quote ∷ rest))
-    (sym (outside-byte blank clean r at quote next is c ∙ choose-else (is_blank quote) _ _ b
-    ∙ choose-else (starts_comment r.after_blank quote next) _ _ (comment-not r.after_blank quote next z)
-    ∙ choose-else (quote == 92) _ _ s
-    ∙ ap (λ (k : Option ℕ). record r { quote = k; after_blank = false; slash = None }) (choose-then (is_quote quote) _ _ q)))
+    (sym (outside-byte blank clean r at quote next is c ∙ cond-false (is_blank quote) _ _ b
+    ∙ cond-false (starts_comment r.after_blank quote next) _ _ (comment-not r.after_blank quote next z)
+    ∙ cond-false (quote == 92) _ _ s
+    ∙ ap (λ (k : Option ℕ). record r { quote = k; after_blank = false; slash = None }) (cond-true (is_quote quote) _ _ q)))
     (quiet-inside quote bytes rest (record r { quote = Some quote; after_blank = false; slash = None }) (at + 1) (record { in_quote = refl; stop = is.stop; slash = refl; after = refl }) same c none inner more)
 
 -- a sign

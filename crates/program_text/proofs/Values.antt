@@ -3,7 +3,7 @@ use Rattle.std.proofs.Common.{◌≡◌, ℕ, ◌+◌, ◌-◌, ◌/◌, ◌%◌
 use Rattle.std.specs.Prelude.{All, nat_lt}
 use Rattle.std.specs.List.{list_all, list_any}
 use Rattle.std.proofs.Math.Seq.{take-append_seam}
-use Rattle.std.proofs.lemmas.Bool.{and_parts, and_from, and_left, or_parts, or_from, not_from_false, ne_eqb, eqb-true, ltb-true, cond_both, false_from_ne_true}
+use Rattle.std.proofs.lemmas.Bool.{and_parts, and_from, and_left, or_parts, or_from, not_from_false, ne_eqb, eqb-true, ltb-true, cond_both, false_from_ne_true, not-true}
 use Rattle.std.proofs.lemmas.List.Elements.{All-head, All-tail}
 use Rattle.std.proofs.lemmas.List.Folds.{list_all-append}
 use Rattle.std.proofs.lemmas.Str.{chars-encodes}
@@ -39,11 +39,7 @@ encodes-bytes P (c ∷ cs) all high =
 
 none-passes : (P : ℕ → Bool) (xs : List ℕ) → list_all (λ x. not (P x)) xs ≡ true → list_any P xs ≡ false
 none-passes P [] e = refl
-none-passes P (x ∷ xs) e = let two = and_parts (not (P x)) _ e in or_from _ _ (not-off (P x) two.0) (none-passes P xs two.1)
-  where
-    not-off : (b : Bool) → not b ≡ true → b ≡ false
-    not-off true e = absurd cc
-    not-off false e = refl
+none-passes P (x ∷ xs) e = let two = and_parts (not (P x)) _ e in or_from _ _ (not-true (P x) two.0) (none-passes P xs two.1)
 
 all-fail : (P : ℕ → Bool) (xs : List ℕ) → list_any P xs ≡ false → list_all (λ x. not (P x)) xs ≡ true
 all-fail P [] e = refl

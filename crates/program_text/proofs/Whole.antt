@@ -5,6 +5,7 @@ use Rattle.std.specs.Str.{is_utf8}
 use Rattle.std.proofs.Math.Seq.{drop-append_seam}
 use Rattle.std.proofs.lemmas.List.{drop-drop}
 use Rattle.std.proofs.lemmas.List.Elements.{All-cons, All-nil}
+use Rattle.std.proofs.lemmas.Bool.{cond-false}
 use Rattle.kmn_base.specs.declared.refusals.Refusal.{Refusal}
 use Rattle.kmn_base.specs.declared.limits.TheConstants.{TEXT_BYTES}
 use Rattle.kmn_lines.specs.Bytes.{or_else}
@@ -22,7 +23,6 @@ use Rattle.kmn_parser.specs.Line.{read_line}
 use Rattle.kmn_parser.specs.Source.{at_line, group_after, with_statement, no_program, read_lines, parsed}
 use Rattle.program_text.specs.Printed.{printed, rows, sheet}
 use Rattle.program_text.proofs.LineForms.{AreReadBack, IsSourceText, IsWholeLine, ReadAsStatements, row_lines, tokens_in}
-use Rattle.program_text.proofs.Words.{choose-else}
 use Rattle.program_text.proofs.Scans.{tokens_read_back}
 use Rattle.program_text.proofs.Rows.{rows_logicals, row_parts, line-text}
 
@@ -102,8 +102,8 @@ unfolding parsed
 sheets_are_read lines statements prints fits =
     let source = sheet lines in
     let ls : logicals source ≡ row_lines 1 0 (map printed lines) = rows_logicals (map printed lines) fits.unmarked (all-whole Missing 1 lines statements prints) in
-    choose-else (nat_lt TEXT_BYTES (length source)) _ _ (not-more TEXT_BYTES (length source) fits.few)
-    ∙ choose-else (not (is_utf8 source)) _ _ (ap not fits.utf8)
+    cond-false (nat_lt TEXT_BYTES (length source)) _ _ (not-more TEXT_BYTES (length source) fits.few)
+    ∙ cond-false (not (is_utf8 source)) _ _ (ap not fits.utf8)
     ∙ ap (λ (f : Option Refusal). elim f [ Some found ↦ Err found | None ↦ read_lines source Missing no_program (logicals source) ])
     (ap (tokens_refusal source) ls ∙ none-refused source Missing 1 0 lines statements refl prints)
     ∙ ap (read_lines source Missing no_program) ls

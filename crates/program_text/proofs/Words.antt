@@ -1,9 +1,9 @@
 -- Each kind of token is read back.
-use Rattle.std.proofs.Common.{◌≡◌, ℕ, suc, ◌+◌, ◌-◌, ◌<◌, Bool, true, false, not, ◌&&◌, ◌||◌, if◌then◌else◌, ◌==◌, List, [], ◌∷◌, ◌++◌, length, Option, None, Some, is_some, refl, sym, ◌∙◌, ap, subst, arith, length-append}
+use Rattle.std.proofs.Common.{◌≡◌, ℕ, suc, ◌+◌, ◌-◌, ◌<◌, Bool, true, false, not, ◌&&◌, ◌||◌, ◌==◌, List, [], ◌∷◌, ◌++◌, length, Option, None, Some, is_some, refl, sym, ◌∙◌, ap, subst, arith, length-append}
 use Rattle.std.specs.Prelude.{unwrap_or}
 use Rattle.std.proofs.lemmas.List.{append-nil}
 use Rattle.std.specs.List.{list_all, list_any}
-use Rattle.std.proofs.lemmas.Bool.{ne_eqb}
+use Rattle.std.proofs.lemmas.Bool.{ne_eqb, not-true, both_ways, and_left, and_right, or_left, or_right, cond-true, cond-false}
 use Rattle.kmn_base.specs.Bytes.{is_blank, is_quote, hex_digit}
 use Rattle.kmn_lines.specs.Bytes.{first_or_end}
 use Rattle.kmn_lines.specs.Tokens.{single, is_unequal, in_word, word_size, quoted_size, starts_number, token_size, token_kind, has_forbidden, begins_forbidden, is_closed, token_fault}
@@ -13,26 +13,6 @@ use Rattle.kmn_lines.proofs.Sizes.{and-true, or-false, in_word-plain, in_word-fr
 use Rattle.kmn_items.specs.TokenTexts.{LineToken}
 use Rattle.program_text.specs.Texts.{arrow, bracket_closing, bracket_opening, closing, comma, equal, opening, plus, quoted_token, unequal, word}
 use Rattle.program_text.proofs.LineForms.{IsReadBack, ends_byte, ends_word, is_plain_byte, is_word_text}
-
-pub not-true : (a : Bool) → not a ≡ true → a ≡ false
-not-true true h = sym h
-not-true false h = refl
-
-pub choose-else : {A : Type 0} (b : Bool) (x y : A) → b ≡ false → (if b then x else y) ≡ y
-choose-else true x y e = absurd cc
-choose-else false x y e = refl
-
-pub choose-then : {A : Type 0} (b : Bool) (x y : A) → b ≡ true → (if b then x else y) ≡ x
-choose-then true x y e = refl
-choose-then false x y e = absurd cc
-
-and-second : (a b : Bool) → b ≡ false → (a && b) ≡ false
-and-second true b e = e
-and-second false b e = refl
-
-and-first : (a b : Bool) → a ≡ false → (a && b) ≡ false
-and-first true b e = absurd cc
-and-first false b e = refl
 
 pub plain-byte : (byte : ℕ) → is_plain_byte byte ≡ true → IsPlain byte
 plain-byte byte h =
@@ -46,12 +26,9 @@ single-plus byte h = let p = plain-byte byte h in grind (arith, p.alone)
 single-equal : (byte : ℕ) → is_plain_byte byte ≡ true → (byte == 61) ≡ false
 single-equal byte h = let p = plain-byte byte h in grind (arith, p.alone)
 
-clash : {X : Type 0} (b : Bool) → b ≡ true → b ≡ false → X
-clash b e f = let h : true ≡ false = sym e ∙ f in absurd cc
-
 -- a byte of which a test holds is no byte of which it doesn't
 pub differ : (f : ℕ → Bool) (a byte : ℕ) → f byte ≡ true → f a ≡ false → (byte == a) ≡ false
-differ f a byte e g = ne_eqb byte a (λ same. clash (f byte) e (ap f same ∙ g))
+differ f a byte e g = ne_eqb byte a (λ same. both_ways (f byte) (ap f same ∙ g) e)
 
 -- the next byte of a text whose bytes are plain and which ends before another text is no + and no =
 next-not : (a : ℕ) (bytes rest : List ℕ) → is_plain_byte a ≡ false → ends_byte a ≡ false → (10 == a) ≡ false
@@ -64,7 +41,7 @@ word-byte : (byte : ℕ) (bytes rest : List ℕ) → is_plain_byte byte ≡ true
 word-byte byte bytes rest p h e =
     let plain = plain-byte byte p in
     in_word-from byte (first_or_end (bytes ++ rest)) plain.blank plain.quote plain.alone
-    (and-second (byte == 33) (first_or_end (bytes ++ rest) == 61) (next-not 61 bytes rest refl refl refl h e))
+    (and_right (byte == 33) (first_or_end (bytes ++ rest) == 61) (next-not 61 bytes rest refl refl refl h e))
 
 ended-byte : (byte next : ℕ) (rest : List ℕ) → ends_word (byte ∷ rest) ≡ true → in_word byte next ≡ false
 ended-byte byte next rest e = elim (in_word byte next) as (λ b. in_word byte next ≡ b → b ≡ false) [
@@ -74,14 +51,14 @@ ended-byte byte next rest e = elim (in_word byte next) as (λ b. in_word byte ne
 
 pub word_size-ended : (bytes rest : List ℕ) → list_all is_plain_byte bytes ≡ true → ends_word rest ≡ true → word_size (bytes ++ rest) ≡ length bytes
 word_size-ended [] [] h e = refl
-word_size-ended [] (byte ∷ rest) h e = choose-else (in_word byte (first_or_end rest)) _ _ (ended-byte byte (first_or_end rest) rest e)
+word_size-ended [] (byte ∷ rest) h e = cond-false (in_word byte (first_or_end rest)) _ _ (ended-byte byte (first_or_end rest) rest e)
 word_size-ended (byte ∷ bytes) rest h e =
     let two = and-true (is_plain_byte byte) (list_all is_plain_byte bytes) h in
-    choose-then (in_word byte (first_or_end (bytes ++ rest))) _ _ (word-byte byte bytes rest two.0 two.1 e)
+    cond-true (in_word byte (first_or_end (bytes ++ rest))) _ _ (word-byte byte bytes rest two.0 two.1 e)
     ∙ (let more = word_size-ended bytes rest two.1 e in omega (arith, more))
 
 third-no : (a b c : Bool) → b ≡ false → ((a && b) && c) ≡ false
-third-no true b c e = and-first b c e
+third-no true b c e = and_left b c e
 third-no false b c e = refl
 
 pub number-second : (a : ℕ) (bytes : List ℕ) → (first_or_end bytes == 43) ≡ false → starts_number (a ∷ bytes) ≡ false
@@ -95,10 +72,10 @@ word-size byte bytes rest h e =
     let two = and-true (is_plain_byte byte) (list_all is_plain_byte bytes) h in
     let plain = plain-byte byte two.0 in
     let next = first_or_end (bytes ++ rest) in
-    choose-else (starts_number (byte ∷ (bytes ++ rest))) _ _ (number-second byte (bytes ++ rest) (next-not 43 bytes rest refl refl refl two.1 e))
-    ∙ choose-else (is_quote byte) _ _ plain.quote
-    ∙ choose-else (is_unequal byte next) _ _ (and-second (byte == 33) (next == 61) (next-not 61 bytes rest refl refl refl two.1 e))
-    ∙ choose-else (is_some (single byte)) _ _ plain.alone
+    cond-false (starts_number (byte ∷ (bytes ++ rest))) _ _ (number-second byte (bytes ++ rest) (next-not 43 bytes rest refl refl refl two.1 e))
+    ∙ cond-false (is_quote byte) _ _ plain.quote
+    ∙ cond-false (is_unequal byte next) _ _ (and_right (byte == 33) (next == 61) (next-not 61 bytes rest refl refl refl two.1 e))
+    ∙ cond-false (is_some (single byte)) _ _ plain.alone
     ∙ word_size-ended (byte ∷ bytes) rest h e
 
 none-or : {A : Type 0} (o : Option A) (d : A) → is_some o ≡ false → unwrap_or o d ≡ d
@@ -116,9 +93,9 @@ word-kind byte bytes h =
     let two = and-true (is_plain_byte byte) (list_all is_plain_byte bytes) h in
     let plain = plain-byte byte two.0 in
     let next = first_or_end bytes in
-    choose-else (starts_number (byte ∷ bytes)) _ _ (word-number byte bytes h)
-    ∙ choose-else (is_quote byte) _ _ plain.quote
-    ∙ choose-else (is_unequal byte next) _ _ (and-second (byte == 33) (next == 61) (subst (λ (xs : List ℕ). (first_or_end xs == 61) ≡ false) (append-nil bytes) (next-not 61 bytes [] refl refl refl two.1 refl)))
+    cond-false (starts_number (byte ∷ bytes)) _ _ (word-number byte bytes h)
+    ∙ cond-false (is_quote byte) _ _ plain.quote
+    ∙ cond-false (is_unequal byte next) _ _ (and_right (byte == 33) (next == 61) (subst (λ (xs : List ℕ). (first_or_end xs == 61) ≡ false) (append-nil bytes) (next-not 61 bytes [] refl refl refl two.1 refl)))
     ∙ none-or (single byte) kind.Word plain.alone
 
 closed-plain : (a b : Bool) → a ≡ false → not (not a || b) ≡ false
@@ -130,9 +107,9 @@ unfolding token_fault
 word-sound byte bytes h f =
     let two = and-true (is_plain_byte byte) (list_all is_plain_byte bytes) h in
     let plain = plain-byte byte two.0 in
-    choose-else (has_forbidden (byte ∷ bytes)) _ _ f
-    ∙ choose-else (not (is_closed (byte ∷ bytes))) _ _ (closed-plain (is_quote byte) _ plain.quote)
-    ∙ choose-else (starts_number (byte ∷ bytes)) _ _ (word-number byte bytes h)
+    cond-false (has_forbidden (byte ∷ bytes)) _ _ f
+    ∙ cond-false (not (is_closed (byte ∷ bytes))) _ _ (closed-plain (is_quote byte) _ plain.quote)
+    ∙ cond-false (starts_number (byte ∷ bytes)) _ _ (word-number byte bytes h)
 
 -- a word before what ends it
 pub word_back : (text rest : List ℕ) → is_word_text text ≡ true → ends_word rest ≡ true → IsReadBack (word text) rest
@@ -152,7 +129,7 @@ word_back (byte ∷ bytes) rest h e =
 number-not : (a : ℕ) (rest : List ℕ) → ((a == 85) || (a == 117)) ≡ false → starts_number (a ∷ rest) ≡ false
 number-not a [] e = refl
 number-not a (b ∷ []) e = refl
-number-not a (b ∷ c ∷ bytes) e = and-first _ (is_some (hex_digit c)) (and-first _ (b == 43) e)
+number-not a (b ∷ c ∷ bytes) e = and_left _ (is_some (hex_digit c)) (and_left _ (b == 43) e)
 
 pub sign_back : (token : LineToken) (byte : ℕ) (rest : List ℕ) → token.text ≡ byte ∷ [] → ((byte == 85) || (byte == 117)) ≡ false → (byte == 33) ≡ false → is_blank byte ≡ false → is_quote byte ≡ false
     → is_some (single byte) ≡ true → unwrap_or (single byte) kind.Word ≡ token.kind → has_forbidden (byte ∷ []) ≡ false → IsReadBack token rest
@@ -162,14 +139,14 @@ sign_back token byte rest is u n b q s k f =
       some = subst (λ (xs : List ℕ). 0 < length xs) (sym is) (omega arith);
       solid = subst (λ (xs : List ℕ). is_blank (first_or_end xs) ≡ false) (sym is) b;
       size = subst (λ (xs : List ℕ). token_size (xs ++ rest) ≡ length xs) (sym is)
-          (choose-else (starts_number (byte ∷ rest)) _ _ (number-not byte rest u)
-          ∙ choose-else (is_quote byte) _ _ q
-          ∙ choose-else (is_unequal byte (first_or_end rest)) _ _ (and-first (byte == 33) _ n)
-          ∙ choose-then (is_some (single byte)) _ _ s);
+          (cond-false (starts_number (byte ∷ rest)) _ _ (number-not byte rest u)
+          ∙ cond-false (is_quote byte) _ _ q
+          ∙ cond-false (is_unequal byte (first_or_end rest)) _ _ (and_left (byte == 33) _ n)
+          ∙ cond-true (is_some (single byte)) _ _ s);
       kind = subst (λ (xs : List ℕ). token_kind xs ≡ token.kind) (sym is)
-          (choose-else (is_quote byte) _ _ q ∙ choose-else (is_unequal byte 10) _ _ (and-first (byte == 33) _ n) ∙ k);
+          (cond-false (is_quote byte) _ _ q ∙ cond-false (is_unequal byte 10) _ _ (and_left (byte == 33) _ n) ∙ k);
       sound = subst (λ (xs : List ℕ). token_fault xs ≡ None) (sym is)
-          (choose-else (has_forbidden (byte ∷ [])) _ _ f ∙ choose-else (not (is_closed (byte ∷ []))) _ _ (closed-plain (is_quote byte) _ q));
+          (cond-false (has_forbidden (byte ∷ [])) _ _ f ∙ cond-false (not (is_closed (byte ∷ []))) _ _ (closed-plain (is_quote byte) _ q));
     }
 
 pub opening_back : (rest : List ℕ) → IsReadBack opening rest
@@ -210,29 +187,21 @@ unequal_back rest =
     record {
       some = omega arith;
       solid = refl;
-      size = choose-else (starts_number (33 ∷ 61 ∷ rest)) _ _ (number-not 33 (61 ∷ rest) refl);
+      size = cond-false (starts_number (33 ∷ 61 ∷ rest)) _ _ (number-not 33 (61 ∷ rest) refl);
       kind = refl;
       sound = refl;
     }
 
 -- a text in quotes
 quoted-size : (quote : ℕ) (bytes rest : List ℕ) → list_any (λ b. b == quote) bytes ≡ false → (quote == quote) ≡ true → quoted_size quote ((bytes ++ quote ∷ []) ++ rest) ≡ suc (length bytes)
-quoted-size quote [] rest h same = choose-then (quote == quote) _ _ same
+quoted-size quote [] rest h same = cond-true (quote == quote) _ _ same
 quoted-size quote (byte ∷ bytes) rest h same =
     let two = or-false (byte == quote) (list_any (λ b. b == quote) bytes) h in
-    choose-else (byte == quote) _ _ two.0 ∙ (let more = quoted-size quote bytes rest two.1 same in omega (arith, more))
-
-or-first : (a b : Bool) → a ≡ true → (a || b) ≡ true
-or-first true b e = refl
-or-first false b e = absurd cc
-
-or-second : (a b : Bool) → b ≡ true → (a || b) ≡ true
-or-second true b e = refl
-or-second false b e = e
+    cond-false (byte == quote) _ _ two.0 ∙ (let more = quoted-size quote bytes rest two.1 same in omega (arith, more))
 
 any-last : (quote : ℕ) (bytes : List ℕ) → (quote == quote) ≡ true → list_any (λ b. b == quote) (bytes ++ quote ∷ []) ≡ true
-any-last quote [] same = or-first (quote == quote) false same
-any-last quote (byte ∷ bytes) same = or-second (byte == quote) _ (any-last quote bytes same)
+any-last quote [] same = or_left (quote == quote) false same
+any-last quote (byte ∷ bytes) same = or_right (byte == quote) _ (any-last quote bytes same)
 
 closed-quote : (a b : Bool) → a ≡ true → b ≡ true → not (not a || b) ≡ false
 closed-quote true true e f = refl
@@ -246,10 +215,10 @@ quoted_back quote bytes rest q same u b h f =
     record {
       some = omega arith;
       solid = b;
-      size = choose-else (starts_number (quote ∷ ((bytes ++ quote ∷ []) ++ rest))) _ _ (number-not quote ((bytes ++ quote ∷ []) ++ rest) u)
-          ∙ choose-then (is_quote quote) _ _ q ∙ (let size = quoted-size quote bytes rest h same in let long = length-append bytes (quote ∷ []) in omega (arith, size, long));
-      kind = choose-else (starts_number (quote ∷ (bytes ++ quote ∷ []))) _ _ (number-not quote (bytes ++ quote ∷ []) u) ∙ choose-then (is_quote quote) _ _ q;
-      sound = choose-else (has_forbidden (quote ∷ (bytes ++ quote ∷ []))) _ _ f
-          ∙ choose-else (not (is_closed (quote ∷ (bytes ++ quote ∷ [])))) _ _ (closed-quote (is_quote quote) _ q (any-last quote bytes same))
-          ∙ choose-else (starts_number (quote ∷ (bytes ++ quote ∷ []))) _ _ (number-not quote (bytes ++ quote ∷ []) u);
+      size = cond-false (starts_number (quote ∷ ((bytes ++ quote ∷ []) ++ rest))) _ _ (number-not quote ((bytes ++ quote ∷ []) ++ rest) u)
+          ∙ cond-true (is_quote quote) _ _ q ∙ (let size = quoted-size quote bytes rest h same in let long = length-append bytes (quote ∷ []) in omega (arith, size, long));
+      kind = cond-false (starts_number (quote ∷ (bytes ++ quote ∷ []))) _ _ (number-not quote (bytes ++ quote ∷ []) u) ∙ cond-true (is_quote quote) _ _ q;
+      sound = cond-false (has_forbidden (quote ∷ (bytes ++ quote ∷ []))) _ _ f
+          ∙ cond-false (not (is_closed (quote ∷ (bytes ++ quote ∷ [])))) _ _ (closed-quote (is_quote quote) _ q (any-last quote bytes same))
+          ∙ cond-false (starts_number (quote ∷ (bytes ++ quote ∷ []))) _ _ (number-not quote (bytes ++ quote ∷ []) u);
     }

@@ -2,7 +2,7 @@
 use Rattle.std.proofs.Common.{◌≡◌, ℕ, ◌≤◌, Bool, true, false, nat_lt, nat_le, not, cond, List, [], ◌∷◌, ◌++◌, length, map, Option, Some, None, is_some, refl, arith}
 use Rattle.std.specs.Prelude.{All, nat_eq, find}
 use Rattle.std.specs.List.{list_all, list_any, AllByRecursion}
-use Rattle.std.proofs.lemmas.Bool.{and_parts, and_from}
+use Rattle.std.proofs.lemmas.Bool.{and_parts, and_from, or_parts}
 use Rattle.std.proofs.lemmas.Bool.Decides.{nat_tests}
 use Rattle.std.proofs.lemmas.List.Elements.{All-head, All-tail}
 use Rattle.kmn_base.specs.declared.codes.Code.TheVariants.{C10, C13}
@@ -25,7 +25,7 @@ use Rattle.store_table.specs.First.{or_else, first_code}
 use Rattle.store_table.specs.Known.{known}
 use Rattle.item_checker.specs.Items.{is_option, is_far, is_unfit_key, are_unfit_keys, key_code, context_code, rule_output_code, rule_code, rule_refusal, rules_refusal}
 use Rattle.rule_checker.specs.Refused.{IsRead, refused}
-use Rattle.checker_laws.proofs.Lists.{none_or, All-append_parts}
+use Rattle.checker_laws.proofs.Lists.{All-append_parts}
 use Rattle.checker_laws.proofs.Unrefused.{none_both, none_at_line, none_broken, none_first, Stands}
 use Rattle.checker_laws.proofs.Accepted.{unrefused}
 use Rattle.checker_laws.proofs.Reading.{has_parts, have_parts, all_have_parts, words_read}
@@ -43,7 +43,7 @@ few_places n h = grind (arith, nat_tests)
 unit_elements : (elements : List Element) → list_any is_unfit_key elements ≡ false → list_all is_unit_element elements ≡ true
 unit_elements [] h = refl
 unit_elements (element.Char c ∷ elements) h =
-    let both = none_or (nat_lt 0xFFFF c) (list_any is_unfit_key elements) h in
+    let both = or_parts (nat_lt 0xFFFF c) (list_any is_unfit_key elements) h in
     and_from (is_unit c) (list_all is_unit_element elements) (unit_character c both.0) (unit_elements elements both.1)
 unit_elements (element.Mark m ∷ elements) h = absurd (cc)
 unit_elements (element.Key flags code ∷ elements) h = unit_elements elements h

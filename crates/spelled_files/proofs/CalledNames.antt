@@ -3,7 +3,7 @@ use Rattle.std.proofs.Common.{◌≡◌, ℕ, zero, suc, ◌+◌, ◌^◌, ◌<�
 use Rattle.std.specs.Prelude.{All, nat_eq, slice_get, unwrap_or, filter}
 use Rattle.std.specs.List.{list_any, AllByRecursion, range_with_len}
 use Rattle.std.specs.Str.{is_utf8}
-use Rattle.std.proofs.lemmas.Bool.{not-false, cond_both}
+use Rattle.std.proofs.lemmas.Bool.{not-false, cond_both, not-true, and_parts, cond-false}
 use Rattle.std.proofs.lemmas.List.Elements.{All-nil, All-cons, All-weaker, All-map, All-filter, All-take, recursion_from_All}
 use Rattle.kmn_items.specs.Words.{is_system_name}
 use Rattle.rule_model.specs.declared.tables.Store.{Store}
@@ -12,7 +12,7 @@ use Rattle.program_text.specs.Names.{is_source_name}
 use Rattle.program_text.specs.Spelled.{IsSpelledName, IsStoreName}
 use Rattle.decompile_laws.specs.Names.{written_ids, is_written, numbered_name, is_free, free_names, keeps_name, keeps_store_name, store_names, group_names}
 use Rattle.decompile_laws.specs.WrittenOut.{is_ordinary}
-use Rattle.decompile_laws.proofs.Choosing.{clash, not-true, and-true, choose-else}
+use Rattle.decompile_laws.proofs.Choosing.{clash}
 
 range-below : (from count bound : ℕ) → from + count ≤ bound → All (λ n. n < bound) (range_with_len from count)
 range-below from zero bound h = All-nil (λ n. n < bound)
@@ -55,8 +55,8 @@ HasText store = is_utf8 store.name ≡ true
 
 kept-name : (earlier : List (List ℕ)) (name : List ℕ) → is_utf8 name ≡ true → keeps_store_name earlier name ≡ true → IsStoreName name
 kept-name earlier name utf8 k =
-    let one = and-true (not (is_system_name name)) (keeps_name earlier name) k in
-    let two = and-true (is_source_name name) (is_free earlier name) one.1 in
+    let one = and_parts (not (is_system_name name)) (keeps_name earlier name) k in
+    let two = and_parts (is_source_name name) (is_free earlier name) one.1 in
     record { named = record { utf8 = utf8; read = two.0 }; ordinary = not-true (is_system_name name) one.0 }
 
 pub are_named : (named : List ℕ) (free earlier : List (List ℕ)) (n : ℕ) (stores : List Store) → AllByRecursion IsStoreName free → length stores ≤ length free
@@ -68,7 +68,7 @@ are_named named free earlier n (store ∷ stores) f enough texts =
     (λ w. cond_both (not (nat_eq store.system 0)) _ _ (λ calls. AreNamed named n calls (store ∷ stores))
     (λ e. (
       (λ o. clash (nat_eq store.system 0) o (not-true (nat_eq store.system 0) e)),
-      (λ o. (refl, sym (choose-else (nat_eq store.system 0) (list_any (nat_eq n) named) (list_any (nat_eq store.system) written_ids) o) ∙ not-false (is_written named n store) w)),
+      (λ o. (refl, sym (cond-false (nat_eq store.system 0) (list_any (nat_eq n) named) (list_any (nat_eq store.system) written_ids) o) ∙ not-false (is_written named n store) w)),
       are_named named free earlier (n + 1) stores f (omega arith) texts.1,
     ))
     (λ e. cond_both (keeps_store_name earlier store.name) _ _ (λ calls. AreNamed named n calls (store ∷ stores))
@@ -109,7 +109,7 @@ groups_named free earlier [] f enough texts = tt
 groups_named free earlier (group ∷ groups) f enough texts =
     cond_both (keeps_name earlier group.name) _ _ (λ names. AllByRecursion IsSpelledName names)
     (λ k. (
-      record { utf8 = texts.0; read = (and-true (is_source_name group.name) (is_free earlier group.name) k).0 },
+      record { utf8 = texts.0; read = (and_parts (is_source_name group.name) (is_free earlier group.name) k).0 },
       groups_named free (earlier ++ group.name ∷ []) groups f (omega arith) texts.1,
     ))
     (λ k. (

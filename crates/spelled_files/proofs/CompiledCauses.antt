@@ -4,7 +4,7 @@ use Rattle.std.specs.Prelude.{All, drop, flat_map, nat_eq, slice_get, take, unwr
 use Rattle.std.specs.List.{list_all, list_any, AllByRecursion, join_with_byte}
 use Rattle.std.specs.Str.{bytes_eq, chars, str_to_ascii_lowercase}
 use Rattle.std.specs.Cmp.Lexicographic.{bytes_decides, nat_list_eq_equiv}
-use Rattle.std.proofs.lemmas.Bool.{and_parts, or_parts, eqb-true}
+use Rattle.std.proofs.lemmas.Bool.{and_parts, or_parts, eqb-true, cond-true}
 use Rattle.std.proofs.lemmas.List.{take-append-le}
 use Rattle.std.proofs.lemmas.List.Elements.{All-nil, All-cons, All-head, All-tail, All-append}
 use Rattle.std.proofs.lemmas.Option.{same_Some}
@@ -50,7 +50,7 @@ use Rattle.decompile_laws.specs.Names.{named_stores}
 use Rattle.decompile_laws.specs.Back.{free_stores, mark_stores, key_stores, names_for}
 use Rattle.decompile_laws.proofs.Apart.{same-turned}
 use Rattle.decompile_laws.proofs.OptionNames.{option-named}
-use Rattle.decompile_laws.proofs.Choosing.{clash, choose-then}
+use Rattle.decompile_laws.proofs.Choosing.{clash}
 use Rattle.program_text.specs.Names.{is_source_name}
 use Rattle.kmn_items.specs.Words.{is_system_name}
 use Rattle.rule_model.specs.declared.program.SrcItem.{SrcItem}
@@ -181,7 +181,7 @@ module _ (program : Program) (read : IsRead program) (accepted : refused program
       (keeps (named_stores placeless) s (drop (length (mark_stores placeless ++ key_stores placeless)) (free_stores placeless)) [] 0 tables.stores n n (omega arith) at keeps_it refl apart) in
       let kept : bytes_eq (store_called names n) s.name ≡ true = (bytes_decides (store_called names n) s.name).1 called in
       let zero_system : nat_eq stated.statement.system 0 ≡ true = ap (λ (m : ℕ). nat_eq m 0) (sym stated.system ∙ ordinary) in
-      let want = choose-then (nat_eq stated.statement.system 0) _ _ zero_system ∙ (ap (is_option (known program)) (sym stated.name) ∙ used.used.option s.name same) in
+      let want = cond-true (nat_eq stated.statement.system 0) _ _ zero_system ∙ (ap (is_option (known program)) (sym stated.name) ∙ used.used.option s.name same) in
       let alone = characters_alone (known program) s stated want in
       λ i. not (system i) || (not (kept i) || alone i)
 

@@ -2,7 +2,7 @@
 use Rattle.std.proofs.Common.{◌≡◌, ℕ, ◌+◌, ◌-◌, ◌≤◌, Bool, true, false, not, ◌||◌, List, [], ◌∷◌, ◌++◌, map, Option, None, Some, is_some, refl, sym, ◌∙◌, ap, subst, arith, if◌then◌else◌}
 use Rattle.std.specs.Prelude.{All, bit_and, nat_eq, nat_lt, find, flat_map, option_map, unwrap_or, slice_get}
 use Rattle.std.specs.List.{list_all, list_any}
-use Rattle.std.proofs.lemmas.Bool.{and_parts, eqb-true, eqb-false, eq-eqb}
+use Rattle.std.proofs.lemmas.Bool.{and_parts, eqb-true, eqb-false, eq-eqb, cond-false, cond-true}
 use Rattle.std.proofs.lemmas.Bool.Decides.{nat_tests}
 use Rattle.std.proofs.lemmas.List.Elements.{All-nil, All-cons, All-head, All-tail, All-append}
 use Rattle.kmn_base.specs.declared.items.Element.{Element}
@@ -29,7 +29,6 @@ use Rattle.program_text.specs.Spelled.{IsSpelledKey}
 use Rattle.program_text.proofs.Keys.{found, some-mapped}
 use Rattle.decompile_laws.specs.Items.{Names}
 use Rattle.decompile_laws.specs.WrittenOut.{has_key_name}
-use Rattle.decompile_laws.proofs.Choosing.{choose-else, choose-then}
 use Rattle.spelled_files.specs.Causes.{is_far_mark, is_unspelled_element}
 use Rattle.spelled_files.specs.Written.{IsWrittenItem, IsWrittenStore, WasWritten}
 
@@ -43,8 +42,8 @@ back p = omega arith
 name-there : (keys : List (List ℕ)) (p : ℕ) (name : List ℕ) → slice_get keys p ≡ Some name → has_key_name keys (256 + p) ≡ true
 name-there keys p name at =
     ap is_some
-    (choose-else (nat_lt (256 + p) 256) (key_name (256 + p)) (name_in keys (256 + p)) (beyond p)
-    ∙ choose-else (nat_lt (256 + p) 256) None (slice_get keys (256 + p - 256)) (beyond p)
+    (cond-false (nat_lt (256 + p) 256) (key_name (256 + p)) (name_in keys (256 + p)) (beyond p)
+    ∙ cond-false (nat_lt (256 + p) 256) None (slice_get keys (256 + p - 256)) (beyond p)
     ∙ ap (slice_get keys) (back p)
     ∙ at)
 
@@ -65,7 +64,7 @@ table-named : (keys : List (List ℕ)) (code : ℕ) → is_some (key_name code) 
 table-named keys code some =
     let here = found (λ (row : List ℕ × ℕ). nat_eq row.1 code) (λ (row : List ℕ × ℕ). nat_lt row.1 256) key_codes codes-small (some-mapped (λ (row : List ℕ × ℕ). row.0) (find (λ (row : List ℕ × ℕ). nat_eq row.1 code) key_codes) some) in
     let small : nat_lt code 256 ≡ true = subst (λ (n : ℕ). nat_lt n 256 ≡ true) (eqb-true here.row.1 code here.chosen) here.passes in
-    ap is_some (choose-then (nat_lt code 256) (key_name code) (name_in keys code) small) ∙ some
+    ap is_some (cond-true (nat_lt code 256) (key_name code) (name_in keys code) small) ∙ some
 
 not-far : (n : ℕ) → n ≤ DEADKEYS → is_far_mark n ≡ false
 not-far n h = grind (arith, nat_tests, h)

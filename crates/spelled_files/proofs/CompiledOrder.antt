@@ -3,6 +3,7 @@ use Rattle.std.proofs.Common.{◌≡◌, ℕ, suc, ◌+◌, ◌<◌, Bool, true,
 use Rattle.std.specs.Prelude.{nat_lt, slice_index_or, option_map, ◌==◌}
 use Rattle.std.specs.List.Sorted.{IsSortedBy}
 use Rattle.std.specs.Ordering.{is_lt, ordering_then, nat_cmp}
+use Rattle.std.proofs.lemmas.Bool.{cond-false}
 use Rattle.rule_model.specs.declared.program.Program.{Program}
 use Rattle.rule_model.specs.declared.tables.Rule.{Rule}
 use Rattle.rule_model.specs.declared.tables.Group.{Group}
@@ -11,7 +12,6 @@ use Rattle.kmx_format.specs.TablesOf.{rule_without_place, group_without_places, 
 use Rattle.kmx_format.proofs.FileLaw.{law}
 use Rattle.compile_laws.specs.Compiles.{stands_before, Compiles}
 use Rattle.store_table.specs.First.{or_else}
-use Rattle.decompile_laws.proofs.Choosing.{choose-else}
 use Rattle.spelled_files.specs.declared.no_spelling.NoSpelling.TheVariants.{Order}
 use Rattle.spelled_files.specs.Unspelled.{longer_behind, first_longer, disorder}
 use Rattle.spelled_files.specs.Laws.{CompiledIsInOrder}
@@ -29,7 +29,7 @@ not-longer a b h = by (nat_lt (length b.context) (length a.context)) h
 none-longer : (n : ℕ) (before : Rule) (rules : List Rule) → IsSortedBy stands_before (before ∷ rules) → longer_behind n (length before.context) (map rule_without_place rules) ≡ None
 none-longer n before [] up = refl
 none-longer n before (rule ∷ rules) up =
-    choose-else (nat_lt (length before.context) (length rule.context)) _ _ (not-longer rule before (up 0 before (omega arith) (omega arith)))
+    cond-false (nat_lt (length before.context) (length rule.context)) _ _ (not-longer rule before (up 0 before (omega arith) (omega arith)))
     ∙ none-longer (n + 1) rule rules
     (λ k d low less.
     let e : suc k + 1 ≡ suc (k + 1) = omega arith in

@@ -1,6 +1,6 @@
 -- No cause holds of the rules and groups of a file that a program compiles to.
 use Rattle.std.proofs.Common.{◌≡◌, ℕ, suc, zero, ◌+◌, Bool, true, false, not, ◌&&◌, ◌||◌, List, [], ◌∷◌, ◌++◌, length, map, Option, None, Some, refl, sym, ◌∙◌, ap, arith, if◌then◌else◌}
-use Rattle.std.specs.Prelude.{All, nat_eq, nat_lt, filter, filter_map, find, flat_map, option_to_list, slice_get, unwrap_or}
+use Rattle.std.specs.Prelude.{All, nat_eq, nat_lt, filter, find, flat_map, option_to_list, slice_get, unwrap_or}
 use Rattle.std.specs.List.{list_all, list_any, AllByRecursion}
 use Rattle.std.proofs.lemmas.Bool.{and_parts, or_parts, ne_eqb, le-ltb}
 use Rattle.std.proofs.lemmas.List.Elements.{All-head, All-tail, All-from_recursion, recursion_from_All}
@@ -26,12 +26,13 @@ use Rattle.rule_model.specs.Match.{element_at}
 use Rattle.rule_model.specs.Hold.{key_of_element}
 use Rattle.rule_model.specs.Naming.{names_of, stores_of, rule_items, elements_named, mark_number}
 use Rattle.rule_model.specs.Src.{is_plain_kind, is_plain, is_on_match, is_on_nomatch, value_elements}
-use Rattle.rule_model.specs.Tab.{elements_of, element_char}
+use Rattle.rule_model.specs.Tab.{elements_of}
 use Rattle.compile_laws.specs.Numbers.{Numbers, numbers_of, number_of_store, number_of_value}
 use Rattle.compile_laws.specs.Compiles.{file_pattern, element_outs, element_outs_if_any, file_output, or_nul, file_record, records_from, own_key, keyed_records, rule_records, statement_outputs, file_group}
 use Rattle.compile_laws.specs.Ordered.{in_order, ordered_group}
 use Rattle.compile_laws.specs.WellNamed.{is_store, is_fixed, is_known_pattern, is_known_output}
 use Rattle.compile_laws.proofs.Linked.{is_value}
+use Rattle.compile_laws.proofs.Dictionary.{read_chars}
 use Rattle.compile_laws.proofs.Known.{has_values, KnownRule, KnownStatement, KnownGroup}
 use Rattle.compile_laws.proofs.Ordered.{in_order_permutes}
 use Rattle.kmx_format.specs.Writable.{is_matched}
@@ -60,14 +61,10 @@ characters-alone : (cs : List ℕ) → list_any is_no_character (map element.Cha
 characters-alone [] = refl
 characters-alone (c ∷ cs) = characters-alone cs
 
-pub characters_again : (cs : List ℕ) → filter_map element_char (map element.Char cs) ≡ cs
-characters_again [] = refl
-characters_again (c ∷ cs) = ap (λ (rest : List ℕ). c ∷ rest) (characters_again cs)
-
 -- a value that can stand in quotes
 value-fine : (value : List ℕ) → IsSpelledValue value → is_unspelled_value (map element.Char value) ≡ false
 value-fine value ok =
-    (λ i. characters-alone value i || (not (list_all is_inner (characters_again value i)) || have_both_quotes (characters_again value i)))
+    (λ i. characters-alone value i || (not (list_all is_inner (read_chars value i)) || have_both_quotes (read_chars value i)))
     ∙ (λ i. not (ok.in_line i) || ok.one_quote i)
 
 character-key : (c : ℕ) → IsCharacter c → not (is_nameable c) ≡ false

@@ -2,7 +2,7 @@
 use Rattle.std.proofs.Common.{◌≡◌, ◌≢◌, ℕ, zero, suc, ◌+◌, Bool, true, false, not, ◌||◌, List, [], ◌∷◌, ◌++◌, map, Option, Some, None, refl, sym, ◌∙◌, ap, subst, arith}
 use Rattle.std.specs.Prelude.{All, nat_eq, position, slice_get, take, drop, unwrap_or}
 use Rattle.std.specs.List.{list_any, AllByRecursion}
-use Rattle.std.proofs.lemmas.Bool.{cond_both, eqb-true, eqb-false, not-true, and_from}
+use Rattle.std.proofs.lemmas.Bool.{cond_both, eqb-true, eqb-false, not-true, and_from, cond-true, cond-false}
 use Rattle.std.proofs.lemmas.List.Elements.{All-head, All-tail}
 use Rattle.std.proofs.lemmas.List.Folds.{list_any-append}
 use Rattle.std.proofs.lemmas.Option.{none-some, same_Some}
@@ -25,7 +25,7 @@ use Rattle.kmn_items.specs.Words.{is_system_name}
 use Rattle.decompile_laws.specs.Items.{Names}
 use Rattle.decompile_laws.specs.Names.{is_written, is_free, keeps_name, keeps_store_name, store_names}
 use Rattle.decompile_laws.proofs.Apart.{source-some, same-turned}
-use Rattle.decompile_laws.proofs.Choosing.{clash, choose-then, choose-else}
+use Rattle.decompile_laws.proofs.Choosing.{clash}
 use Rattle.spelled_files.specs.Causes.{is_system_store, is_first_dictionary, is_number, is_unspelled_dictionary, is_unspelled_system, is_unspelled_store}
 use Rattle.spelled_files.specs.Written.{WasWritten}
 use Rattle.spelled_files.proofs.CompiledElements.{IsFineStore}
@@ -60,12 +60,12 @@ module _ (named : List ℕ) (x : Store) where
       → slice_get (store_names named free earlier n (x ∷ stores)) 0 ≡ Some (Some x.name)
   keeps-here free earlier n stores keeps h =
       let zero_system : nat_eq x.system 0 ≡ true = ap (λ (m : ℕ). nat_eq m 0) keeps.ordinary in
-      let written : is_written named n x ≡ true = choose-then (nat_eq x.system 0) _ _ zero_system ∙ keeps.uses in
+      let written : is_written named n x ≡ true = cond-true (nat_eq x.system 0) _ _ zero_system ∙ keeps.uses in
       let kept : keeps_store_name earlier x.name ≡ true =
       and_from (not (is_system_name x.name)) (keeps_name earlier x.name) (ap (λ (b : Bool). not b) keeps.plain) (and_from (is_source_name x.name) (is_free earlier x.name) keeps.source h) in
       ap (λ (names : List (Option (List ℕ))). slice_get names 0)
-      (choose-else (not (is_written named n x)) _ _ (ap (λ (b : Bool). not b) written)
-      ∙ (choose-else (not (nat_eq x.system 0)) _ _ (ap (λ (b : Bool). not b) zero_system) ∙ choose-then (keeps_store_name earlier x.name) _ _ kept))
+      (cond-false (not (is_written named n x)) _ _ (ap (λ (b : Bool). not b) written)
+      ∙ (cond-false (not (nat_eq x.system 0)) _ _ (ap (λ (b : Bool). not b) zero_system) ∙ cond-true (keeps_store_name earlier x.name) _ _ kept))
 
   pub keeps : (free earlier : List (List ℕ)) (n : ℕ) (stores : List Store) (i m : ℕ) → m ≡ n + i → slice_get stores i ≡ Some x → KeepsOwnName named m x → is_free earlier x.name ≡ true
       → AllByRecursion Differs (take i stores) → slice_get (store_names named free earlier n stores) i ≡ Some (Some x.name)

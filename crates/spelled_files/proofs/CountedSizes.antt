@@ -1,31 +1,28 @@
 -- What the limits count of the program that tables are written out as is what the stores have that it compiles to.
 use Rattle.std.proofs.Common.{◌≡◌, ℕ, ◌≤◌, false, List, [], ◌∷◌, ◌++◌, length, map, None, refl, sym, ◌∙◌, ap, subst, arith}
-use Rattle.std.specs.Prelude.{All, ◌+◌, flat_map, nat_lt, sum}
-use Rattle.std.specs.List.{list_any, AllByRecursion, join_with_byte}
-use Rattle.std.specs.Str.{bytes_eq, chars}
-use Rattle.std.proofs.lemmas.Bool.{le-ltb, or_from}
+use Rattle.std.specs.Prelude.{◌+◌, flat_map, nat_lt, sum}
+use Rattle.std.specs.List.{list_any, AllByRecursion}
+use Rattle.std.specs.Str.{bytes_eq}
+use Rattle.std.proofs.lemmas.Bool.{le-ltb, or_from, cond-false}
 use Rattle.std.proofs.lemmas.List.{length-map, map-append}
-use Rattle.std.proofs.lemmas.List.Concat.{flat_map-append, length-flat_map}
+use Rattle.std.proofs.lemmas.List.Concat.{length-flat_map}
 use Rattle.std.proofs.lemmas.List.Sums.{sum-map}
-use Rattle.kmn_base.specs.declared.items.Element.TheVariants as element
 use Rattle.kmn_base.specs.declared.limits.TheConstants.{STORE_ELEMENTS, ALL_ELEMENTS, STORES}
 use Rattle.kmn_base.specs.Names.{same_name}
-use Rattle.kmn_parser.specs.ProgramLaws.{IsOwnKey}
 use Rattle.rule_model.specs.declared.program.SrcItem.{SrcItem}
 use Rattle.rule_model.specs.declared.program.StoreDef.{StoreDef}
-use Rattle.rule_model.specs.declared.program.RuleDef.{RuleDef}
 use Rattle.rule_model.specs.declared.program.Program.{Program}
 use Rattle.rule_model.specs.declared.tables.Store.{Store}
 use Rattle.rule_model.specs.declared.tables.Tables.{Tables}
 use Rattle.rule_model.specs.Tab.{distinct_onto}
-use Rattle.rule_model.specs.Naming.{names_of, stores_of, store_of, is_dropped, rule_items, source_items, stores_before, stores_after, all_rules, key_names}
-use Rattle.compile_laws.specs.Numbers.{item_values, values_of, value_store, dictionary_stores, compiled_stores}
+use Rattle.rule_model.specs.Naming.{names_of, stores_of, store_of, is_dropped, source_items, all_rules, key_names}
+use Rattle.compile_laws.specs.Numbers.{values_of, value_store, dictionary_stores, compiled_stores}
 use Rattle.kmx_format.specs.Writable.{elements_of}
 use Rattle.kmx_format.specs.Playable.{IsPlayable}
 use Rattle.store_table.specs.Known.{Known, known, statement_elements}
-use Rattle.limit_checker.specs.Limits.{Statement, OfStore, OfRule, in_line_order, items_of, values_of_statement, statement_size, store_size, dictionary_size, sizes, have_many_elements, limits_refusal}
+use Rattle.limit_checker.specs.Limits.{items_of, values_of_statement, statement_size, store_size, dictionary_size, sizes, have_many_elements, limits_refusal}
 use Rattle.rule_checker.specs.Refused.{IsRead}
-use Rattle.checker_laws.proofs.Sizes.{element_count, items_in_order, parted, joined_size}
+use Rattle.checker_laws.proofs.Sizes.{element_count, items_in_order, values_in_order, stores_in_order, dictionary_sized, values_sized}
 use Rattle.checker_laws.proofs.Reading.{own_keys_read}
 use Rattle.decompile_laws.specs.Names.{named_stores}
 use Rattle.decompile_laws.specs.Back.{back_stores, numbered, front_stores, names_for, written_stores, back}
@@ -34,54 +31,19 @@ use Rattle.decompile_laws.proofs.Linking.{IsSimple, stores-mapped}
 use Rattle.decompile_laws.proofs.Calls.{back-simple}
 use Rattle.decompile_laws.proofs.Stores.{the-calls}
 use Rattle.decompile_laws.proofs.FrontStores.{front-simple, numbered-simple}
-use Rattle.decompile_laws.proofs.Choosing.{choose-else, all_join}
+use Rattle.decompile_laws.proofs.Choosing.{all_join}
 use Rattle.spelled_files.specs.Excess.{store_count, element_count as text_elements}
 use Rattle.spelled_files.proofs.Sayable.{IsSayable}
 use Rattle.spelled_files.proofs.FewItems.{statements, all_short, records_few, groups_few, marks_few}
 use Rattle.spelled_files.proofs.UnpassedLimits.{KeepsLimits, no_limit_passed}
 use Rattle.spelled_files.proofs.UnrefusedRules.{no-earlier}
 
--- what is gathered from statements in the order of their lines, of rules alone and of stores alone
-module _ {Y : Type 0} (f : Statement → List Y) where
-  of-stores : (g : StoreDef → List Y) → ((s : StoreDef) → f (OfStore s) ≡ g s) → (stores : List StoreDef) → flat_map f (map OfStore stores) ≡ flat_map g stores
-  of-stores g same [] = refl
-  of-stores g same (s ∷ stores) = λ j. same s j ++ of-stores g same stores j
-
-  no-stores : ((s : StoreDef) → f (OfStore s) ≡ []) → (stores : List StoreDef) → flat_map f (map OfStore stores) ≡ []
-  no-stores none [] = refl
-  no-stores none (s ∷ stores) = λ j. none s j ++ no-stores none stores j
-
-  stores-alone : (g : StoreDef → List Y) → ((s : StoreDef) → f (OfStore s) ≡ g s) → ((r : RuleDef) → f (OfRule r) ≡ []) → (stores : List StoreDef) (rules : List RuleDef)
-      → flat_map f (in_line_order stores rules) ≡ flat_map g stores
-  stores-alone g same none stores [] = of-stores g same stores
-  stores-alone g same none stores (rule ∷ rules) =
-      flat_map-append f (map OfStore (stores_before rule.line stores)) (OfRule rule ∷ in_line_order (stores_after rule.line stores) rules)
-      ∙ (λ j. of-stores g same (stores_before rule.line stores) j ++ (none rule j ++ stores-alone g same none (stores_after rule.line stores) rules j))
-      ∙ sym (flat_map-append g (stores_before rule.line stores) (stores_after rule.line stores))
-      ∙ ap (flat_map g) (parted rule.line stores)
-
-values-in-order : (stores : List StoreDef) (rules : List RuleDef) → flat_map values_of_statement (in_line_order stores rules) ≡ flat_map item_values (flat_map rule_items rules)
-values-in-order stores [] = no-stores values_of_statement (λ s. refl) stores
-values-in-order stores (rule ∷ rules) =
-    flat_map-append values_of_statement (map OfStore (stores_before rule.line stores)) (OfRule rule ∷ in_line_order (stores_after rule.line stores) rules)
-    ∙ (λ j. no-stores values_of_statement (λ s. refl) (stores_before rule.line stores) j ++ (flat_map item_values (rule_items rule) ++ values-in-order (stores_after rule.line stores) rules j))
-    ∙ sym (flat_map-append item_values (rule_items rule) (flat_map rule_items rules))
-
 -- stores that name no other store have the sizes that are counted
 stores-sized : (facts : Known) (stores : List StoreDef) → AllByRecursion (IsSimple facts.names) stores → flat_map (store_size facts) stores ≡ map element_count (map (store_of facts.names []) stores)
 stores-sized facts [] h = refl
 stores-sized facts (s ∷ stores) h =
-    λ j. (choose-else (is_dropped s) [] (length (statement_elements facts s) ∷ []) h.0.0 ∙ ap (λ (t : Store). length t.elements ∷ []) (h.0.1 facts.stores)) j
+    λ j. (cond-false (is_dropped s) [] (length (statement_elements facts s) ∷ []) h.0.0 ∙ ap (λ (t : Store). length t.elements ∷ []) (h.0.1 facts.stores)) j
     ++ stores-sized facts stores h.1 j
-
-dictionary-sized : (keys : List (List ℕ)) → All IsOwnKey keys → dictionary_size keys ≡ map element_count (dictionary_stores keys)
-dictionary-sized [] own = refl
-dictionary-sized (name ∷ names) own =
-    ap (λ (n : ℕ). n ∷ []) (sym (length-map (chars (join_with_byte 32 (name ∷ names))) element.Char ∙ joined_size name names own))
-
-values-sized : (values : List (List ℕ)) → map length values ≡ map element_count (map value_store values)
-values-sized [] = refl
-values-sized (value ∷ values) = λ j. sym (length-map value element.Char) j ∷ values-sized values j
 
 module _ (tables : Tables) (can : IsPlayable tables) (out : CanBeWrittenOut tables) where
   abbrev pub program : Program
@@ -96,7 +58,7 @@ module _ (tables : Tables) (can : IsPlayable tables) (out : CanBeWrittenOut tabl
   stores-counted : flat_map (statement_size (known program)) (statements tables can) ≡ map element_count (stores_of program)
   unfolding known stores_of back
   stores-counted =
-      stores-alone (statement_size (known program)) (store_size (known program)) (λ s. refl) (λ r. refl) (written_stores tables) (all_rules program)
+      stores_in_order (known program) (written_stores tables) (all_rules program)
       ∙ stores-sized (known program) (written_stores tables) simple
       ∙ ap (map element_count) (sym (stores-mapped (names_of program) [] (written_stores tables) simple))
 
@@ -106,9 +68,9 @@ module _ (tables : Tables) (can : IsPlayable tables) (out : CanBeWrittenOut tabl
       let all = statements tables can in
       let items : flat_map items_of all ≡ source_items program = items_in_order program.stores (all_rules program) in
       let keys : distinct_onto same_name [] (flat_map key_names (flat_map items_of all)) ≡ (names_of program).keys = ap (λ (xs : List SrcItem). distinct_onto same_name [] (flat_map key_names xs)) items in
-      let values : distinct_onto bytes_eq [] (flat_map values_of_statement all) ≡ values_of program = ap (distinct_onto bytes_eq []) (values-in-order program.stores (all_rules program)) in
+      let values : distinct_onto bytes_eq [] (flat_map values_of_statement all) ≡ values_of program = ap (distinct_onto bytes_eq []) (values_in_order program.stores (all_rules program)) in
       (λ j. stores-counted j ++ (dictionary_size (keys j) ++ map length (values j)))
-      ∙ (λ j. map element_count (stores_of program) ++ (dictionary-sized (names_of program).keys (own_keys_read program read.statements) j ++ values-sized (values_of program) j))
+      ∙ (λ j. map element_count (stores_of program) ++ (dictionary_sized (names_of program).keys (own_keys_read program read.statements) j ++ values_sized (values_of program) j))
       ∙ sym (map-append element_count (stores_of program) (dictionary_stores (names_of program).keys ++ map value_store (values_of program))
       ∙ ap (λ (ns : List ℕ). map element_count (stores_of program) ++ ns) (map-append element_count (dictionary_stores (names_of program).keys) (map value_store (values_of program))))
 

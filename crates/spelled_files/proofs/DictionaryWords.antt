@@ -1,12 +1,10 @@
 -- No cause holds of the store of a program's key names: they are words that a source can have, each once.
-use Rattle.std.proofs.Common.{◌≡◌, ℕ, Bool, true, false, not, ◌&&◌, ◌||◌, List, [], ◌∷◌, ◌++◌, length, map, cond, refl, sym, ◌∙◌, ap, if◌then◌else◌, append_assoc, append-nil}
-use Rattle.std.specs.Prelude.{All, nat_eq, nat_lt, filter, filter_map, flat_map, encode_utf8_all}
-use Rattle.std.specs.List.{list_all, list_any, slice_split, join_with_byte, prefix_len}
-use Rattle.std.specs.Str.{chars, is_utf8}
-use Rattle.std.proofs.lemmas.Bool.{and_parts, or_parts, eqb-true, not-true}
+use Rattle.std.proofs.Common.{◌≡◌, ℕ, Bool, true, false, not, ◌&&◌, ◌||◌, List, [], ◌∷◌, ◌++◌, map, refl, sym, ◌∙◌, ap, if◌then◌else◌, append_assoc, append-nil}
+use Rattle.std.specs.Prelude.{All, nat_eq, nat_lt, filter_map, flat_map, encode_utf8_all}
+use Rattle.std.specs.List.{list_all, list_any, join_with_byte, prefix_len}
+use Rattle.std.specs.Str.{chars}
+use Rattle.std.proofs.lemmas.Bool.{or_parts, eqb-true}
 use Rattle.std.proofs.lemmas.List.Elements.{All-nil, All-cons, All-head, All-tail, All-append, All-take, All-drop}
-use Rattle.std.proofs.lemmas.List.Splits.{slice_split_none, slice_split_at}
-use Rattle.std.proofs.lemmas.Str.{encodes-chars}
 use Rattle.kmn_base.specs.declared.items.Element.TheVariants as element
 use Rattle.kmn_base.specs.Names.{same_name}
 use Rattle.rule_model.specs.declared.program.SrcItem.{SrcItem}
@@ -17,53 +15,11 @@ use Rattle.rule_model.specs.declared.program.Program.{Program}
 use Rattle.rule_model.specs.Naming.{names_of, rule_items, all_rules, store_items, stores_before, stores_after, items_from, source_items, key_names}
 use Rattle.rule_model.specs.Tab.{distinct_onto, element_char, words}
 use Rattle.compile_laws.specs.WellNamed.{is_word}
-use Rattle.compile_laws.proofs.Dictionary.{joined_text}
+use Rattle.compile_laws.proofs.Dictionary.{read_chars, words_again}
 use Rattle.checker_laws.proofs.Lists.{All-flat_map, All-distinct, all_pass}
 use Rattle.spelled_files.specs.Causes.{is_dictionary_name, are_repeated, is_unspelled_dictionary}
 use Rattle.spelled_files.specs.Written.{IsWrittenItem, IsWrittenStore, IsWrittenRule, WasWritten}
-use Rattle.spelled_files.proofs.CompiledRules.{characters_again}
 use Rattle.spelled_files.proofs.SpelledKeys.{IsKeyName}
-
--- ---- words that are joined part again
-
-passes-none : (q : ℕ → Bool) (xs : List ℕ) → list_any q xs ≡ false → All (λ x. q x ≡ false) xs
-passes-none q [] h = All-nil (λ x. q x ≡ false)
-passes-none q (x ∷ xs) h =
-    let each = or_parts (q x) (list_any q xs) h in
-    All-cons (λ y. q y ≡ false) x xs each.0 (passes-none q xs each.1)
-
-filter-whole : (q : List ℕ → Bool) (xs : List (List ℕ)) → list_all q xs ≡ true → filter q xs ≡ xs
-filter-whole q [] h = refl
-filter-whole q (x ∷ xs) h =
-    let each = and_parts (q x) (list_all q xs) h in
-    (λ i. cond (each.0 i) (x ∷ filter q xs) (filter q xs)) ∙ ap (λ ys. x ∷ ys) (filter-whole q xs each.1)
-
-word-some : (name : List ℕ) → is_word name ≡ true → not (nat_eq (length name) 0) ≡ true
-word-some name h = (and_parts (not (nat_eq (length name) 0)) (not (list_any (nat_eq 32) name) && is_utf8 name) h).0
-
-word-whole : (name : List ℕ) → is_word name ≡ true → All (λ b. nat_eq 32 b ≡ false) name
-word-whole name h =
-    let first = and_parts (not (nat_eq (length name) 0)) (not (list_any (nat_eq 32) name) && is_utf8 name) h in
-    passes-none (nat_eq 32) name (not-true _ (and_parts (not (list_any (nat_eq 32) name)) (is_utf8 name) first.1).0)
-
-joined-parts : (name : List ℕ) (names : List (List ℕ)) → list_all is_word (name ∷ names) ≡ true → slice_split (nat_eq 32) (join_with_byte 32 (name ∷ names)) ≡ name ∷ names
-joined-parts name [] h = slice_split_none (nat_eq 32) name (word-whole name (and_parts (is_word name) true h).0)
-joined-parts name (next ∷ names) h =
-    let each = and_parts (is_word name) (list_all is_word (next ∷ names)) h in
-    slice_split_at (nat_eq 32) name 32 (join_with_byte 32 (next ∷ names)) (word-whole name each.0) refl
-    ∙ ap (λ rest. name ∷ rest) (joined-parts next names each.1)
-
-none-empty : (names : List (List ℕ)) → list_all is_word names ≡ true → list_all (λ name. not (nat_eq (length name) 0)) names ≡ true
-none-empty [] h = refl
-none-empty (name ∷ names) h =
-    let each = and_parts (is_word name) (list_all is_word names) h in
-    λ i. word-some name each.0 i && none-empty names each.1 i
-
-words-again : (name : List ℕ) (names : List (List ℕ)) → list_all is_word (name ∷ names) ≡ true → words (encode_utf8_all (chars (join_with_byte 32 (name ∷ names)))) ≡ name ∷ names
-words-again name names h =
-    ap words (encodes-chars (join_with_byte 32 (name ∷ names)) (joined_text name names h))
-    ∙ (ap (filter (λ word. not (nat_eq (length word) 0))) (joined-parts name names h)
-    ∙ filter-whole (λ word. not (nat_eq (length word) 0)) (name ∷ names) (none-empty (name ∷ names) h))
 
 -- ---- names that are taken once each are not repeated
 
@@ -92,7 +48,7 @@ pub dictionary_fine : (name : List ℕ) (names : List (List ℕ)) → list_all i
     → is_unspelled_dictionary (map element.Char (chars (join_with_byte 32 (name ∷ names)))) ≡ false
 dictionary_fine name names w good apart =
     let cs : List ℕ = chars (join_with_byte 32 (name ∷ names)) in
-    let again : words (encode_utf8_all (filter_map element_char (map element.Char cs))) ≡ name ∷ names = ap (λ (read : List ℕ). words (encode_utf8_all read)) (characters_again cs) ∙ words-again name names w in
+    let again : words (encode_utf8_all (filter_map element_char (map element.Char cs))) ≡ name ∷ names = ap (λ (read : List ℕ). words (encode_utf8_all read)) (read_chars cs) ∙ words_again (name ∷ names) w in
     (λ i. not (list_all is_dictionary_name (again i)) || are_repeated [] (again i)) ∙ (λ i. not (good i) || apart i)
 
 -- ---- the names of a program's own keys

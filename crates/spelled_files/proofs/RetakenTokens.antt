@@ -1,13 +1,11 @@
 -- The text of a token is one token: taken by itself it has the size that it had before what stood behind it.
-use Rattle.std.proofs.Common.{◌≡◌, ℕ, zero, suc, ◌+◌, ◌<◌, ◌≤◌, Bool, true, false, ◌&&◌, ◌||◌, ◌==◌, if◌then◌else◌, List, [], ◌∷◌, length, take, drop, Option, Some, is_some, refl, sym, ◌∙◌, ap, subst, arith}
-use Rattle.std.specs.Prelude.{nat_le}
-use Rattle.std.proofs.lemmas.Bool.{leb-true, and_right}
+use Rattle.std.proofs.Common.{◌≡◌, ℕ, zero, suc, ◌+◌, ◌<◌, ◌≤◌, Bool, true, false, ◌==◌, if◌then◌else◌, List, [], ◌∷◌, length, take, drop, is_some, refl, sym, ◌∙◌, ap, subst, arith}
+use Rattle.std.proofs.lemmas.Bool.{and_right, cond-true, cond-false}
 use Rattle.std.proofs.lemmas.List.{length-take-le}
-use Rattle.kmn_base.specs.Bytes.{is_quote, hex_digit}
+use Rattle.kmn_base.specs.Bytes.{is_quote}
 use Rattle.kmn_lines.specs.Bytes.{first_or_end}
 use Rattle.kmn_lines.specs.Tokens.{single, is_unequal, in_word, word_size, quoted_size, starts_number, plain_size, token_size}
-use Rattle.kmn_lines.proofs.Sizes.{both, and-true, take-one, in_word-plain, in_word-from, in_word-far, token_size-within}
-use Rattle.decompile_laws.proofs.Choosing.{choose-then, choose-else, clash}
+use Rattle.kmn_lines.proofs.Sizes.{both, take-one, in_word-plain, in_word-from, token_size-within, not_number-take, number-take, number-digit, first-take}
 
 -- a byte of a word is one where the text is cut off
 word-cut : (byte m : ℕ) (bytes : List ℕ) → in_word byte (first_or_end bytes) ≡ true → in_word byte (first_or_end (take m bytes)) ≡ true
@@ -28,37 +26,27 @@ word-again (byte ∷ bytes) =
     (λ e.
     let m : ℕ = word_size bytes in
     ap word_size (take-one m byte bytes)
-    ∙ (choose-then (in_word byte (first_or_end (take m bytes))) (1 + word_size (take m bytes)) 0 (word-cut byte m bytes e) ∙ ap (λ (n : ℕ). 1 + n) (word-again bytes)))
+    ∙ (cond-true (in_word byte (first_or_end (take m bytes))) (1 + word_size (take m bytes)) 0 (word-cut byte m bytes e) ∙ ap (λ (n : ℕ). 1 + n) (word-again bytes)))
     (λ e. refl)
 
 quoted-again : (quote : ℕ) (text : List ℕ) → quoted_size quote (take (quoted_size quote text) text) ≡ quoted_size quote text
 quoted-again quote [] = refl
 quoted-again quote (byte ∷ bytes) =
     both (λ n. quoted_size quote (take n (byte ∷ bytes)) ≡ n) (byte == quote) 1 (1 + quoted_size quote bytes)
-    (λ e. choose-then (byte == quote) 1 (1 + quoted_size quote []) e)
+    (λ e. cond-true (byte == quote) 1 (1 + quoted_size quote []) e)
     (λ e.
     let m : ℕ = quoted_size quote bytes in
     ap (quoted_size quote) (take-one m byte bytes)
-    ∙ (choose-else (byte == quote) 1 (1 + quoted_size quote (take m bytes)) e ∙ ap (λ (n : ℕ). 1 + n) (quoted-again quote bytes)))
-
--- what begins no number begins none where it is cut
-other-cut : (n : ℕ) (text : List ℕ) → starts_number text ≡ false → starts_number (take n text) ≡ false
-other-cut zero text h = refl
-other-cut (suc n) [] h = refl
-other-cut (suc n) (a ∷ []) h = elim n as (λ k. starts_number (take (suc k) (a ∷ [])) ≡ false) [ zero ↦ refl | suc m ↦ refl ]
-other-cut (suc zero) (a ∷ b ∷ bytes) h = refl
-other-cut (suc (suc n)) (a ∷ b ∷ []) h = elim n as (λ k. starts_number (take (suc (suc k)) (a ∷ b ∷ [])) ≡ false) [ zero ↦ refl | suc m ↦ refl ]
-other-cut (suc (suc zero)) (a ∷ b ∷ c ∷ bytes) h = refl
-other-cut (suc (suc (suc n))) (a ∷ b ∷ c ∷ bytes) h = h
+    ∙ (cond-false (byte == quote) 1 (1 + quoted_size quote (take m bytes)) e ∙ ap (λ (n : ℕ). 1 + n) (quoted-again quote bytes)))
 
 -- the size of a token, by what it begins with
 size-number : (text : List ℕ) → starts_number text ≡ true → token_size text ≡ 2 + word_size (drop 2 text)
 unfolding token_size
-size-number text e = choose-then (starts_number text) (2 + word_size (drop 2 text)) (plain_size text) e
+size-number text e = cond-true (starts_number text) (2 + word_size (drop 2 text)) (plain_size text) e
 
 pub size_plain : (text : List ℕ) → starts_number text ≡ false → token_size text ≡ plain_size text
 unfolding token_size
-size_plain text e = choose-else (starts_number text) (2 + word_size (drop 2 text)) (plain_size text) e
+size_plain text e = cond-false (starts_number text) (2 + word_size (drop 2 text)) (plain_size text) e
 
 module _ (byte : ℕ) (bytes : List ℕ) where
   abbrev unequal : Bool
@@ -68,36 +56,21 @@ module _ (byte : ℕ) (bytes : List ℕ) where
   rest = if unequal then 2 else (if is_some (single byte) then 1 else word_size (byte ∷ bytes))
 
   pub size_quote : is_quote byte ≡ true → plain_size (byte ∷ bytes) ≡ 1 + quoted_size byte bytes
-  size_quote e = choose-then (is_quote byte) (1 + quoted_size byte bytes) rest e
+  size_quote e = cond-true (is_quote byte) (1 + quoted_size byte bytes) rest e
 
   size-rest : is_quote byte ≡ false → plain_size (byte ∷ bytes) ≡ rest
-  size-rest e = choose-else (is_quote byte) (1 + quoted_size byte bytes) rest e
+  size-rest e = cond-false (is_quote byte) (1 + quoted_size byte bytes) rest e
 
   size-unequal : is_quote byte ≡ false → unequal ≡ true → plain_size (byte ∷ bytes) ≡ 2
-  size-unequal e f = size-rest e ∙ choose-then unequal 2 (if is_some (single byte) then 1 else word_size (byte ∷ bytes)) f
+  size-unequal e f = size-rest e ∙ cond-true unequal 2 (if is_some (single byte) then 1 else word_size (byte ∷ bytes)) f
 
   size-single : is_quote byte ≡ false → unequal ≡ false → is_some (single byte) ≡ true → plain_size (byte ∷ bytes) ≡ 1
   size-single e f g =
-      size-rest e ∙ (choose-else unequal 2 (if is_some (single byte) then 1 else word_size (byte ∷ bytes)) f ∙ choose-then (is_some (single byte)) 1 (word_size (byte ∷ bytes)) g)
+      size-rest e ∙ (cond-false unequal 2 (if is_some (single byte) then 1 else word_size (byte ∷ bytes)) f ∙ cond-true (is_some (single byte)) 1 (word_size (byte ∷ bytes)) g)
 
   size-word : is_quote byte ≡ false → unequal ≡ false → is_some (single byte) ≡ false → plain_size (byte ∷ bytes) ≡ word_size (byte ∷ bytes)
   size-word e f g =
-      size-rest e ∙ (choose-else unequal 2 (if is_some (single byte) then 1 else word_size (byte ∷ bytes)) f ∙ choose-else (is_some (single byte)) 1 (word_size (byte ∷ bytes)) g)
-
--- a hexadecimal digit is a byte of a word
-in-range : (low high byte : ℕ) → (nat_le low byte && nat_le byte high) ≡ true → (low ≤ byte) × (byte ≤ high)
-in-range low high byte h = let parts = and-true (nat_le low byte) (nat_le byte high) h in (leb-true low byte parts.0, leb-true byte high parts.1)
-
-some-either : {G : Type 0} (b : Bool) (x : ℕ) (y : Option ℕ) → (b ≡ true → G) → (is_some y ≡ true → G) → is_some (if b then Some x else y) ≡ true → G
-some-either true x y g h e = g refl
-some-either false x y g h e = h e
-
-hex-in-word : (byte next : ℕ) → is_some (hex_digit byte) ≡ true → in_word byte next ≡ true
-hex-in-word byte next =
-    some-either (nat_le 48 byte && nat_le byte 57) _ _ (λ e. let r = in-range 48 57 byte e in in_word-far byte next (omega arith) (omega arith) (omega arith) (omega arith) (omega arith))
-    (some-either (nat_le 65 byte && nat_le byte 70) _ _ (λ e. let r = in-range 65 70 byte e in in_word-far byte next (omega arith) (omega arith) (omega arith) (omega arith) (omega arith))
-    (some-either (nat_le 97 byte && nat_le byte 102) _ _ (λ e. let r = in-range 97 102 byte e in in_word-far byte next (omega arith) (omega arith) (omega arith) (omega arith) (omega arith))
-    (λ e. absurd cc)))
+      size-rest e ∙ (cond-false unequal 2 (if is_some (single byte) then 1 else word_size (byte ∷ bytes)) f ∙ cond-false (is_some (single byte)) 1 (word_size (byte ∷ bytes)) g)
 
 -- the bytes of a number behind its first two
 number-again : (text : List ℕ) → starts_number text ≡ true → token_size (take (2 + word_size (drop 2 text)) text) ≡ 2 + word_size (drop 2 text)
@@ -106,19 +79,10 @@ number-again (a ∷ []) e = absurd (cc)
 number-again (a ∷ b ∷ bytes) e =
     let m : ℕ = word_size bytes in
     let n : 2 + m ≡ suc (suc m) = omega arith in
-    let whole : token_size (a ∷ b ∷ take m bytes) ≡ 2 + word_size (take m bytes) = size-number (a ∷ b ∷ take m bytes) (begun m bytes (digits a b bytes e) ∙ e) in
+    let long : 3 ≤ 2 + m = number-digit (a ∷ b ∷ bytes) e in
+    let begun : starts_number (a ∷ b ∷ take m bytes) ≡ true = number-take (suc (suc m)) (a ∷ b ∷ bytes) (omega (arith, long)) ∙ e in
+    let whole : token_size (a ∷ b ∷ take m bytes) ≡ 2 + word_size (take m bytes) = size-number (a ∷ b ∷ take m bytes) begun in
     ap (λ (k : ℕ). token_size (take k (a ∷ b ∷ bytes))) n ∙ (whole ∙ ap (λ (k : ℕ). 2 + k) (word-again bytes))
-  where
-    begun : (m : ℕ) (bytes : List ℕ) → 1 ≤ m → starts_number (a ∷ b ∷ take m bytes) ≡ starts_number (a ∷ b ∷ bytes)
-    begun zero bytes h = absurd (omega (arith, h))
-    begun (suc m) [] h = refl
-    begun (suc m) (c ∷ bytes) h = refl
-
-    digits : (a b : ℕ) (bytes : List ℕ) → starts_number (a ∷ b ∷ bytes) ≡ true → 1 ≤ word_size bytes
-    digits a b [] f = absurd (cc)
-    digits a b (c ∷ bytes) f =
-        let hex = (and-true (((a == 85) || (a == 117)) && (b == 43)) (is_some (hex_digit c)) f).1 in
-        both (λ n. 1 ≤ n) (in_word c (first_or_end bytes)) (1 + word_size bytes) 0 (λ t. omega arith) (λ t. clash (in_word c (first_or_end bytes)) (hex-in-word c (first_or_end bytes) hex) t)
 
 no-text : token_size [] ≡ 0
 unfolding token_size
@@ -132,25 +96,21 @@ plain-again byte bytes number =
     (λ quote.
     let m : ℕ = quoted_size byte bytes in
     ap token_size (take-one m byte bytes)
-    ∙ (size_plain (byte ∷ take m bytes) (other-cut (suc m) text number) ∙ (size_quote byte (take m bytes) quote ∙ ap (λ (n : ℕ). 1 + n) (quoted-again byte bytes))))
+    ∙ (size_plain (byte ∷ take m bytes) (not_number-take (suc m) text number) ∙ (size_quote byte (take m bytes) quote ∙ ap (λ (n : ℕ). 1 + n) (quoted-again byte bytes))))
     (λ quote. both Again (unequal byte bytes) 2 _
     (λ differs.
-    size_plain (take 2 text) (other-cut 2 text number)
-    ∙ size-unequal byte (take 1 bytes) quote (ap (is_unequal byte) (first-kept bytes) ∙ differs))
+    size_plain (take 2 text) (not_number-take 2 text number)
+    ∙ size-unequal byte (take 1 bytes) quote (ap (is_unequal byte) (first-take bytes) ∙ differs))
     (λ alike. both Again (is_some (single byte)) 1 (word_size text)
     (λ alone. size_plain (byte ∷ []) refl ∙ size-single byte [] quote (and_right (byte == 33) false refl) alone)
     (λ other. both Again (in_word byte (first_or_end bytes)) (1 + word_size bytes) 0
     (λ in_it.
     let m : ℕ = word_size bytes in
     ap token_size (take-one m byte bytes)
-    ∙ (size_plain (byte ∷ take m bytes) (other-cut (suc m) text number)
+    ∙ (size_plain (byte ∷ take m bytes) (not_number-take (suc m) text number)
     ∙ (size-word byte (take m bytes) quote (unequal-cut byte m bytes alike) other
-    ∙ (choose-then (in_word byte (first_or_end (take m bytes))) (1 + word_size (take m bytes)) 0 (word-cut byte m bytes in_it) ∙ ap (λ (n : ℕ). 1 + n) (word-again bytes)))))
+    ∙ (cond-true (in_word byte (first_or_end (take m bytes))) (1 + word_size (take m bytes)) 0 (word-cut byte m bytes in_it) ∙ ap (λ (n : ℕ). 1 + n) (word-again bytes)))))
     (λ out. no-text))))
-  where
-    first-kept : (bytes : List ℕ) → first_or_end (take 1 bytes) ≡ first_or_end bytes
-    first-kept [] = refl
-    first-kept (next ∷ bytes) = refl
 
 size-again : (text : List ℕ) → token_size (take (token_size text) text) ≡ token_size text
 size-again [] = subst (λ (n : ℕ). token_size (take n []) ≡ n) (sym no-text) no-text

@@ -15,6 +15,7 @@ use Rattle.rule_model.specs.declared.tables.Tables.{Tables}
 use Rattle.rule_model.specs.Tab.{tab_options}
 use Rattle.kmx_format.specs.declared.sizes.TheConstants.{STORE_BYTES, GROUP_BYTES, RULE_BYTES}
 use Rattle.kmx_format.specs.TablesOf.{word_at, tables_of}
+use Rattle.kmn_parser.proofs.ReadStatements.{mapped-none}
 use Rattle.store_table.specs.First.{or_else}
 use Rattle.checker_laws.proofs.Unrefused.{none_both}
 use Rattle.decompile_laws.specs.Items.{Names}
@@ -26,10 +27,6 @@ use Rattle.spelled_files.specs.Causes.{is_unspelled_key, is_unspelled_output, is
 use Rattle.spelled_files.specs.Places.{at_cause, store_causes, rule_causes, group_causes, cause_places, least}
 use Rattle.spelled_files.specs.Excess.{text_size, store_count, element_count, excess}
 use Rattle.spelled_files.specs.Unspelled.{longer_behind, first_longer, disorder, unspelled}
-
-none-map : {A B : Type 0} (f : A → B) (o : Option A) → option_map f o ≡ None → o ≡ None
-none-map f None h = refl
-none-map f (Some x) h = absurd (cc)
 
 none-least : (places : List ℕ) → least places ≡ None → places ≡ []
 none-least [] h = refl
@@ -69,7 +66,7 @@ all-fall : (g : ℕ) (groups : List Group) → disorder g groups ≡ None → Al
 all-fall g [] h = All-nil Falls
 all-fall g (group ∷ groups) h =
     let parts = none_both (option_map (λ (rule : ℕ). Order g rule) (first_longer group.rules)) (disorder (g + 1) groups) h in
-    All-cons Falls group groups (group-falls group.rules (none-map (λ (rule : ℕ). Order g rule) (first_longer group.rules) parts.0)) (all-fall (g + 1) groups parts.1)
+    All-cons Falls group groups (group-falls group.rules (mapped-none (λ (rule : ℕ). Order g rule) (first_longer group.rules) parts.0)) (all-fall (g + 1) groups parts.1)
 
 -- no cause holds of a record, of a group, of the stores from a number on
 pub record IsSayableRule (names : Names) (rule : Rule) : Type 0 where
@@ -190,5 +187,5 @@ sayable bytes h =
     let tables : Tables = tables_of bytes in
     let one = none_both (disorder 0 tables.groups) (or_else (option_map Unspelled (least (cause_places bytes))) (excess (back tables))) h in
     let two = none_both (option_map Unspelled (least (cause_places bytes))) (excess (back tables)) one.1 in
-    let none = no_cause_holds bytes one.0 (none-map Unspelled (least (cause_places bytes)) two.0) in
+    let none = no_cause_holds bytes one.0 (mapped-none Unspelled (least (cause_places bytes)) two.0) in
     record { order = none.order; stores = none.stores; groups = none.groups; small = small (back tables) two.1 }

@@ -2,11 +2,9 @@
 use Rattle.std.proofs.Common.{◌≡◌, ℕ, zero, suc, ◌-◌, Bool, true, false, not, ◌&&◌, List, [], ◌∷◌, length, Option, None, Some, is_some, refl, sym, ◌∙◌, ap, subst, arith, if◌then◌else◌}
 use Rattle.std.specs.Prelude.{All, nat_eq, nat_lt, bit_and, bit_or, slice_get, unwrap_or, option_map, position, find, filter, filter_map, encode_utf8_all}
 use Rattle.std.specs.List.{list_all}
-use Rattle.std.specs.Int.{bit_at}
 use Rattle.std.specs.Str.{is_utf8}
-use Rattle.std.proofs.lemmas.Bool.{and_parts, not-false, eq-eqb, or_parts}
+use Rattle.std.proofs.lemmas.Bool.{and_parts, not-false, eq-eqb, or_parts, cond-true, cond-false}
 use Rattle.std.proofs.lemmas.Nat.{and_or_self}
-use Rattle.std.proofs.lemmas.Nat.Bits.{bit_at_and, bit_at_or, same_from_bits}
 use Rattle.std.proofs.lemmas.List.Elements.{All-nil, All-head, All-tail}
 use Rattle.std.proofs.lemmas.List.Splits.{slice_split_none}
 use Rattle.std.proofs.lemmas.Option.{none-some}
@@ -15,6 +13,7 @@ use Rattle.kmn_base.specs.Names.{same_name}
 use Rattle.virtual_keys.specs.Dictionary.{name_in}
 use Rattle.virtual_keys.specs.Keys.{key_codes, key_name}
 use Rattle.kmn_items.specs.Words.{is_own_key}
+use Rattle.kmn_parser.proofs.SoundKeys.{or-within}
 use Rattle.rule_model.specs.declared.program.KeyName.{KeyName}
 use Rattle.rule_model.specs.declared.tables.Store.{Store}
 use Rattle.rule_model.specs.declared.tables.Tables.{Tables}
@@ -26,7 +25,7 @@ use Rattle.program_text.specs.Spelled.{IsSpelledName, IsSpelledKey}
 use Rattle.decompile_laws.specs.Items.{Names, key_called}
 use Rattle.decompile_laws.specs.Back.{names_for}
 use Rattle.decompile_laws.specs.WrittenOut.{has_key_name}
-use Rattle.decompile_laws.proofs.Choosing.{clash, choose-then, choose-else}
+use Rattle.decompile_laws.proofs.Choosing.{clash}
 use Rattle.spelled_files.specs.Causes.{is_dictionary_name, dictionary_words, are_repeated, is_unspelled_dictionary, is_number, is_first_dictionary}
 use Rattle.spelled_files.proofs.Sayable.{sayable-at, HasNoCause, IsSayable, without_cause}
 use Rattle.spelled_files.proofs.WrittenOut.{store-parts}
@@ -46,12 +45,12 @@ found-at [] store h = absurd (none-some store h)
 found-at (x ∷ stores) store h = by (is_dictionary x) refl h (λ g. found-at stores store g)
   where
     by : (b : Bool) → is_dictionary x ≡ b → (if b then Some x else find is_dictionary stores) ≡ Some store → (find is_dictionary stores ≡ Some store → FoundAt stores store) → FoundAt (x ∷ stores) store
-    by true e g rest = record { place = 0; found = position-cons is_dictionary x stores ∙ choose-then (is_dictionary x) (Some 0) (option_map suc (position is_dictionary stores)) e; at = g }
+    by true e g rest = record { place = 0; found = position-cons is_dictionary x stores ∙ cond-true (is_dictionary x) (Some 0) (option_map suc (position is_dictionary stores)) e; at = g }
     by false e g rest =
         let more = rest g in
         record {
           place = suc more.place;
-          found = position-cons is_dictionary x stores ∙ choose-else (is_dictionary x) (Some 0) (option_map suc (position is_dictionary stores)) e ∙ ap (option_map suc) more.found;
+          found = position-cons is_dictionary x stores ∙ cond-false (is_dictionary x) (Some 0) (option_map suc (position is_dictionary stores)) e ∙ ap (option_map suc) more.found;
           at = more.at;
         }
 
@@ -96,18 +95,6 @@ named-key keys code good h = by (nat_lt code 256) h
     by : (b : Bool) → is_some (if b then None else slice_get keys (code - 256)) ≡ true → IsKeyName (unwrap_or (if b then None else slice_get keys (code - 256)) [])
     by true g = absurd (cc)
     by false g = at-name keys (code - 256) good g
-
-or-within : (a b mask : ℕ) → bit_and a mask ≡ a → bit_and b mask ≡ b → bit_and (bit_or a b) mask ≡ bit_or a b
-or-within a b mask e f =
-    same_from_bits (bit_and (bit_or a b) mask) (bit_or a b)
-    (λ i.
-    let g = bit_at_and a mask i in
-    let h = bit_at_and b mask i in
-    let k = ap (λ (n : ℕ). bit_at n i) e in
-    let l = ap (λ (n : ℕ). bit_at n i) f in
-    let m = bit_at_and (bit_or a b) mask i in
-    let n = bit_at_or a b i in
-    omega (arith, g, h, k, l, m, n))
 
 no-zero : is_some (key_name 0) ≡ false
 unfolding key_codes

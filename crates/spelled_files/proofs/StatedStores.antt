@@ -1,49 +1,33 @@
 -- Each store of an accepted program comes of a statement: it has the elements of the statement's items, and nothing of
 -- the statement is refused.
-use Rattle.std.proofs.Common.{◌≡◌, ℕ, Bool, true, false, not, ◌&&◌, ◌||◌, List, [], ◌∷◌, ◌++◌, map, Some, None, refl, sym, ◌∙◌, ap, subst, if◌then◌else◌, append-nil, append_assoc}
-use Rattle.std.specs.Prelude.{All, find, flat_map, nat_eq}
+use Rattle.std.proofs.Common.{◌≡◌, ℕ, Bool, true, false, not, ◌&&◌, ◌||◌, List, [], ◌∷◌, ◌++◌, map, None, refl, sym, ◌∙◌, ap, subst, if◌then◌else◌, append-nil, append_assoc}
+use Rattle.std.specs.Prelude.{All, flat_map, nat_eq}
 use Rattle.std.specs.List.{list_any, AllByRecursion}
 use Rattle.std.proofs.lemmas.Bool.{eqb-true}
 use Rattle.std.proofs.lemmas.List.{map-append}
-use Rattle.std.proofs.lemmas.List.Concat.{flat_map-append}
 use Rattle.std.proofs.lemmas.List.Elements.{All-nil, All-cons, All-head, All-tail, All-append}
 use Rattle.std.proofs.lemmas.List.Folds.{list_any-append}
-use Rattle.kmn_base.specs.declared.codes.Code.TheVariants.{C03, C05, C07, C12, C13, C14}
+use Rattle.kmn_base.specs.declared.codes.Code.TheVariants.{C03, C12, C13, C14}
 use Rattle.kmn_base.specs.declared.items.Element.{Element}
-use Rattle.kmn_base.specs.Names.{same_name}
 use Rattle.rule_model.specs.declared.program.SrcItem.{SrcItem}
-use Rattle.rule_model.specs.declared.program.SrcItem.TheVariants as source
 use Rattle.rule_model.specs.declared.program.StoreDef.{StoreDef}
 use Rattle.rule_model.specs.declared.program.Program.{Program}
 use Rattle.rule_model.specs.declared.tables.Store.{Store}
-use Rattle.rule_model.specs.Tab.{store_elements}
-use Rattle.rule_model.specs.Naming.{stores_of, stores_onto, store_of, is_dropped, elements_named, item_elements}
+use Rattle.rule_model.specs.Naming.{stores_of, stores_onto, store_of, is_dropped}
 use Rattle.kmn_parser.specs.ProgramLaws.{IsReadStore}
 use Rattle.store_table.specs.First.{broken, first_code, first_of}
 use Rattle.store_table.specs.declared.stating.Stated.{Stated}
-use Rattle.store_table.specs.Names.{stated, is_named, kept_name, store_names, is_store_again, names_no_store, puts_later_store}
+use Rattle.store_table.specs.Names.{stated, is_named, kept_name, store_names, is_store_again}
 use Rattle.store_table.specs.Names.{store_refusal as name_refusal, store_item_code as name_item_code, store_code as name_code}
 use Rattle.store_table.specs.Known.{Known, known, brought, statement_elements}
-use Rattle.store_table.proofs.Naming.{some_place}
 use Rattle.item_checker.specs.Items.{is_no_character, is_left_out, is_layout_text, is_system_text, is_other_text, puts_option, wants_characters, brings_no_character, store_item_code, store_head_code, store_code, store_refusal}
 use Rattle.rule_checker.specs.Refused.{IsRead}
 use Rattle.checker_laws.proofs.Unrefused.{none_both, none_earlier, none_at_line, none_broken, Stands, none_first}
-use Rattle.checker_laws.proofs.Lists.{not_false}
-use Rattle.checker_laws.proofs.Stated.{in_names}
 use Rattle.checker_laws.proofs.Accepted.{IsUnrefused}
+use Rattle.checker_laws.proofs.Sizes.{items_before, onto, names_next}
 use Rattle.spelled_files.specs.Causes.{is_unspelled_system}
 use Rattle.spelled_files.specs.Written.{IsWrittenStore, WasWritten}
 use Rattle.spelled_files.proofs.Conjunctions.{fails-when, second-fails}
-
--- what stands before further stores is found as it was
-found-before : (before more : List Store) (name : List ℕ) → list_any (λ (s : Store). same_name s.name name) before ≡ true → elements_named (before ++ more) name ≡ elements_named before name
-found-before [] more name h = absurd (cc)
-found-before (s ∷ before) more name h = by (same_name s.name name) h (found-before before more name)
-  where
-    by : (b : Bool) → (b || list_any (λ (t : Store). same_name t.name name) before) ≡ true → (list_any (λ (t : Store). same_name t.name name) before ≡ true → elements_named (before ++ more) name ≡ elements_named before name)
-        → store_elements (if b then Some s else find (λ (t : Store). same_name t.name name) (before ++ more)) ≡ store_elements (if b then Some s else find (λ (t : Store). same_name t.name name) before)
-    by true g rest = refl
-    by false g rest = rest g
 
 -- the statement of a store of the file
 pub record IsStatedStore (facts : Known) (s : Store) : Type 0 where
@@ -56,48 +40,6 @@ pub record IsStatedStore (facts : Known) (s : Store) : Type 0 where
   pub code : store_code facts statement ≡ None
 
 module _ (facts : Known) (names_stated : Stated) where
-  -- the elements of an item that puts no later store
-  item-before : (before more : List Store) (item : SrcItem) → facts.stores ≡ before ++ more → puts_later_store (map (λ (s : Store). s.name) before) item ≡ false
-      → brought facts item ≡ item_elements facts.names before item
-  item-before before more (source.Outs name) all later =
-      ap (λ stores. elements_named stores name) all
-      ∙ found-before before more name
-      (sym (some_place (λ (s : Store). same_name s.name name) before) ∙ sym (in_names (λ (s : Store). s.name) name before) ∙ not_false (is_named (map (λ (s : Store). s.name) before) name) later)
-  item-before before more (source.Char c) all later = refl
-  item-before before more (source.Dead name) all later = refl
-  item-before before more (source.Key key) all later = refl
-  item-before before more item all later = refl
-
-  items-before : (before more : List Store) (items : List SrcItem) → facts.stores ≡ before ++ more
-      → first_code (name_item_code names_stated (map (λ (s : Store). s.name) before)) items ≡ None
-      → flat_map (brought facts) items ≡ flat_map (item_elements facts.names before) items
-  items-before before more [] all h = refl
-  items-before before more (item ∷ items) all h =
-      let both = none_both (name_item_code names_stated (map (λ (s : Store). s.name) before) item) (first_code (name_item_code names_stated (map (λ (s : Store). s.name) before)) items) h in
-      let one = none_broken C05 (names_no_store names_stated item) ((C07, puts_later_store (map (λ (s : Store). s.name) before) item) ∷ []) both.0 in
-      let two = none_broken C07 (puts_later_store (map (λ (s : Store). s.name) before) item) [] one.1 in
-      λ j. item-before before more item all two.0 j ++ items-before before more items all both.1 j
-
-  -- stores that are put behind others
-  record Onto (before after : List Store) : Type 0 where
-    more : List Store
-    is : after ≡ before ++ more
-
-  onto : (before : List Store) (stores : List StoreDef) → Onto before (stores_onto facts.names before stores)
-  onto before [] = record { more = []; is = sym (append-nil before) }
-  onto before (store ∷ stores) = by (is_dropped store) (onto before stores) (onto (before ++ store_of facts.names before store ∷ []) stores)
-    where
-      by : (b : Bool) → Onto before (stores_onto facts.names before stores) → Onto (before ++ store_of facts.names before store ∷ []) (stores_onto facts.names (before ++ store_of facts.names before store ∷ []) stores)
-          → Onto before (stores_onto facts.names (if b then before else before ++ store_of facts.names before store ∷ []) stores)
-      by true same rest = same
-      by false same rest =
-          record { more = store_of facts.names before store ∷ rest.more; is = rest.is ∙ append_assoc before (store_of facts.names before store ∷ []) rest.more }
-
-  names-next : (before : List StoreDef) (store : StoreDef) (names : List (List ℕ)) → names ≡ store_names before → names ++ kept_name store ≡ store_names (before ++ store ∷ [])
-  names-next before store names same =
-      ap (λ (ns : List (List ℕ)). ns ++ kept_name store) same
-      ∙ sym (flat_map-append kept_name before (store ∷ []) ∙ ap (λ (ns : List (List ℕ)). store_names before ++ ns) (append-nil (kept_name store)))
-
   abbrev IsUnrefusedStore : StoreDef → Type 0
   IsUnrefusedStore store = store_code facts store ≡ None
 
@@ -124,21 +66,21 @@ module _ (facts : Known) (names_stated : Stated) where
           → All (IsStatedStore facts) (stores_onto facts.names (if b then before else before ++ store_of facts.names before store ∷ []) stores)
       by true drop items at rest =
           rest before
-          (sym (append-nil (map (λ (s : Store). s.name) before)) ∙ sym (kept true drop) ∙ names-next defined store (map (λ (s : Store). s.name) before) names) at done
+          (sym (append-nil (map (λ (s : Store). s.name) before)) ∙ sym (kept true drop) ∙ names_next facts names_stated defined store (map (λ (s : Store). s.name) before) names) at done
       by false drop items at rest =
           let next = before ++ store_of facts.names before store ∷ [] in
-          let behind = onto next stores in
+          let behind = onto facts names_stated next stores in
           let all_before : facts.stores ≡ before ++ (store_of facts.names before store ∷ behind.more) = at ∙ behind.is ∙ append_assoc before (store_of facts.names before store ∷ []) behind.more in
           rest next
           (map-append (λ (s : Store). s.name) before (store_of facts.names before store ∷ [])
-          ∙ sym (kept false drop) ∙ names-next defined store (map (λ (s : Store). s.name) before) names) at
+          ∙ sym (kept false drop) ∙ names_next facts names_stated defined store (map (λ (s : Store). s.name) before) names) at
           (All-append (IsStatedStore facts) before (store_of facts.names before store ∷ []) done
           (All-cons (IsStatedStore facts) (store_of facts.names before store) []
           (record {
             statement = store;
             system = refl;
             name = refl;
-            elements = sym (items-before before (store_of facts.names before store ∷ behind.more) store.items all_before items);
+            elements = sym (items_before facts names_stated before (store_of facts.names before store ∷ behind.more) store.items all_before items);
             read = All-head IsReadStore store stores is;
             written = All-head IsWrittenStore store stores ok;
             code = codes.0;

@@ -5,7 +5,7 @@ use Rattle.std.specs.List.{list_all, list_any, AllByRecursion}
 use Rattle.std.specs.Fmt.{decimal}
 use Rattle.std.specs.Str.{IsAscii, is_utf8}
 use Rattle.std.specs.Str.Parse.{AllDigits}
-use Rattle.std.proofs.lemmas.Bool.{ne_eqb, lt-ltb, le-leb, and_from, eq-eqb}
+use Rattle.std.proofs.lemmas.Bool.{ne_eqb, lt-ltb, le-leb, and_from, eq-eqb, cond-true, cond-false}
 use Rattle.std.proofs.lemmas.Fmt.{decimal_is_IsNumeral, length-decimal-le}
 use Rattle.std.proofs.lemmas.Str.{IsUtf8-from_ascii, is_utf8-from_IsUtf8, chars-IsAscii}
 use Rattle.std.proofs.lemmas.Str.Ascii.{IsAscii-nil}
@@ -22,7 +22,6 @@ use Rattle.kmn_parser.proofs.CleanTexts.{counted-characters}
 use Rattle.program_text.specs.Names.{is_inner}
 use Rattle.program_text.specs.Spelled.{IsStoreName}
 use Rattle.decompile_laws.specs.Names.{numbered_name}
-use Rattle.decompile_laws.proofs.Choosing.{choose-then, choose-else}
 
 -- a byte of a word, which begins no number, and no name of a system store
 pub record IsTame (byte : ℕ) : Type 0 where
@@ -40,7 +39,7 @@ tame-word byte next t = in_word-far byte next t.low t.equal t.arrow t.opening t.
 tame-size : (bytes : List ℕ) → AllByRecursion IsTame bytes → word_size bytes ≡ length bytes
 tame-size [] h = refl
 tame-size (b ∷ bytes) h =
-    choose-then (in_word b (first_or_end bytes)) _ _ (tame-word b (first_or_end bytes) h.0) ∙ (let more = tame-size bytes h.1 in omega (arith, more))
+    cond-true (in_word b (first_or_end bytes)) _ _ (tame-word b (first_or_end bytes) h.0) ∙ (let more = tame-size bytes h.1 in omega (arith, more))
 
 tame-start : (b : ℕ) (bytes : List ℕ) → IsTame b → starts_number (b ∷ bytes) ≡ false
 tame-start b [] t = refl
@@ -66,18 +65,18 @@ module _ (b : ℕ) (bytes : List ℕ) (t : AllByRecursion IsTame (b ∷ bytes)) 
   size-is : token_size (b ∷ bytes) ≡ length (b ∷ bytes)
   unfolding token_size
   size-is =
-      choose-else (starts_number (b ∷ bytes)) _ _ (tame-start b bytes t.0)
-      ∙ choose-else (is_quote b) _ _ plain_quote
-      ∙ choose-else (is_unequal b (first_or_end bytes)) _ _ not-unequal
-      ∙ choose-else (is_some (single b)) _ _ plain_alone
+      cond-false (starts_number (b ∷ bytes)) _ _ (tame-start b bytes t.0)
+      ∙ cond-false (is_quote b) _ _ plain_quote
+      ∙ cond-false (is_unequal b (first_or_end bytes)) _ _ not-unequal
+      ∙ cond-false (is_some (single b)) _ _ plain_alone
       ∙ tame-size (b ∷ bytes) t
 
   kind-is : token_kind (b ∷ bytes) ≡ kind.Word
   unfolding token_kind
   kind-is =
-      choose-else (starts_number (b ∷ bytes)) _ _ (tame-start b bytes t.0)
-      ∙ choose-else (is_quote b) _ _ plain_quote
-      ∙ choose-else (is_unequal b (first_or_end bytes)) _ _ not-unequal
+      cond-false (starts_number (b ∷ bytes)) _ _ (tame-start b bytes t.0)
+      ∙ cond-false (is_quote b) _ _ plain_quote
+      ∙ cond-false (is_unequal b (first_or_end bytes)) _ _ not-unequal
       ∙ none-or (single b) kind.Word plain_alone
 
 -- it is no start of U+0000 or U+FFFF
@@ -93,9 +92,9 @@ allowed (b ∷ bytes) h = or-both (begins_forbidden (b ∷ bytes)) (has_forbidde
 sound : (b : ℕ) (bytes : List ℕ) → AllByRecursion IsTame (b ∷ bytes) → token_fault (b ∷ bytes) ≡ None
 unfolding token_fault
 sound b bytes t =
-    choose-else (has_forbidden (b ∷ bytes)) _ _ (allowed (b ∷ bytes) t)
-    ∙ choose-else (not (is_closed (b ∷ bytes))) _ _ (ap (λ (q : Bool). not (not q || list_any (λ c. c == b) bytes)) (plain_quote b bytes t))
-    ∙ choose-else (starts_number (b ∷ bytes)) _ _ (tame-start b bytes t.0)
+    cond-false (has_forbidden (b ∷ bytes)) _ _ (allowed (b ∷ bytes) t)
+    ∙ cond-false (not (is_closed (b ∷ bytes))) _ _ (ap (λ (q : Bool). not (not q || list_any (λ c. c == b) bytes)) (plain_quote b bytes t))
+    ∙ cond-false (starts_number (b ∷ bytes)) _ _ (tame-start b bytes t.0)
 
 in-line : (bytes : List ℕ) → AllByRecursion IsTame bytes → list_all is_inner bytes ≡ true
 in-line [] h = refl

@@ -3,7 +3,7 @@
 use Rattle.std.proofs.Common.{◌≡◌, ℕ, zero, suc, ◌+◌, ◌^◌, ◌<◌, ◌≤◌, Bool, true, false, List, [], ◌∷◌, ◌++◌, length, take, drop, map, Option, None, Some, is_some, refl, sym, ◌∙◌, subst, arith, append-nil, append_assoc}
 use Rattle.std.specs.Prelude.{All, nat_eq, nat_lt, slice_get, slice_index_or, unwrap_or, IsSomeAnd}
 use Rattle.std.specs.List.{AllByRecursion}
-use Rattle.std.proofs.lemmas.Bool.{ne_eqb, not_from_true, and_right}
+use Rattle.std.proofs.lemmas.Bool.{ne_eqb, not_from_true, and_right, cond-false}
 use Rattle.std.proofs.lemmas.Bool.Decides.{nat_tests}
 use Rattle.std.proofs.lemmas.List.{length-map, map-append}
 use Rattle.std.proofs.lemmas.List.Elements.{All-head, All-tail}
@@ -31,7 +31,6 @@ use Rattle.store_table.specs.Known.{Known, known}
 use Rattle.item_checker.specs.Items.{is_pattern_item, is_any_item, passes, points_to, is_key_place, misses_pattern, misses_any, is_far, index_code, context_at_code, context_item_code, context_code, key_code, key_index_code, rule_output_code, match_output_code, rule_code, rule_refusal, rules_refusal}
 use Rattle.decompile_laws.specs.Items.{Names, store_called, back_pattern, back_output, back_key, some_items}
 use Rattle.decompile_laws.specs.Back.{back_rule, back_rules, back_statement, match_line, nomatch_line, back_group, back_groups, names_for, written_stores, written_begins, back}
-use Rattle.decompile_laws.proofs.Choosing.{choose-else}
 
 -- refusals that there aren't
 pub no-else : {A : Type 0} (a b : Option A) → a ≡ None → b ≡ None → or_else a b ≡ None
@@ -144,7 +143,7 @@ module _ (names : Names) where
       let back : RuleDef = back_rule names line rule in
       let size = length-map rule.context (back_pattern names) in
       let few = within is_any rule.context offset h in
-      choose-else (is_key_place back offset) (key_index_code known back (store_called names s)) (index_code back.context offset)
+      cond-false (is_key_place back offset) (key_index_code known back (store_called names s)) (index_code back.context offset)
       (and_right (is_some back.key) (nat_eq offset (length back.context + 1)) (ne_eqb offset (length back.context + 1) (omega (arith, size, few))))
       ∙ index-fine rule.context offset h
   output-fine known line rule (output.ContextAt offset) h = context-at-fine rule.context offset h

@@ -2,7 +2,7 @@
 use Rattle.std.proofs.Common.{◌≡◌, ℕ, zero, suc, ◌+◌, ◌<◌, Bool, true, false, List, [], ◌∷◌, length, Option, None, Some, refl, sym, ap, subst, arith}
 use Rattle.std.specs.Prelude.{nat_eq, slice_get, unwrap_or}
 use Rattle.std.specs.List.{list_any, AllByRecursion}
-use Rattle.std.proofs.lemmas.Bool.{eqb-true}
+use Rattle.std.proofs.lemmas.Bool.{eqb-true, false_from_ne_true}
 use Rattle.std.proofs.lemmas.Bool.Decides.{nat_tests}
 use Rattle.std.proofs.lemmas.Option.{same_Some}
 use Rattle.kmn_base.specs.Names.{same_name}
@@ -22,7 +22,7 @@ use Rattle.decompile_laws.specs.Items.{Names}
 use Rattle.decompile_laws.specs.Back.{back_stores, numbered, mark_stores, key_stores, front_stores, free_stores, names_for, written_stores, back}
 use Rattle.decompile_laws.specs.WrittenOut.{CanBeWrittenOut}
 use Rattle.decompile_laws.proofs.Apart.{EachApart, AreApart, filled, same-turned, source-some}
-use Rattle.decompile_laws.proofs.Choosing.{clash, unless_true, all_join}
+use Rattle.decompile_laws.proofs.Choosing.{clash, all_join}
 use Rattle.decompile_laws.proofs.Good.{IsOption}
 use Rattle.spelled_files.specs.Laws.{HasTextNames}
 use Rattle.spelled_files.specs.Unspelled.{unspelled}
@@ -132,7 +132,7 @@ module _ (tables : Tables) (can : IsPlayable tables) (said : IsSayable tables) (
     where
       other : list_any (nat_eq n) (tab_options tables) ≡ false → (m : ℕ) → IsOption tables m → nat_eq n m ≡ false
       other none m option =
-          unless_true (nat_eq n m)
+          false_from_ne_true (nat_eq n m)
           (λ e. clash (list_any (nat_eq n) (tab_options tables)) (subst (λ (k : ℕ). list_any (nat_eq k) (tab_options tables) ≡ true) (sym (eqb-true n m e)) option) none)
 
       by : (b : Bool) → list_any (nat_eq n) (tab_options tables) ≡ b → list_any is_no_character store.elements ≡ false

@@ -1,5 +1,5 @@
 -- The tokens of a source that no rule of tokens refuses stand whole in texts that end no line.
-use Rattle.std.proofs.Common.{◌≡◌, ℕ, zero, suc, ◌+◌, ◌-◌, ◌<◌, ◌≤◌, Bool, true, false, not, ◌&&◌, if◌then◌else◌, List, [], ◌∷◌, length, take, drop, map, Option, None, Some, option_map, refl, sym, ◌∙◌, ap, subst, arith, length-drop, length-append, add-one, inl, inr}
+use Rattle.std.proofs.Common.{◌≡◌, ℕ, zero, suc, ◌+◌, ◌-◌, ◌<◌, Bool, true, false, not, ◌&&◌, if◌then◌else◌, List, [], ◌∷◌, length, take, drop, map, Option, None, refl, sym, ◌∙◌, ap, subst, arith, length-drop, length-append, inl, inr}
 use Rattle.std.specs.Prelude.{All}
 use Rattle.std.specs.List.{list_all}
 use Rattle.std.proofs.lemmas.Bool.{cases_lt, cond_both}
@@ -15,11 +15,10 @@ use Rattle.kmn_lines.specs.declared.token.Token.{Token}
 use Rattle.kmn_lines.specs.declared.token.TokenKind.{TokenKind}
 use Rattle.kmn_lines.specs.Lines.{logicals, is_skipped, dropped, physical_text, part_behind, opening_parts, parts_in}
 use Rattle.kmn_lines.specs.Laws.{IsInLine, IsPhysicalLine, AreJoined}
-use Rattle.kmn_lines.specs.Tokens.{token_size, token_text, token_kind, token_at, token_fault, scanned, first_fault, part_text, parts_tokens, parts_fault, line_tokens, line_refusal, tokens_refusal, refusal}
+use Rattle.kmn_lines.specs.Tokens.{token_size, token_text, token_kind, token_at, token_fault, scanned, first_fault, part_text, parts_tokens, parts_fault, line_tokens, line_refusal, tokens_refusal}
 use Rattle.kmn_lines.proofs.LineTexts.{parts_are_texts}
-use Rattle.kmn_lines.proofs.Numbered.{drop-next as drop-after}
 use Rattle.kmn_items.specs.TokenTexts.{LineToken, text_of, with_text, with_texts}
-use Rattle.kmn_parser.proofs.SoundTokens.{IsSoundToken, HasTexts, HasSoundTokens, either-none, lines-sound}
+use Rattle.kmn_parser.proofs.SoundTokens.{IsSoundToken, HasTexts, HasSoundTokens, either-none, drop-next, text-at, no-refusal, lines-sound}
 use Rattle.program_text.specs.Names.{is_inner}
 use Rattle.spelled_files.proofs.RetakenTokens.{token_alone}
 
@@ -99,30 +98,10 @@ inner-bytes (b ∷ text) h = λ i. not (All-head IsInLine b text h i) && inner-b
 abbrev IsWholeIn : List ℕ → Token → Type 0
 IsWholeIn source t = IsWhole t.kind (text_of source t)
 
-drop-next : (at : ℕ) (text : List ℕ) (byte : ℕ) (bytes : List ℕ) → drop at text ≡ byte ∷ bytes → drop (at + 1) text ≡ bytes
-drop-next at text byte bytes e = ap (λ (n : ℕ). drop n text) (add-one at) ∙ drop-after at text byte bytes e
-
-taken-length : (n : ℕ) (bytes : List ℕ) → take (length (take n bytes)) bytes ≡ take n bytes
-taken-length zero bytes = refl
-taken-length (suc n) [] = refl
-taken-length (suc n) (byte ∷ bytes) = ap (λ (more : List ℕ). byte ∷ more) (taken-length n bytes)
-
--- the text of a token that begins with the bytes behind a place
-text-there : (source : List ℕ) (end line at size : ℕ) (bytes : List ℕ) → drop at (take end source) ≡ bytes → 0 < length bytes
-    → text_of source (token_at line at (take size bytes)) ≡ take size bytes
-text-there source end line at size bytes e some =
-    let text : List ℕ = take end source in
-    let long : ℕ = length (take size bytes) in
-    let few : long ≤ length bytes = omega (arith, length-take size bytes) in
-    let left : length bytes ≡ length text - at = ap length (sym e) ∙ length-drop at text in
-    let within : length text ≤ end = omega (arith, length-take end source) in
-    let cut : take (at + long) text ≡ take (at + long) source = take-take (at + long) end source (omega (arith, few, left, within, some)) in
-    ap (drop at) (sym cut) ∙ (drop-take at long text ∙ (ap (take long) e ∙ taken-length size bytes))
-
 token-whole : (source : List ℕ) (end line at : ℕ) (bytes : List ℕ) → drop at (take end source) ≡ bytes → 0 < length bytes → All IsInLine bytes
     → token_fault (token_text bytes) ≡ None → IsWholeIn source (token_at line at (token_text bytes))
 token-whole source end line at bytes e some inner faultless =
-    let same = text-there source end line at (token_size bytes) bytes e some in
+    let same = text-at source end line at (token_size bytes) bytes e some in
     subst (IsWhole (token_kind (token_text bytes))) (sym same)
     (record { is = refl; faultless = faultless; size = token_alone bytes some; inner = inner-bytes (token_text bytes) (All-take IsInLine (token_size bytes) bytes inner) })
 
@@ -159,10 +138,6 @@ parts-whole source (p ∷ ps) inner none =
     All-append (IsWholeIn source) (scanned p.line 0 p.from (part_text source p)) (parts_tokens source ps)
     (scanned-whole source p.to p.line 0 p.from (part_text source p) refl (All-head (IsInner source) p ps inner) both.0)
     (parts-whole source ps (All-tail (IsInner source) p ps inner) both.1)
-
-no-refusal : (line : ℕ) (code : Option Code) → option_map (refusal line) code ≡ None → code ≡ None
-no-refusal line None e = refl
-no-refusal line (Some code) e = cc
 
 line-whole : (source : List ℕ) (line : Logical) → HasInnerParts source line → line_refusal source line ≡ None → All (IsWholeIn source) (line_tokens source line)
 unfolding line_tokens line_refusal

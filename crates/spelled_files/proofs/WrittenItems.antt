@@ -32,12 +32,13 @@ use Rattle.kmn_items.specs.Forms.{word_slots, condition, equal_at, word_item}
 use Rattle.kmn_items.specs.Brackets.{flags_of, named_key, key_item, modifier_count}
 use Rattle.kmn_items.specs.Item.{unseen, formed, read_word, read_quoted, read_bracket, read_led, read_item, prepend, then_items, read_items, last_item, read_key}
 use Rattle.kmn_parser.proofs.ReadItems.{text_at-drop}
+use Rattle.kmn_parser.proofs.ReadStatements.{unless-none}
 use Rattle.item_checker.specs.Items.{is_pattern_item}
 use Rattle.program_text.specs.Spelled.{IsSpelledName, IsSpelledValue, IsSpelledKey}
 use Rattle.spelled_files.specs.Written.{IsWrittenItem, stands_in_context, has_late_item, is_nul_item, IsWrittenContext}
 use Rattle.spelled_files.proofs.CompiledStores.{all_at}
 use Rattle.spelled_files.proofs.WholeTokens.{IsWholeToken}
-use Rattle.spelled_files.proofs.WrittenNames.{filled, text_is, named_at, store_at, value_at, unless_none, key_spelled}
+use Rattle.spelled_files.proofs.WrittenNames.{filled, text_is, named_at, store_at, value_at, key_spelled}
 
 -- ---- each item
 
@@ -91,7 +92,7 @@ bracket-key : (place : Where) (last at : ℕ) (flags tokens : List LineToken) �
     → IsWrittenItem (key_item place (named_key (flags_of flags) (text_at 0 tokens)))
 bracket-key place last at flags tokens ok whole =
     let here = filled last at 0 (slot.KeyName ∷ slot.KeyEnd ∷ []) tokens slot.KeyName whole refl in
-    let test = and_parts (is_word here.token.kind) (is_key_name here.token.text) (unless_none _ _ here.fits) in
+    let test = and_parts (is_word here.token.kind) (is_key_name here.token.text) (unless-none _ _ here.fits) in
     key-written place (named_key (flags_of flags) (text_at 0 tokens))
     (subst (λ (text : List ℕ). IsSpelledKey (named_key (flags_of flags) text)) (sym (text_is 0 tokens here.token here.at))
     (key_spelled flags here.token (all_at IsWholeToken tokens ok 0 here.token here.at) test.0 test.1))

@@ -3,7 +3,7 @@ use Rattle.std.proofs.Common.{◌≡◌, ℕ, zero, suc, ◌+◌, ◌-◌, ◌<�
 use Rattle.std.specs.Prelude.{All, IsUtf8, chars, nat_eq, nat_lt, nat_le, slice_get}
 use Rattle.std.specs.List.{list_all, list_any}
 use Rattle.std.specs.Str.{byte, is_utf8}
-use Rattle.std.proofs.lemmas.Bool.{and_parts, or_cases, cases_lt, cond_both, eq-eqb, eqb-true, ltb-true, ne_eqb, and_from, or_left, or_right, lt-ltb, le-leb, and_right, and_left}
+use Rattle.std.proofs.lemmas.Bool.{and_parts, or_cases, cases_lt, cond_both, eq-eqb, eqb-true, ltb-true, ne_eqb, and_from, or_left, or_right, lt-ltb, le-leb, and_right, and_left, cond-false}
 use Rattle.std.proofs.lemmas.List.Elements.{All-nil}
 use Rattle.std.proofs.lemmas.List.Folds.{list_all-append, list_any-append}
 use Rattle.std.proofs.lemmas.Option.{none-some, same_Some}
@@ -22,14 +22,15 @@ use Rattle.kmn_items.specs.declared.syntax.Slot.TheVariants as slot
 use Rattle.kmn_items.specs.TokenTexts.{LineToken, text_at, inside, quoted, is_quoted, is_word, is_wordy}
 use Rattle.kmn_items.specs.Words.{is_system_name, bare_name, is_name, is_own_key, is_key_name}
 use Rattle.kmn_base.specs.Texts.{character_count}
-use Rattle.kmn_items.specs.Slots.{unless, slot_fault, or_fault, broken}
+use Rattle.kmn_items.specs.Slots.{slot_fault, or_fault, broken}
 use Rattle.kmn_items.specs.Brackets.{flags_of, named_key}
 use Rattle.kmn_parser.specs.ProgramLaws.{IsCharacter, IsReadKey}
 use Rattle.kmn_parser.proofs.CleanTexts.{clean-take, clean-drop, clean-characters, counted-characters}
-use Rattle.kmn_parser.proofs.SoundKeys.{row-found, key-read}
+use Rattle.kmn_parser.proofs.SoundKeys.{row-found, no-code, key-read}
+use Rattle.kmn_parser.proofs.ReadStatements.{unless-none}
 use Rattle.program_text.specs.Names.{is_inner}
 use Rattle.program_text.specs.Spelled.{IsSpelledName, IsSpelledValue, IsSpelledKey}
-use Rattle.decompile_laws.proofs.Choosing.{clash, choose-else}
+use Rattle.decompile_laws.proofs.Choosing.{clash}
 use Rattle.spelled_files.proofs.CompiledStores.{all_at}
 use Rattle.spelled_files.proofs.RetakenTokens.{size_plain, size_quote}
 use Rattle.spelled_files.proofs.WholeTokens.{IsWholeToken}
@@ -39,10 +40,6 @@ use Rattle.spelled_files.proofs.WholeTokens.{IsWholeToken}
 or-none : (at : ℕ) (code : Option Code) (later : Option Fault) → or_fault at code later ≡ None → (code ≡ None) × (later ≡ None)
 or-none at None later e = (refl, e)
 or-none at (Some code) later e = absurd (cc)
-
-pub unless_none : (test : Bool) (wrong : Code) → unless test wrong ≡ None → test ≡ true
-unless_none true wrong e = refl
-unless_none false wrong e = absurd (cc)
 
 -- the token that fills a place of a form
 pub record IsFilled (wanted : Slot) (n : ℕ) (tokens : List LineToken) : Type 0 where
@@ -82,7 +79,7 @@ name_spelled token ok wordy named =
 pub named_at : (last at n : ℕ) (slots : List Slot) (tokens : List LineToken) → All IsWholeToken tokens → broken last at slots tokens ≡ None → slice_get slots n ≡ Some slot.Name → IsSpelledName (text_at n tokens)
 named_at last at n slots tokens ok whole there =
     let here = filled last at n slots tokens slot.Name whole there in
-    let test = and_parts (is_wordy here.token.kind) (is_name here.token.text) (unless_none _ _ here.fits) in
+    let test = and_parts (is_wordy here.token.kind) (is_name here.token.text) (unless-none _ _ here.fits) in
     subst IsSpelledName (sym (text_is n tokens here.token here.at)) (name_spelled here.token (all_at IsWholeToken tokens ok n here.token here.at) test.0 test.1)
 
 -- the name of an ordinary store at a place of a form
@@ -90,9 +87,9 @@ pub store_at : (last at n : ℕ) (slots : List Slot) (tokens : List LineToken) �
     → is_system_name (text_at n tokens) ≡ false → IsSpelledName (text_at n tokens)
 store_at last at n slots tokens ok whole there ordinary =
     let here = filled last at n slots tokens slot.StoreName whole there in
-    let test = and_parts (is_wordy here.token.kind) (is_name (bare_name here.token.text)) (unless_none _ _ here.fits) in
+    let test = and_parts (is_wordy here.token.kind) (is_name (bare_name here.token.text)) (unless-none _ _ here.fits) in
     let same = text_is n tokens here.token here.at in
-    let bare : bare_name here.token.text ≡ here.token.text = choose-else (is_system_name here.token.text) _ _ (ap is_system_name (sym same) ∙ ordinary) in
+    let bare : bare_name here.token.text ≡ here.token.text = cond-false (is_system_name here.token.text) _ _ (ap is_system_name (sym same) ∙ ordinary) in
     subst IsSpelledName (sym same) (name_spelled here.token (all_at IsWholeToken tokens ok n here.token here.at) test.0 (ap is_name (sym bare) ∙ test.1))
 
 -- ---- values
@@ -221,7 +218,7 @@ pub value_at : (last at n : ℕ) (slots : List Slot) (tokens : List LineToken) �
 value_at last at n slots tokens ok whole there =
     let here = filled last at n slots tokens slot.Value whole there in
     subst (λ (text : List ℕ). IsSpelledValue (quoted text)) (sym (text_is n tokens here.token here.at))
-    (value-spelled here.token (all_at IsWholeToken tokens ok n here.token here.at) (unless_none _ _ here.fits))
+    (value-spelled here.token (all_at IsWholeToken tokens ok n here.token here.at) (unless-none _ _ here.fits))
 
 -- ---- keys
 
@@ -235,10 +232,6 @@ codes-named = refl
 code-named : (name : List ℕ) (code : ℕ) → key_code name ≡ Some code → is_some (key_name code) ≡ true
 unfolding has-name
 code-named name code found = row-found has-name key_codes name code found codes-named
-
-no-code : (code : Option ℕ) (own : Bool) → (is_some code || own) ≡ true → code ≡ None → own ≡ true
-no-code None own e f = e
-no-code (Some code) own e f = absurd (cc)
 
 word-wordy : (sort : TokenKind) → is_word sort ≡ true → is_wordy sort ≡ true
 word-wordy kind.Word e = refl

@@ -34,11 +34,12 @@ use Rattle.kmn_parser.specs.declared.statement.LastGroup.{LastGroup}
 use Rattle.kmn_parser.specs.declared.statement.LastGroup.TheVariants.{Missing}
 use Rattle.kmn_parser.specs.declared.statement.Statement.{Statement}
 use Rattle.kmn_parser.specs.declared.statement.Statement.TheVariants as statement
-use Rattle.kmn_parser.specs.Line.{place_of, begins_word, is_none_left, checked, first_of, store_form, store_fault, store_def, read_store, begin_fault, read_begin, group_fault, read_group, match_fault, read_match, uses_keys, rule_head, rule_key, rule_body, earliest, read_rule, read_tokens, read_line}
+use Rattle.kmn_parser.specs.Line.{place_of, begins_word, is_none_left, checked, store_form, store_fault, store_def, read_store, begin_fault, read_begin, group_fault, read_group, match_fault, read_match, uses_keys, rule_head, rule_key, rule_body, earliest, read_rule, read_tokens, read_line}
 use Rattle.kmn_parser.specs.Source.{at_line, line_statement, group_after, with_rule, with_statement, no_program, read_lines, read_text, parsed}
 use Rattle.kmn_parser.specs.ProgramLaws.{IsName, IsReadStore, IsReadProgram}
 use Rattle.kmn_parser.proofs.SoundTokens.{either-none}
 use Rattle.kmn_parser.proofs.ReadItems.{text_at-drop}
+use Rattle.kmn_parser.proofs.ReadStatements.{first-none}
 use Rattle.kmn_parser.proofs.ReadPrograms.{programs_are_read}
 use Rattle.program_text.specs.Spelled.{IsSpelledName, IsStoreName}
 use Rattle.checker_laws.proofs.Lists.{All-append_parts}
@@ -73,10 +74,6 @@ then-written : (items : Result (List SrcItem) Fault) (next : List SrcItem → Re
     → ((xs : List SrcItem) → All IsWrittenItem xs → StatementWritten (next xs)) → StatementWritten (and_then items next)
 then-written (Ok items) next h more = more items h
 then-written (Err found) next h more = tt
-
-first-none : (head : Option Code) (later : Option Fault) → first_of head later ≡ None → (head ≡ None) × (later ≡ None)
-first-none None later e = (refl, e)
-first-none (Some head) later e = absurd (cc)
 
 -- ---- stores
 

@@ -5,6 +5,7 @@ use Rattle.std.specs.Option.{option_map_or, option_or}
 use Rattle.std.specs.List.{list_any}
 use Rattle.std.specs.Str.{str_to_ascii_lowercase}
 use Rattle.std.specs.Cmp.Lexicographic.{nat_list_eq_equiv}
+use Rattle.std.proofs.lemmas.Bool.{and_parts, not-true}
 use Rattle.std.proofs.lemmas.Bool.Decides.{nat_tests}
 use Rattle.std.proofs.lemmas.Grind.{common_steps}
 use Rattle.std.proofs.lemmas.List.{drop_more, get_or_default, map-append}
@@ -20,7 +21,7 @@ use Rattle.rule_model.specs.declared.tables.Rule.{Rule}
 use Rattle.rule_model.specs.declared.tables.Group.{Group}
 use Rattle.store_table.specs.Names.{is_named}
 use Rattle.store_table.specs.Numbering.{with_marks}
-use Rattle.touch_layout.proofs.RecordedNames.{named_once}
+use Rattle.touch_layout.proofs.RecordedNames.{named_once, or_false, or_true}
 use Rattle.touch_layout.specs.declared.layers.TouchLayer.{TouchLayer}
 use Rattle.touch_layout.specs.Faults.{fault, whole_layout}
 use Rattle.touch_layout.specs.Ids.{is_key_of, is_record_of, has_record_of, has_record, recorded_name, rule_names, recorded_names}
@@ -28,14 +29,6 @@ use Rattle.touch_layout.specs.Keys.{Key}
 use Rattle.touch_layout.specs.Layers.{Layer, layer_view, layers_view}
 use Rattle.touch_layout.specs.LayerIds.{folded, is_equal_layer, FindsSame}
 use Rattle.touch_layout.specs.Layout.{is_next_layer, has_strange_id, does_nothing, key_code, keys_fault, is_same_layer, layers_fault}
-
-or_false : (b : Bool) → (b || false) ≡ b
-or_false true = refl
-or_false false = refl
-
-or_true : (b : Bool) → (b || true) ≡ true
-or_true true = refl
-or_true false = refl
 
 -- a name of one of the records
 any_flat : {X Y : Type 0} (test : Y → Bool) (f : X → List Y) (xs : List X) → list_any test (flat_map f xs) ≡ list_any (λ x. list_any test (f x)) xs
@@ -83,17 +76,12 @@ same_keys_fault dictionary groups names ids layers keys named finds =
     ∙ same_faults (has_record dictionary groups) ids layers finds keys
 
 -- equal layers are found by the same keys
-both_true : (a b : Bool) → (a && b) ≡ true → (a ≡ true) × (b ≡ true)
-both_true true true h = (refl, refl)
-both_true true false h = absurd (cc)
-both_true false b h = absurd (cc)
-
 same_number : (a b : ℕ) → nat_eq a b ≡ true → a ≡ b
 same_number a b h = grind (arith, nat_tests, h)
 
 found_equal : (key : Key) (a b : Layer) → is_equal_layer a b ≡ true → is_next_layer key a ≡ is_next_layer key b
 found_equal key a b h =
-    let both = both_true (nat_eq a.place.platform b.place.platform) (bytes_eq a.id b.id) h in
+    let both = and_parts (nat_eq a.place.platform b.place.platform) (bytes_eq a.id b.id) h in
     (λ j. nat_eq (same_number a.place.platform b.place.platform both.0 j) key.place.platform && bytes_eq ((bytes_eq-Decides a.id b.id).0 both.1 j) key.next_layer)
 
 pub any_mapped : {X Y : Type 0} (test : Y → Bool) (f : X → Y) (xs : List X) → list_any test (map f xs) ≡ list_any (λ x. test (f x)) xs
@@ -152,12 +140,8 @@ module _ {X : Type 0} (layer_in : X → Layer) (eq : X → X → Bool) (same : (
   pub new_last : (xs now : List X) (x : X) (new : Bool) → new ≡ not (list_any (eq x) xs) → now ≡ insert_key eq xs x → new ≡ true → map layer_in now ≡ map layer_in xs ++ layer_in x ∷ []
   new_last xs now x new is put h =
       ap (map layer_in) put
-      ∙ ap (λ b. map layer_in (if b then xs else xs ++ x ∷ [])) (twice (list_any (eq x) xs) (sym is ∙ h))
+      ∙ ap (λ b. map layer_in (if b then xs else xs ++ x ∷ [])) (not-true (list_any (eq x) xs) (sym is ∙ h))
       ∙ map-append layer_in xs (x ∷ [])
-    where
-      twice : (b : Bool) → not b ≡ true → b ≡ false
-      twice true t = absurd (cc)
-      twice false t = refl
 
 same_either_way : (a b : ℕ) → nat_eq a b ≡ nat_eq b a
 same_either_way a b = grind (arith, nat_tests)

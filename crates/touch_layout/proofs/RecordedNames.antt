@@ -31,11 +31,11 @@ next_group dictionary names groups i group h e =
     ap (λ (gs : List Group). with_marks names (recorded_names dictionary gs)) (drop_more groups i group h ∙ ap (λ (g : Group). g ∷ drop (i + 1) groups) (sym e))
     ∙ names_append names (rule_names dictionary group.rules) (recorded_names dictionary (drop (i + 1) groups))
 
-or_false : (b : Bool) → (b || false) ≡ b
+pub or_false : (b : Bool) → (b || false) ≡ b
 or_false true = refl
 or_false false = refl
 
-or_true : (b : Bool) → (b || true) ≡ true
+pub or_true : (b : Bool) → (b || true) ≡ true
 or_true true = refl
 or_true false = refl
 

@@ -1,4 +1,4 @@
-use Rattle.std.proofs.Common.{Ok, refl}
+use Rattle.std.proofs.Common.{refl}
 use Rattle.kmn_base.specs.declared.codes.Code.TheVariants.{T7}
 use Rattle.kmn_base.specs.declared.limits.TheConstants.{TEXT_BYTES}
 use Rattle.touch_layout.specs.Faults.{fault, whole_layout}

@@ -1,5 +1,4 @@
-use Rattle.std.proofs.Common.{List, ℕ, Result, Ok, subst}
-use Rattle.keyman_run.specs.declared.preparing.Stop.{Stop}
+use Rattle.std.proofs.Common.{List, ℕ, subst}
 use Rattle.keyman_run.specs.Inputs.{text_of_file}
 use Rattle.keyman_run.specs.Orders.{bytes_work}
 use Rattle.keyman_run.specs.Steps.{States, itself}
