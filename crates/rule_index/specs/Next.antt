@@ -1,5 +1,5 @@
 -- Which record is the next that can hold.
-use Rattle.std.specs.Prelude.{◌≡◌, ◌≢◌, ℕ, ◌<◌, ◌≤◌, List, length, slice_index_or, nat_lt, if◌then◌else◌, Option, Some, None}
+use Rattle.std.specs.Prelude.{◌≡◌, ◌≢◌, ℕ, ◌<◌, ◌≤◌, List, length, slice_index_or, Option, Some, None}
 
 -- the first number, from one on, that has a class
 pub data IsFirstOf (class : ℕ) (classes : List ℕ) (from : ℕ) : Option ℕ → Type 0 where
@@ -15,9 +15,3 @@ pub data IsNext (wanted : List ℕ) (count : ℕ) (classes : List ℕ) (from : �
       → (met : (j : ℕ) × (j < count) × (slice_index_or classes number 0 ≡ slice_index_or wanted j 0))
       → (skipped : (n j : ℕ) → from ≤ n → n < number → j < count → slice_index_or classes n 0 ≢ slice_index_or wanted j 0)
       → IsNext wanted count classes from (Some number)
-
--- the lesser of two numbers that there may be
-abbrev pub earlier : Option ℕ → Option ℕ → Option ℕ
-earlier one None = one
-earlier None (Some second) = Some second
-earlier (Some first) (Some second) = if nat_lt second first then Some second else Some first

@@ -1,11 +1,12 @@
 ghost use Rattle.std.specs.Prelude.{◌≡◌, ◌<◌, ◌≤◌, ℕ, List, IfSome, length, map};
 ghost use Rattle.kmn_base.specs.declared.limits.TheConstants.{RECORDS};
 ghost use Rattle.rule_index.specs.Rows.{IsIndexOf};
-ghost use Rattle.rule_index.specs.Next.{IsNext, earlier};
-ghost use Rattle.rule_index.specs.Walk.{behind, HeadsStand};
+ghost use Rattle.rule_index.specs.Next.{IsNext};
+ghost use Rattle.rule_index.specs.Walk.{behind, HeadsStand, LeadStands};
 
 use crate::class::Class;
 use crate::head::Head;
+use crate::lead::Lead;
 use crate::row::Row;
 use std::marker::Model;
 
@@ -15,12 +16,13 @@ use std::marker::Model;
 pub struct Candidates<'i> {
     rows: &'i [Row],
     heads: [Head; 6],
+    lead: Lead,
     from: u32,
 }
 
 impl<'i> Model for Candidates<'i> {
     ghost use Rattle.std.specs.Prelude.{◌≤◌, map};
-    ghost use Rattle.rule_index.specs.Walk.{CandidatesValue, HeadsStand};
+    ghost use Rattle.rule_index.specs.Walk.{CandidatesValue, HeadsStand, LeadStands};
 
     ghost Value = { CandidatesValue };
 
@@ -30,40 +32,41 @@ impl<'i> Model for Candidates<'i> {
       from = candidates.from;
     } };
 
-    ghost invariant = { λ candidates. (candidates.from ≤ 131072) × HeadsStand candidates.rows.now candidates.from candidates.heads };
+    ghost invariant = { λ candidates. (candidates.from ≤ 131072) × HeadsStand candidates.rows.now candidates.from candidates.heads
+        × LeadStands candidates.rows.now (map (λ head. head.class) candidates.heads) candidates.from candidates.lead };
 }
 
-/// The lesser of two numbers that there may be.
-fn earlier(one: Option<u32>, other: Option<u32>) -> Option<u32>
-    ensures { result ≡ earlier one other }
-{
-    match (one, other) {
-        (one, None) => one,
-        (None, other) => other,
-        (Some(first), Some(second)) => if second < first {
-            Some(second)
-        } else {
-            Some(first)
-        },
-    }
-}
-
-/// The first number from one on that has a wanted class. The heads go on to their rows from this number on.
-fn next_of(rows: &[Row], heads: &mut [Head], from: u32) -> Option<u32>
+/// The first number from one on that has a wanted class. The heads go on to their rows from this number on, and its class leads.
+#[inline(never)]
+fn next_of(rows: &[Row], heads: &mut [Head], lead: &mut Lead, from: u32) -> Option<u32>
     requires { from ≤ 131072 }
     ensures wanted { map (λ head. head.class) heads.new ≡ map (λ head. head.class) heads.old }
     ensures stand { HeadsStand rows.now from heads.old → HeadsStand rows.now from heads.new }
     ensures next { (classes : List ℕ) → IsIndexOf classes rows.now → HeadsStand rows.now from heads.old
         → IsNext (map (λ head. head.class) heads.old) (length heads.old) classes from result }
+    ensures lead { let wanted = map (λ head. head.class) heads.old in HeadsStand rows.now from heads.old
+        → LeadStands rows.now wanted from lead.old → LeadStands rows.now wanted (behind from result) lead.new }
     ensures small { IfSome result (λ number. number < 131072) }
 {
-    let mut next = None;
+    let (mut first, mut least, mut limit) = (lead.head, 131_072, 131_072);
     for k in 0..heads.len() {
         let head = heads[k].behind(rows, from);
         heads[k] = head;
-        next = earlier(next, head.number(rows));
+        let number = head.number(rows);
+        if number < least {
+            limit = least;
+            least = number;
+            first = head;
+        } else if least < number && number < limit {
+            limit = number;
+        }
     }
-    next
+    if least == 131_072 {
+        return None;
+    }
+    first.place += 1;
+    *lead = Lead { head: first, limit };
+    Some(least)
 }
 
 impl<'i> Candidates<'i> {
@@ -81,20 +84,32 @@ impl<'i> Candidates<'i> {
             Head::of(rows, wanted[4]),
             Head::of(rows, wanted[5]),
         ];
+        let head = Head {
+            class: wanted[0],
+            place: 0,
+        };
         Candidates {
             rows,
             heads,
+            lead: Lead { head, limit: 0 },
             from: 0,
         }
     }
 
-    /// The next candidate; None where there is none left.
+    /// The next candidate; None where there is none left. While the lead's class goes on, no head is looked at.
+    #[inline(always)]
     pub fn next(&mut self) -> Option<u32>
         ensures next { (classes : List ℕ) → IsIndexOf classes self.old.rows
             → IsNext self.old.wanted (length self.old.wanted) classes self.old.from result }
         ensures rest { self.new ≡ record self.old { from = behind self.old.from result } }
     {
-        let number = next_of(self.rows, &mut self.heads, self.from)?;
+        let number = self.lead.head.number(self.rows);
+        if self.from <= number && number < self.lead.limit {
+            self.lead.head.place += 1;
+            self.from = number + 1;
+            return Some(number);
+        }
+        let number = next_of(self.rows, &mut self.heads, &mut self.lead, self.from)?;
         self.from = number + 1;
         Some(number)
     }

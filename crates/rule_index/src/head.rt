@@ -1,10 +1,10 @@
-ghost use Rattle.std.specs.Prelude.{◌≡◌, ◌<◌, ◌≤◌, ℕ, List, IfSome, slice_get};
+ghost use Rattle.std.specs.Prelude.{◌≡◌, ◌<◌, ◌≤◌, ℕ, List, length, slice_get, unwrap_or};
 ghost use Rattle.rule_index.specs.Rows.{ranked, number_if, IsIndexOf, StartsAt};
 ghost use Rattle.rule_index.specs.Walk.{HeadStands};
 
 use crate::class::Class;
 use crate::row::Row;
-use crate::rows::{number_if, place_behind, place_from, rank_of, row_at};
+use crate::rows::{place_behind, place_from, rank_of};
 
 /// A wanted class, and a place before which no row is left of it.
 #[derive(Clone, Copy, Drop)]
@@ -38,11 +38,16 @@ impl Head {
         }
     }
 
-    /// The number of the row where the head is, where it has the class.
-    pub fn number(&self, rows: &[Row]) -> Option<u32>
-        ensures value { result ≡ number_if self.now.class (slice_get rows.now self.now.place) }
-        ensures small { IfSome result (λ number. number < 131072) }
+    /// The number of the row where the head is, 131072 where it hasn't the class.
+    #[inline(always)]
+    pub fn number(&self, rows: &[Row]) -> u32
+        ensures value { result ≡ unwrap_or (number_if self.now.class (slice_get rows.now self.now.place)) 131072 }
+        ensures small { result ≤ 131072 }
+        ensures within { result < 131072 → self.now.place < length rows.now }
     {
-        number_if(row_at(rows, self.place), self.class)
+        match rows.get(self.place) {
+            Some(row) if row.class.number() == self.class.number() => row.number,
+            _ => 131_072,
+        }
     }
 }

@@ -24,6 +24,7 @@ mod holding;
 mod holdings;
 mod indexed_keyboard;
 pub mod laws;
+mod lead;
 mod options;
 mod own_names;
 mod row;

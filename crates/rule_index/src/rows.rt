@@ -1,7 +1,7 @@
-ghost use Rattle.std.specs.Prelude.{◌≡◌, ◌≤◌, ◌+◌, ◌*◌, ℕ, List, IfOk, length, slice_get, nat_lt};
+ghost use Rattle.std.specs.Prelude.{◌≡◌, ◌≤◌, ◌+◌, ◌*◌, ℕ, List, IfOk, length, nat_lt};
 ghost use Rattle.std.specs.List.Sorted.{IsNonDecreasingBy};
 ghost use Rattle.kmn_base.specs.declared.limits.TheConstants.{RECORDS};
-ghost use Rattle.rule_index.specs.Rows.{rank, ranked, AreNumbered, AreBefore, IsIndexOf, StartsAt, number_if};
+ghost use Rattle.rule_index.specs.Rows.{rank, ranked, AreNumbered, AreBefore, IsIndexOf, StartsAt};
 
 use crate::class::Class;
 use crate::row::Row;
@@ -52,23 +52,6 @@ pub fn rows_of(alloc: Global, classes: &[Class]) -> Result<Vec<Row>, Memory>
     Ok(rows)
 }
 
-/// The number of a row that there may be, where it has a class.
-pub fn number_if(row: Option<Row>, class: Class) -> Option<u32>
-    ensures { result ≡ number_if class row }
-{
-    match row {
-        Some(row) if row.class.number() == class.number() => Some(row.number),
-        _ => None,
-    }
-}
-
-/// The row at a place, None where there is none.
-pub fn row_at(rows: &[Row], place: usize) -> Option<Row>
-    ensures { result ≡ slice_get rows.now place }
-{
-    rows.get(place).copied()
-}
-
 /// The place of the first row whose rank is no less.
 pub fn place_from(rows: &[Row], start: u64) -> usize
     ensures { (sorted : IsNonDecreasingBy rank rows.now) → StartsAt start rows.now result }
@@ -85,8 +68,8 @@ pub fn place_behind(rows: &[Row], passed: usize, start: u64) -> usize
     ensures { (sorted : IsNonDecreasingBy rank rows.now) → AreBefore start rows.now passed → StartsAt start rows.now result }
 {
     let mut place = passed;
-    while let Some(row) = row_at(rows, place) {
-        if start <= rank(&row) {
+    while let Some(row) = rows.get(place) {
+        if start <= rank(row) {
             break;
         }
         place += 1;
