@@ -1,4 +1,4 @@
-ghost use Rattle.std.specs.Prelude.{◌≡◌, ◌<◌, map, length, option_map, slice_get, if◌then◌else◌};
+ghost use Rattle.std.specs.Prelude.{◌≡◌, ◌<◌, [], None, map, length, option_map, slice_get, if◌then◌else◌};
 ghost use Rattle.kmn_base.specs.Lists.{without_last};
 ghost use Rattle.rule_model.specs.Keyboard.{Numbered};
 ghost use Rattle.rule_model.specs.Act.{act_one, act, enter_if_allowed, items_caught};
@@ -99,35 +99,37 @@ fn take(caught: &Caught, event: &mut Event)
     event.take(caught.item_count());
 }
 
-/// A chosen record: its items are taken, its output acts, then the group's match output.
+/// A chosen record: its items are taken, its output acts, then the group's match output, for which nothing is caught.
 #[cycle(acts)]
 fn do_chosen(
     entering: Entering,
     group: &FileGroup<'_>,
     rule: &FileRule<'_>,
-    caught: &Caught,
+    caught: &mut Caught,
     event: &mut Event,
 )
     ensures { event.new ≡ record event.old {
       state = do_chosen (keyboard_of event.old) (enters event.old entering)
-          (tab_group event.old.tables.stores group.now) (tab_rule event.old.tables.stores group.now.using_keys rule.now, caught.now) event.old.state;
+          (tab_group event.old.tables.stores group.now) (tab_rule event.old.tables.stores group.now.using_keys rule.now, caught.old) event.old.state;
     } }
 {
     take(caught, event);
     act(entering, caught, rule.output(), event);
-    act(entering, &Caught::nothing(), group.on_match(), event);
+    caught.clear();
+    act(entering, caught, group.on_match(), event);
 }
 
-/// Where no record holds: the nomatch output, else the default of a group with keys.
+/// Where no record holds: the nomatch output, for which nothing is caught, else the default of a group with keys.
 #[cycle(acts)]
-fn do_unmatched(entering: Entering, group: &FileGroup<'_>, event: &mut Event)
+fn do_unmatched(entering: Entering, group: &FileGroup<'_>, nothing: &Caught, event: &mut Event)
+    requires { nothing.now ≡ record { catches = []; key_place = None } }
     ensures { event.new ≡ record event.old {
       state = do_unmatched (keyboard_of event.old) (enters event.old entering) entering.press
           (tab_group event.old.tables.stores group.now).on_nomatch group.now.using_keys event.old.state;
     } }
 {
     if !is_empty(group.on_nomatch()) {
-        act(entering, &Caught::nothing(), group.on_nomatch(), event);
+        act(entering, nothing, group.on_nomatch(), event);
     } else if group.using_keys() {
         by_default(entering.press, event);
     }
@@ -143,9 +145,10 @@ fn do_group(entering: Entering, group: &FileGroup<'_>, records: &RuleIndex, even
           (chosen_in (keyboard_of event.old) entering.press (tab_group event.old.tables.stores group.now) event.old.state) event.old.state;
     } }
 {
-    match event.chosen_in(entering.press, group, records) {
-        Some((rule, caught)) => do_chosen(entering, group, &rule, &caught, event),
-        None => do_unmatched(entering, group, event),
+    let mut caught = Caught::nothing();
+    match event.chosen_in(entering.press, group, records, &mut caught) {
+        Some(rule) => do_chosen(entering, group, &rule, &mut caught, event),
+        None => do_unmatched(entering, group, &caught, event),
     }
 }
 

@@ -1,4 +1,4 @@
-ghost use Rattle.std.specs.Prelude.{◌≡◌, ◌≤◌, ◌<◌, ◌+◌, ◌^◌, length, option_map, Some, true};
+ghost use Rattle.std.specs.Prelude.{◌≡◌, ◌≤◌, ◌<◌, ◌+◌, ◌^◌, length, option_map, None, Some, true};
 ghost use Rattle.kmn_base.specs.declared.limits.TheConstants.{EVENT_PUTS};
 ghost use Rattle.kmn_base.specs.Lists.{characters, window, without_last, read_again};
 ghost use Rattle.option_store.specs.Meaning.{option_values, option_saves};
@@ -200,19 +200,21 @@ impl<'a> Event<'a> {
         self.left.copy_cache()
     }
 
-    /// The record of a group that goes first at this moment, and what it has caught. It is seen in the last 64 items, which
-    /// are filled in before.
+    /// The record of a group that goes first at this moment. What it catches is written where the caller has room for it, which
+    /// stays as it was where none goes. It is seen in the last 64 items, which are filled in before.
     #[tactic(auto, using(crate::proofs::Contexts::first_in_window), unfolding(rule_model::specs::Tab::tab))]
     pub fn chosen_in<'g>(
         &mut self,
         press: KeyPress,
         group: &FileGroup<'g>,
         records: &RuleIndex,
-    ) -> Option<(FileRule<'g>, Caught)>
+        caught: &mut Caught,
+    ) -> Option<FileRule<'g>>
         requires short { AreShort group.now.rules }
         requires index { IsRuleIndexOf group.now records.now }
-        ensures chosen { option_map (λ c. (tab_rule self.old.tables.stores group.now.using_keys c.0, c.1)) result ≡ chosen_in
+        ensures chosen { option_map (λ rule. (tab_rule self.old.tables.stores group.now.using_keys rule, caught.new)) result ≡ chosen_in
             (keyboard_of self.old) press (tab_group self.old.tables.stores group.now) self.old.state }
+        ensures none { result ≡ None → caught.new ≡ caught.old }
         ensures same { self.new ≡ self.old }
     {
         let window = self.window();
@@ -224,6 +226,7 @@ impl<'a> Event<'a> {
             records,
             window.items(),
             &mut self.places,
+            caught,
         )
     }
 
@@ -233,9 +236,9 @@ impl<'a> Event<'a> {
         requires { count ≤ 64 }
         ensures { self.new ≡ record self.old { state = record self.old.state { left = without_last count self.old.state.left } } }
     {
-        self.left.fill();
-        let here = self.left.cache().len();
-        self.left.take(count.min(here));
+        let left = &mut self.left;
+        left.fill();
+        left.take(count.min(left.cache().len()));
     }
 
     /// Puts an item, or ends the event where no more may be put.

@@ -1,4 +1,4 @@
-ghost use Rattle.std.specs.Prelude.{◌≡◌, ◌≤◌, [], None, length};
+ghost use Rattle.std.specs.Prelude.{◌≡◌, ◌≤◌, ◌<◌, [], ◌∷◌, ◌++◌, None, length};
 ghost use Rattle.rule_model.specs.Act.{items_caught, place_for_index};
 
 use crate::elements::place_caught;
@@ -42,13 +42,6 @@ impl Model for Caught {
 }
 
 impl Caught {
-    /// What was found, item by item.
-    pub fn of(found: ArrayVec<Found, 60>) -> Caught
-        ensures { result ≡ record { catches = found.items; key_place = None } }
-    {
-        Caught { found }
-    }
-
     /// What an output has that stands for no record.
     pub fn nothing() -> Caught
         ensures { result ≡ record { catches = []; key_place = None } }
@@ -56,6 +49,21 @@ impl Caught {
         Caught {
             found: ArrayVec::new(),
         }
+    }
+
+    /// Nothing is caught any more.
+    pub fn clear(&mut self)
+        ensures { self.new ≡ record { catches = []; key_place = None } }
+    {
+        self.found.clear();
+    }
+
+    /// Adds what the next item of a context caught.
+    pub(crate) fn push(&mut self, found: Found)
+        requires { length self.old.catches < 60 }
+        ensures { self.new ≡ record { catches = self.old.catches ++ found ∷ []; key_place = None } }
+    {
+        self.found.push(found);
     }
 
     /// What was found, item by item.

@@ -15,7 +15,7 @@ use crate::choice::Choice;
 use crate::elements::{is_element, is_item, is_same};
 use crate::moment::Moment;
 use crate::place_memory::PlaceMemory;
-use crate::places::{found_of, is_in_store, item_before, place_taken};
+use crate::places::{catch_taken, is_in_store, item_before, place_taken};
 use crate::taken::{Taken, item_taken};
 use arrayvec::ArrayVec;
 use file_parts::{ContextItem, FileGroup, FileRule};
@@ -152,7 +152,8 @@ fn key_of(using_keys: bool, rule: &FileRule<'_>) -> RuleKey
     if using_keys { rule.key() } else { RuleKey::Any }
 }
 
-/// The record of a number, where there is one that holds on a list at a moment. Then this is what its items take.
+/// The record of a number, where there is one that holds on a list at a moment. Then this is what its items take. Most candidates
+/// fail by their context, so the record's key is read from the file behind it.
 fn held_record<'g>(
     choice: &Choice<'_>,
     group: &FileGroup<'g>,
@@ -168,21 +169,24 @@ fn held_record<'g>(
         ≡ held_record (content_of choice.now) choice.now.left.now choice.now.pressed (option_map (record_in choice.now group.now) (slice_get group.now.rules number)) }
     ensures right { RemembersFor choice.now places.new }
 {
-    let rule = group.rule(number)?;
     let count = records.pattern_count(number);
-    if !choice.pressed.fits(key_of(group.using_keys(), &rule)) || choice.left.len() < count {
+    if choice.left.len() < count {
         return None;
     }
-    let context = records.context(number);
-    if takes_context(choice, context, count, places, taken) {
+    if !takes_context(choice, records.context(number), count, places, taken) {
+        return None;
+    }
+    let rule = group.rule(number)?;
+    if choice.pressed.fits(key_of(group.using_keys(), &rule)) {
         Some(rule)
     } else {
         None
     }
 }
 
-/// The first record of a group that holds on a list at a moment, and what it has caught. Only those are tried that their
-/// index names for the press and the last item: no other can hold. Each place of an item in a store is looked for once.
+/// The first record of a group that holds on a list at a moment. Only those are tried that their index names for the press and
+/// the last item: no other can hold. What it catches is written where the caller has room for it, which stays as it was where
+/// none holds. Each place of an item in a store is looked for once.
 pub fn first_held<'g>(
     moment: &Moment<'_>,
     press: KeyPress,
@@ -190,11 +194,13 @@ pub fn first_held<'g>(
     records: &RuleIndex,
     left: &[Item],
     places: &mut PlaceMemory,
-) -> Option<(FileRule<'g>, Caught)>
+    caught: &mut Caught,
+) -> Option<FileRule<'g>>
     requires short { AreShort group.now.rules }
     requires index { IsRuleIndexOf group.now records.now }
-    ensures { option_map (λ c. (tab_rule moment.now.tables.stores group.now.using_keys c.0, c.1)) result ≡ first
+    ensures held { option_map (λ rule. (tab_rule moment.now.tables.stores group.now.using_keys rule, caught.new)) result ≡ first
         (holds (content_at moment.now) left.now press) (map (tab_rule moment.now.tables.stores group.now.using_keys) group.now.rules) }
+    ensures none { result ≡ None → caught.new ≡ caught.old }
 {
     places.forget();
     let choice = Choice {
@@ -206,8 +212,8 @@ pub fn first_held<'g>(
     let mut candidates = records.candidates(&wanted_classes(press, left));
     while let Some(number) = candidates.next() {
         if let Some(rule) = held_record(&choice, group, records, number, places, &mut taken) {
-            let found = found_of(&choice, taken.as_slice(), places);
-            return Some((rule, Caught::of(found)));
+            catch_taken(&choice, taken.as_slice(), places, caught);
+            return Some(rule);
         }
     }
     None

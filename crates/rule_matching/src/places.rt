@@ -1,14 +1,13 @@
 ghost use Rattle.std.specs.Prelude.{◌≡◌, ◌≤◌, ◌<◌, Some, is_some, length, map};
 ghost use Rattle.rule_model.specs.Match.{place_caught};
-ghost use Rattle.rule_matching.specs.Choices.{caught_in, content_of, RemembersFor};
+ghost use Rattle.rule_matching.specs.Choices.{all_caught, caught_in, content_of, RemembersFor};
 ghost use Rattle.rule_matching.specs.Matching.{item_before, place_before};
 
-use crate::caught::Found;
+use crate::caught::{Caught, Found};
 use crate::choice::Choice;
 use crate::marked::is_marked;
 use crate::place_memory::PlaceMemory;
 use crate::taken::{Taken, taken_at};
-use arrayvec::ArrayVec;
 use kmn_base::Item;
 use kmn_base::limits::WINDOW_ITEMS;
 
@@ -119,24 +118,24 @@ pub fn place_taken(
     place_of_taken(choice, taken_at(taken, offset)?, places)
 }
 
-/// What was found by what was taken: of each `any` the place too.
-pub fn found_of(
+/// Catches what was taken: each item, and of each `any` the place too.
+pub fn catch_taken(
     choice: &Choice<'_>,
     taken: &[Taken],
     places: &mut PlaceMemory,
-) -> ArrayVec<Found, 60>
+    caught: &mut Caught,
+)
     requires few { length taken.now ≤ 60 }
     requires right { RemembersFor choice.now places.old }
-    ensures found { result.items ≡ map (caught_in choice.now) taken.now }
+    ensures caught { caught.new ≡ all_caught choice.now taken.now }
     ensures right { RemembersFor choice.now places.new }
 {
-    let mut found = ArrayVec::new();
+    caught.clear();
     for one in taken {
         let place = place_of_taken(choice, *one, places);
-        found.push(Found {
+        caught.push(Found {
             item: item_at(choice.left, one.distance),
             place,
         });
     }
-    found
 }

@@ -1,16 +1,14 @@
-use Rattle.std.proofs.Common.{◌≡◌, ◌+◌, ◌-◌, ◌<◌, ◌≤◌, List, map, Option, Some, None, length, sym, ◌∙◌, ap, arith}
+use Rattle.std.proofs.Common.{◌≡◌, ◌+◌, ◌-◌, ◌<◌, ◌≤◌, Option, Some, None, length, sym, ◌∙◌, ap, arith}
 use Rattle.std.specs.Prelude.{option_map, slice_get}
 use Rattle.kmn_base.specs.declared.keys.KeyPress.{KeyPress}
 use Rattle.rule_index.specs.Classes.{wanted_classes}
 use Rattle.rule_index.specs.Next.{IsNext}
 use Rattle.rule_index.specs.Walk.{CandidatesValue}
-use Rattle.rule_model.specs.declared.event_state.Catch.{Catch}
 use Rattle.rule_model.specs.declared.event_state.Caught.{Caught}
 use Rattle.rule_model.specs.Choose.{Chosen}
 use Rattle.rule_model.specs.Match.{Content}
 use Rattle.rule_model.specs.Tab.{tab_rule}
-use Rattle.rule_matching.specs.declared.taken.Taken.{Taken}
-use Rattle.rule_matching.specs.Matching.{caught_by_taken}
+use Rattle.rule_matching.specs.Matching.{caught_by_all}
 use Rattle.rule_matching.specs.Moment.{content_at, held_record}
 use Rattle.rule_matching.proofs.Candidates.{classes_of, first_from, walked, candidate_within, candidate_holds, candidate_passed, none_left}
 use Rattle.rule_matching.proofs.matching.first_held.Goals as goal
@@ -31,17 +29,15 @@ within c =
 forth : (c : In-Some) → c.next.new.self.from ≡ c.in-Some.number + 1
 forth c = ap (λ (walk : CandidatesValue). walk.from) c.in-Some.ensures.rest
 
-pub returns-in-Some-held_record : goal.returns-in-Some-held_record
-returns-in-Some-held_record c =
+pub returns-in-Some-held_record-clause-held : goal.returns-in-Some-held_record-clause-held
+returns-in-Some-held_record-clause-held c =
     let content : Content = content_at c.args.moment.now in
-    let caught : List Taken → List Catch = map (caught_by_taken content c.args.left.now) in
-    let whole : List Catch → Option Chosen = λ (catches : List Catch). Some (tab_rule c.args.moment.now.tables.stores c.args.group.now.using_keys c.in-Some-held_record.rule, record { catches = catches; key_place = None }) in
-    ap (λ (all : Caught). Some (tab_rule c.args.moment.now.tables.stores c.args.group.now.using_keys c.in-Some-held_record.rule, all)) c.of-in-Some-held_record.ensures
-    ∙ (ap whole (c.found_of-found.ensures.found ∙ ap caught c.as_slice.ensures.value)
+    let whole : Caught → Option Chosen = λ (caught : Caught). Some (tab_rule c.args.moment.now.tables.stores c.args.group.now.using_keys c.in-Some-held_record.rule, caught) in
+    ap whole (c.catch_taken.ensures.caught ∙ ap (caught_by_all content c.args.left.now) c.as_slice.ensures.value)
     ∙ (sym (candidate_holds content c.args.left.now c.args.press c.args.moment.now.tables.stores c.args.group.now.using_keys c.args.group.now.rules
-    c.loop-number.candidates.from c.in-Some.number (next (goal.at.returns-in-Some-held_record c).In-Some) _ (sym (c.in-Some-held_record.ensures.held ∙ ap (λ (press : KeyPress). held_record content c.args.left.now press (option_map (tab_rule c.args.moment.now.tables.stores c.args.group.now.using_keys)
+    c.loop-number.candidates.from c.in-Some.number (next (goal.at.returns-in-Some-held_record-clause-held c).In-Some) _ (sym (c.in-Some-held_record.ensures.held ∙ ap (λ (press : KeyPress). held_record content c.args.left.now press (option_map (tab_rule c.args.moment.now.tables.stores c.args.group.now.using_keys)
     (slice_get c.args.group.now.rules c.in-Some.number))) c.of.ensures)))
-    ∙ c.loop-number.invariant.same))
+    ∙ c.loop-number.invariant.same)
 
 pub loop-number-smaller : goal.loop-number-smaller
 loop-number-smaller c =
@@ -65,10 +61,11 @@ loop-number-preserved c =
           (slice_get c.args.group.now.rules c.in-Some.number))) c.of.ensures)))
           ∙ c.loop-number.invariant.same);
       right = c.in_default-held_record.ensures.right;
+      kept = c.loop-number.invariant.kept;
     }
 
-pub returns : goal.returns
-returns c =
+pub returns-clause-held : goal.returns-clause-held
+returns-clause-held c =
     let left = walked c.loop-number.candidates c.args.records.now.rows c.args.press c.args.left.now c.args.group.now.using_keys c.args.group.now.rules None
     c.loop-number.invariant.rows c.loop-number.invariant.wanted c.requires.index.records c.in_default.ensures.next in
     sym (none_left (content_at c.args.moment.now) c.args.left.now c.args.press c.args.moment.now.tables.stores c.args.group.now.using_keys c.args.group.now.rules

@@ -13,6 +13,7 @@ invariant-loop-number l = record {
   same : first_from (content_at l.choice.moment.now) l.choice.left.now l.fn.press l.choice.moment.now.tables.stores l.group.using_keys l.group.rules l.candidates.from
       ≡ first_from (content_at l.choice.moment.now) l.choice.left.now l.fn.press l.choice.moment.now.tables.stores l.group.using_keys l.group.rules 0;
   right : RemembersRight l.choice.moment.now l.choice.left.now l.places;
+  kept : l.caught ≡ l.fn.caught;
 }
 
 abbrev pub decreases-loop-number : goal.decreases-loop-number

@@ -2,7 +2,6 @@ use Rattle.std.proofs.Common.{◌≡◌, List, map, sym, ◌∙◌, ap, subst}
 use Rattle.std.specs.Prelude.{option_map}
 use Rattle.kmn_base.specs.declared.items.Item.{Item}
 use Rattle.kmn_base.specs.Lists.{window}
-use Rattle.rule_model.specs.declared.event_state.Caught.{Caught}
 use Rattle.rule_model.specs.declared.tables.Rule.{Rule}
 use Rattle.rule_model.specs.Choose.{first}
 use Rattle.rule_model.specs.Hold.{holds}
@@ -21,8 +20,8 @@ returns-clause-chosen c =
     let here : MomentValue → List Item → _ = λ (m : MomentValue) (items : List Item).
     first (holds (content_at m) items c.args.press) (map (tab_rule m.tables.stores using_keys) rules) in
     let last : c.items.result.now ≡ window event.state.left = c.items.ensures.value ∙ c.window-window.ensures.window in
-    subst (λ (m : MomentValue). option_map (λ (chosen : Rule × Caught). (tab_rule m.tables.stores using_keys chosen.0, chosen.1)) c.first_held.result ≡ here m c.items.result.now)
-    (c.of-moment.ensures ∙ ap moment_of (c.self.view_is ∙ c.window-window.ensures.same)) c.first_held.ensures
+    subst (λ (m : MomentValue). option_map (λ (rule : Rule). (tab_rule m.tables.stores using_keys rule, c.first_held.new.caught)) c.first_held.result ≡ here m c.items.result.now)
+    (c.of-moment.ensures ∙ ap moment_of (c.self.view_is ∙ c.window-window.ensures.same)) c.first_held.ensures.held
     ∙ (ap (here (moment_of event)) last
     ∙ (first_in_window (content_in event) event.state.left c.args.press event.tables.stores using_keys rules c.requires.short
     ∙ sym (chosen_first event.tables c.args.press (tab_group event.tables.stores c.args.group.now) event.state)))
