@@ -80,7 +80,7 @@ impl Options {
     pub fn copy(&self, alloc: Global) -> Result<Options, Memory>
         ensures { IfOk result (λ options. options ≡ self.now) }
     {
-        let mut cells = Vec::new(alloc);
+        let mut cells = Vec::with_capacity(alloc, self.cells.len())?;
         for cell in self.cells.as_slice() {
             cells.push(cell.copy(alloc)?)?;
         }
