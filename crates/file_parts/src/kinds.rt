@@ -28,7 +28,7 @@ fn from_zero(number: u16) -> u16
 }
 
 /// A store or group number as tables have it.
-fn number(number: u16) -> u32
+fn table_number(number: u16) -> u32
     ensures { result ≡ number - 1 }
 {
     u32::from(from_zero(number))
@@ -100,13 +100,16 @@ impl Part for Out {
         match item {
             UnitItem::Char(c) => Some(Out::Char(c)),
             UnitItem::Dead(mark) => Some(Out::Mark(mark)),
-            UnitItem::Index(store, offset) => Some(Out::Index(number(store), u32::from(offset))),
+            UnitItem::Index(store, offset) => Some(Out::Index(
+                table_number(store),
+                u32::from(offset),
+            )),
             UnitItem::Context => Some(Out::Context),
             UnitItem::ContextAt(offset) => Some(Out::ContextAt(u32::from(offset))),
-            UnitItem::Enter(group) => Some(Out::Enter(number(group))),
-            UnitItem::Set(store, value) => Some(Out::Set(number(store), number(value))),
-            UnitItem::Save(store) => Some(Out::Save(number(store))),
-            UnitItem::Reset(store) => Some(Out::Reset(number(store))),
+            UnitItem::Enter(group) => Some(Out::Enter(table_number(group))),
+            UnitItem::Set(store, value) => Some(Out::Set(table_number(store), table_number(value))),
+            UnitItem::Save(store) => Some(Out::Save(table_number(store))),
+            UnitItem::Reset(store) => Some(Out::Reset(table_number(store))),
             UnitItem::Nul => Some(Out::Nul),
             UnitItem::Beep => Some(Out::Beep),
             UnitItem::Stop => Some(Out::Stop),

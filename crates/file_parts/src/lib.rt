@@ -4,8 +4,8 @@
 //! It stands on `kmx_format`, whose `tables_of` says which tables bytes have, on `kmx_view`, which reads numbers and
 //! strings, and on `item_codec`, which walks the items of a string. The layer above makes `FileTables` of bytes, which
 //! contracts see as their tables, and asks them for stores, groups and key records: each is the one that the tables have
-//! there. What a string spells comes as an iterator, which contracts see as the list of what is left. An
-//! item of a context comes as the `Pat` that tables have, or as a `ContextItem`, which is the same in the numbers of a file.
+//! there. What a string spells comes as an iterator, which contracts see as the list of what is left. An item of a context
+//! comes as the `Pat` that tables have, or as a `ContextItem`, which is the same in the numbers of a file.
 #![tactic(auto)]
 
 mod context_item;
