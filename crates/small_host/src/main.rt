@@ -42,16 +42,21 @@ fn utf8(alloc: Global, text: &[char]) -> Result<String, Memory>
     Ok(utf8)
 }
 
-/// What is typed by keys on the keyboard of a file. A key that the keyboard passes on is the application's own.
-fn typed(alloc: Global, file: &[u8], keys: &[&str]) -> Result<String, HostError> {
-    let keyboard = verify(alloc, file)?;
-    let mut session = Session::start(alloc, &keyboard)?;
+/// What stands before the caret when keys were typed. A key that the keyboard passes on is the application's own.
+fn text_after(alloc: Global, session: &mut Session, keys: &[&str]) -> Result<String, HostError> {
     for key in keys {
         if let Some(code) = key_named(key.as_bytes()) {
             session.step(alloc, &Event::Key(KeyPress { code, mods: 0 }))?;
         }
     }
     Ok(utf8(alloc, session.editor().left())?)
+}
+
+/// What is typed by keys on the keyboard of a file.
+fn typed(alloc: Global, file: &[u8], keys: &[&str]) -> Result<String, HostError> {
+    let keyboard = verify(alloc, file)?;
+    let mut session = Session::start(alloc, &keyboard)?;
+    text_after(alloc, &mut session, keys)
 }
 
 /// Types an accent and its vowel on the keyboard in the current folder.
