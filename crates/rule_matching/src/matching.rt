@@ -153,7 +153,7 @@ fn key_of(using_keys: bool, rule: &FileRule<'_>) -> RuleKey
 }
 
 /// The record of a number, where there is one that holds on a list at a moment. Then this is what its items take. Most candidates
-/// fail by their context, so the record's key is read from the file behind it.
+/// fail by their context, so the record's key is read from the file afterwards.
 fn held_record<'g>(
     choice: &Choice<'_>,
     group: &FileGroup<'g>,
