@@ -177,11 +177,16 @@ fn takes_all(engine: &mut Engine) -> bool {
         && engine.context() == [Item::Char('N')].as_slice()
 }
 
+/// Whether the first press with that keyboard does so.
+fn takes_all_that_it_puts(alloc: Global) -> Result<bool, Fail> {
+    let bytes = takes_what_it_puts(alloc)?;
+    let file = verify(alloc, bytes.as_slice())?;
+    let mut engine = Engine::start(alloc, &file)?;
+    Ok(takes_all(&mut engine))
+}
+
 #[test]
 fn more_taken_than_the_window(rt: HostRuntime) -> Result<(), Fail> {
-    let bytes = takes_what_it_puts(rt.alloc())?;
-    let file = verify(rt.alloc(), bytes.as_slice())?;
-    let mut engine = Engine::start(rt.alloc(), &file)?;
-    assert!(rt; takes_all(&mut engine));
+    assert!(rt; takes_all_that_it_puts(rt.alloc())?);
     Ok(())
 }

@@ -156,21 +156,32 @@ fn wrong_case(
     wrong_step(alloc, &mut session, case)
 }
 
+/// The first wrong step of the cases with the keyboard of a file.
+fn wrong_in(alloc: Global, file: &Verified) -> Result<Option<&'static str>, Fail> {
+    for case in CASES.lines() {
+        if let Some(step) = wrong_case(alloc, file, case)? {
+            return Ok(Some(step));
+        }
+    }
+    Ok(None)
+}
+
+/// The first wrong step of the cases with that keyboard.
+fn wrong_with_keyboard(alloc: Global) -> Result<Option<&'static str>, Fail> {
+    let compiled = compile(alloc, KEYBOARD, &[])?;
+    let file = verify(alloc, compiled.bytes.as_slice())?;
+    wrong_in(alloc, &file)
+}
+
 #[test]
 fn events_of_every_kind(rt: HostRuntime) -> Result<(), Fail> {
-    let compiled = compile(rt.alloc(), KEYBOARD, &[])?;
-    let file = verify(rt.alloc(), compiled.bytes.as_slice())?;
-    for case in CASES.lines() {
-        let wrong = wrong_case(rt.alloc(), &file, case)?;
-        assert!(rt; wrong.is_none(), "{}", wrong.unwrap_or(""));
-    }
+    let wrong = wrong_with_keyboard(rt.alloc())?;
+    assert!(rt; wrong.is_none(), "{}", wrong.unwrap_or(""));
     Ok(())
 }
 
-/// Whether a press in the first session of a file puts a b into the text.
-fn puts_b(alloc: Global) -> Result<bool, Fail> {
-    let file = verify(alloc, ONE_RULE)?;
-    let mut session = Session::start(alloc, &file)?;
+/// Whether the first press of a session puts a b into the text.
+fn puts_b(alloc: Global, session: &mut Session) -> Result<bool, Fail> {
     let step = session.step(alloc, &Event::Key(KeyPress { code: 65, mods: 0 }))?;
     Ok(
         step.number == 1
@@ -180,9 +191,16 @@ fn puts_b(alloc: Global) -> Result<bool, Fail> {
     )
 }
 
+/// Whether the file of one rule puts a b.
+fn one_rule_puts_b(alloc: Global) -> Result<bool, Fail> {
+    let file = verify(alloc, ONE_RULE)?;
+    let mut session = Session::start(alloc, &file)?;
+    puts_b(alloc, &mut session)
+}
+
 #[test]
 fn one_press(rt: HostRuntime) -> Result<(), Fail> {
-    assert!(rt; puts_b(rt.alloc())?);
+    assert!(rt; one_rule_puts_b(rt.alloc())?);
     Ok(())
 }
 
