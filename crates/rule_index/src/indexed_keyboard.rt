@@ -183,7 +183,6 @@ impl<'a> IndexedKeyboard<'a> {
     }
 
     /// The option number of a store.
-    #[inline(always)]
     #[tactic(auto, using(rule_model::proofs::PlainOptions::number_found))]
     pub fn option_number(&self, store: u32) -> Option<usize>
         ensures { result ≡ option_number (tab self.now).stores (Numbered store) }
@@ -220,7 +219,6 @@ impl<'a> IndexedKeyboard<'a> {
     }
 
     /// The element at a place of a store.
-    #[inline(always)]
     #[tactic(auto, using(crate::proofs::StoreIndexes::contents_found, crate::proofs::StoreIndexes::contents_absent))]
     pub fn element_at(&self, store: u32, place: usize) -> Option<Element>
         ensures { result ≡ slice_get (elements_of self.now.stores store) place }

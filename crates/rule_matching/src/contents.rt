@@ -37,7 +37,6 @@ fn held<'c>(
 }
 
 /// What a store holds at a moment: the current value of an option, else itself.
-#[inline(always)]
 #[tactic(auto, using(crate::proofs::StoreContents::option_within, crate::proofs::StoreContents::current_is_content, crate::proofs::StoreContents::itself_is_content))]
 pub fn held_now(indexed: &IndexedKeyboard, options: &Options, store: u32) -> Held
     requires { length options.now ≡ length indexed.now.stores }

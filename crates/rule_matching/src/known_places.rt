@@ -125,7 +125,6 @@ impl KnownPlaces {
     }
 
     /// What is known of the place in a store of the item at a distance from the caret: nothing, that it has none, or its place.
-    #[inline(always)]
     pub fn known(&self, store: u32, distance: usize) -> Option<Option<usize>>
         ensures { result ≡ known_place self.now store distance }
     {

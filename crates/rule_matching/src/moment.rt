@@ -80,7 +80,6 @@ impl<'a> Moment<'a> {
     }
 
     /// The element at a place that there may be, in what a store has.
-    #[inline(always)]
     pub fn element_at(&self, store: u32, place: Option<usize>) -> Option<Element>
         ensures { result ≡ element_at (content_at self.now (Numbered store)) place }
     {
@@ -88,7 +87,6 @@ impl<'a> Moment<'a> {
     }
 
     /// The element at a place of what a store has.
-    #[inline(always)]
     fn get(&self, store: u32, place: usize) -> Option<Element>
         ensures { result ≡ slice_get (content_at self.now (Numbered store)) place }
     {

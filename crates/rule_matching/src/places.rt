@@ -52,7 +52,6 @@ fn look_for(
 }
 
 /// The first place of that item in what a store has, None where there is no such item. It is looked for once.
-#[inline(always)]
 #[tactic(auto, using(crate::proofs::KnownPlaces::place_beyond))]
 fn place_before(
     choice: &Choice<'_>,
@@ -96,7 +95,6 @@ pub fn is_in_store(
 }
 
 /// The place in its store of what was taken, where an `any` took it.
-#[inline(always)]
 fn place_of_taken(choice: &Choice<'_>, taken: Taken, places: &mut PlaceMemory) -> Option<usize>
     requires { RemembersFor choice.now places.old }
     ensures place { result ≡ (caught_in choice.now taken).place }
@@ -106,7 +104,6 @@ fn place_of_taken(choice: &Choice<'_>, taken: Taken, places: &mut PlaceMemory) -
 }
 
 /// The place in its store of what was taken at an offset, where an `any` took it.
-#[inline(always)]
 #[tactic(auto, using(crate::proofs::TakenItems::place_is_caught))]
 pub fn place_taken(
     choice: &Choice<'_>,

@@ -13,7 +13,6 @@ pub struct Taken {
 }
 
 /// What was taken at an offset, which counts from 1.
-#[inline(always)]
 pub fn taken_at(taken: &[Taken], offset: u16) -> Option<Taken>
     ensures { result ≡ taken_at taken.now offset }
 {
