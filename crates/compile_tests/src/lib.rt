@@ -1,9 +1,9 @@
-//! The tests of the crates that check and compile sources: `checks` of `rule_checker`, `expanding` of `rule_expand`, and
-//! `compiling` of `kmn_compiler`.
+//! The tests of the crates that check and compile sources: `ordering` of `rule_order`, `checks` of `rule_checker`,
+//! `expanding` of `rule_expand`, and `compiling` of `kmn_compiler`.
 //!
-//! They stand here because a crate with tests is proved twice, once with them and once without: so each of those large
-//! crates is proved once, and the tests are proved over them, beside those of `source_tests`. `fixtures` has what several
-//! of them take. No layer stands above.
+//! They stand here because a crate with tests is proved twice, once with them and once without: so each of those crates is
+//! proved once, and the tests are proved over them, beside those of `source_tests`. `fixtures` has what several of them
+//! take. No layer stands above.
 #![tactic(auto)]
 
 #[cfg(test)]
@@ -13,3 +13,5 @@ mod compiling;
 #[cfg(test)]
 mod expanding;
 pub mod fixtures;
+#[cfg(test)]
+mod ordering;

@@ -8,8 +8,6 @@
 
 mod cache;
 pub mod laws;
-#[cfg(test)]
-mod tests;
 mod texts;
 
 pub use cache::Cache;

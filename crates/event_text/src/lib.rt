@@ -10,8 +10,6 @@
 mod inserted;
 mod left;
 mod standing;
-#[cfg(test)]
-mod tests;
 
 pub use inserted::Inserted;
 pub use left::{Edited, Left};

@@ -16,8 +16,6 @@ mod lists;
 mod names;
 mod records;
 mod stores;
-#[cfg(test)]
-mod tests;
 mod walks;
 
 pub use context_item::ContextItem;

@@ -8,8 +8,6 @@
 mod codes;
 pub mod laws;
 mod spelled;
-#[cfg(test)]
-mod tests;
 mod units;
 mod walk;
 

@@ -21,8 +21,6 @@ pub mod names;
 mod refusals;
 mod sequence;
 pub mod slices;
-#[cfg(test)]
-mod tests;
 pub mod texts;
 mod units;
 

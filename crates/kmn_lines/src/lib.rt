@@ -19,8 +19,6 @@ mod logical;
 mod part_walk;
 mod physical_line;
 mod prefix;
-#[cfg(test)]
-mod tests;
 mod token;
 
 use kmn_base::slices::before;

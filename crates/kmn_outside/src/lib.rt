@@ -12,8 +12,6 @@ mod disk;
 mod memory_folder;
 mod memory_sink;
 mod stream;
-#[cfg(test)]
-mod tests;
 mod traits;
 
 pub use disk::DiskFolder;

@@ -16,8 +16,6 @@ mod faults;
 mod numbers;
 mod scan;
 mod sizes;
-#[cfg(test)]
-mod tests;
 mod token_error;
 
 pub use faults::has_forbidden;

@@ -14,5 +14,3 @@ pub use parts::{GroupRef, RuleRef, StoreRef};
 pub use strings::{ended_string, string_bytes};
 pub use view::KmxView;
 
-#[cfg(test)]
-mod tests;

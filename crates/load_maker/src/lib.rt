@@ -5,7 +5,5 @@
 #![tactic(auto)]
 
 mod load;
-#[cfg(test)]
-mod tests;
 
 pub use load::{Load, LoadError, make};

@@ -10,7 +10,5 @@
 
 pub mod laws;
 mod options;
-#[cfg(test)]
-mod tests;
 
 pub use options::{Cell, Held, Options};

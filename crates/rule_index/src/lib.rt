@@ -30,8 +30,6 @@ mod own_names;
 mod row;
 mod rows;
 mod rule_index;
-#[cfg(test)]
-mod tests;
 mod values;
 
 pub use candidates::Candidates;

@@ -5,7 +5,5 @@
 #![tactic(auto)]
 
 mod ordering;
-#[cfg(test)]
-mod tests;
 
 pub use ordering::order;

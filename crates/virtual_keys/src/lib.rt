@@ -14,8 +14,6 @@ mod names;
 mod pressed;
 mod presses;
 mod tables;
-#[cfg(test)]
-mod tests;
 mod unicode_names;
 
 pub use dictionary::KeyDictionary;

@@ -1,15 +1,14 @@
-//! Sources with their tokens, line by line: kind, number of the physical line, text; or the refusal of the line. In the
-//! table stands ¶ for LF, ¬ for a tab, † for U+FEFF, · for U+00A0,
-//! ° for U+0000 and ‡ for U+FFFF.
+//! Sources with their tokens, line by line: kind, number of the physical line, text; or the refusal of the line.
 
 ghost use Rattle.std.specs.Prelude.{◌≤◌, length};
 ghost use Rattle.kmn_base.specs.declared.limits.TheConstants.{TEXT_BYTES};
 ghost use Rattle.kmn_lines.specs.Places.{IsPlaced};
 
-use crate::{Token, TokenKind, tokens};
+use crate::fixtures::source_of;
 use kmn_base::Seq;
 use kmn_base::slices::{before, behind};
-use kmn_lines::{Logical, lines};
+use kmn_lines::{Logical, Token, TokenKind, lines};
+use kmn_tokens::tokens;
 use std::alloc::{AllocError, Global};
 use std::test::Fail;
 
@@ -65,24 +64,6 @@ abc d => [Word 1 abc|Word 1 d|]
 + 'a' > \ 'b' => [Plus 1 +|Quoted 1 'a'|Arrow 1 >|Word 1 \|Quoted 1 'b'|]
 †U+0041 => [U 41 1 U+0041|]
 ††a => [Word 1 †a|]"#;
-
-/// The text that a text of the table stands for.
-fn source_of(alloc: Global, text: &str) -> Result<String, AllocError> {
-    let mut source = String::new(alloc);
-    for c in text.chars() {
-        let meant = match c {
-            '¶' => '\n',
-            '¬' => '\t',
-            '†' => '\u{FEFF}',
-            '·' => '\u{A0}',
-            '°' => '\0',
-            '‡' => '\u{FFFF}',
-            _ => c,
-        };
-        source.push(meant)?;
-    }
-    Ok(source)
-}
 
 fn show_token(
     alloc: Global,

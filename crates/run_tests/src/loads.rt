@@ -1,4 +1,6 @@
-use crate::{LoadError, make};
+//! Loads, and the numbers that have none.
+
+use load_maker::{LoadError, make};
 use std::alloc::Global;
 use std::test::Fail;
 

@@ -1,6 +1,6 @@
 //! Bytes and what they give, and each item as its bytes.
 
-use crate::{BadKind, BadUnits, UnitItem, items_of, spell};
+use item_codec::{BadKind, BadUnits, UnitItem, items_of, spell};
 use kmn_base::{Memory, Seq};
 use std::alloc::{AllocError, Global};
 use std::test::Fail;

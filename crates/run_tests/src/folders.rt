@@ -1,20 +1,14 @@
 //! A run of calls over the folder and the sink in memory, and one over real files.
-ghost use Rattle.std.specs.Prelude.{◌≡◌, IfOk};
 
-use super::*;
+use crate::fixtures::seq;
 use kmn_base::Seq;
+use kmn_outside::{DiskFolder, Folder, MemoryFolder, MemorySink, Sink, StreamSink};
 use std::alloc::Global;
 use std::fs;
 use std::test::Fail;
 
 /// A read: the name, the limit, and what it comes to as text, which are the bytes or the words of the error.
 type ReadRow = (&'static [u8], usize, &'static str);
-
-fn seq(alloc: Global, bytes: &[u8]) -> Result<Seq<u8>, Fail>
-    ensures { IfOk result (λ copy. copy ≡ bytes.now) }
-{
-    Ok(Seq::from_vec(Vec::from_slice(alloc, bytes)?))
-}
 
 /// Whether a read comes to what it should.
 fn is_read<F: Folder>(alloc: Global, folder: &mut F, row: ReadRow) -> Result<bool, Fail> {

@@ -1,8 +1,10 @@
+//! What stores hold after calls on them.
+
 ghost use Rattle.std.specs.Prelude.{◌≡◌, ◌<◌, length};
 
-use crate::Held::{Host, Store};
-use crate::{Held, Options};
 use kmn_base::Memory;
+use option_store::Held::{Host, Store};
+use option_store::{Held, Options};
 use std::alloc::Global;
 use std::test::Fail;
 
@@ -89,7 +91,7 @@ const CALLS: &[(u32, Call, Wanted, Wanted)] = &[
 ];
 
 /// One call.
-#[tactic(auto, using(crate::proofs::FirstCells::changed_count))]
+#[tactic(auto, using(option_store::proofs::FirstCells::changed_count))]
 fn act(alloc: Global, options: &mut Options, store: u32, call: Call) -> Result<(), Memory>
     requires { store < length options.old }
     ensures { length options.new ≡ length options.old }

@@ -3,8 +3,8 @@
 ghost use Rattle.std.specs.Prelude.{◌≡◌};
 ghost use Rattle.kmn_base.specs.declared.limits.TheConstants.{EVENT_PUTS};
 
-use crate::{Edited, Inserted, Left};
 use context_cache::Cache;
+use event_text::{Edited, Inserted, Left};
 use kmn_base::Item;
 use kmn_base::Item::{Char, Mark};
 use kmn_base::limits::EVENT_PUTS;

@@ -1,17 +1,11 @@
-use crate::{FileGroup, FileStore, FileTables};
+//! The tables of a file, read where they lie.
+
+use crate::fixtures::ONE_RULE;
+use file_parts::{FileGroup, FileStore, FileTables};
 use kmn_base::{Element, Memory, RuleKey};
 use rule_model::Out;
 use std::alloc::Global;
 use std::test::Fail;
-
-/// The file of one rule, `+ 'a' > 'b'` in line 3, in a group `main` that uses keys.
-const ONE_RULE: [u8; 122] = [
-    0x4B, 0x58, 0x54, 0x53, 0x00, 0x0A, 0x00, 0x00, 0, 0, 0, 0, 0, 0, 0, 0, 0, 0, 0, 0, 0, 0, 0, 0,
-    0, 0, 0, 0, 1, 0, 0, 0, 0, 0, 0, 0, 0x40, 0, 0, 0, 0xFF, 0xFF, 0xFF, 0xFF, 0, 0, 0, 0, 0, 0, 0,
-    0, 0, 0, 0, 0, 0, 0, 0, 0, 0, 0, 0, 0, 0x6C, 0, 0, 0, 0x58, 0, 0, 0, 0, 0, 0, 0, 0, 0, 0, 0, 1,
-    0, 0, 0, 1, 0, 0, 0, 0x61, 0, 0, 0, 3, 0, 0, 0, 0, 0, 0, 0, 0x76, 0, 0, 0, 0, 0, 0, 0, 0x6D, 0,
-    0x61, 0, 0x69, 0, 0x6E, 0, 0, 0, 0x62, 0, 0, 0,
-];
 
 /// The bytes of one store `v` of the system id 9, whose string has an `a`, a `nul`, the first deadkey, a code that no
 /// item has, and a `b`.

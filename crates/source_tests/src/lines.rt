@@ -1,11 +1,11 @@
-//! Sources with their lines: the first number, the byte places, and each part with its number. In the table stands ¶ for
-//! LF, § for CR, ¬ for a tab and † for U+FEFF.
+//! Sources with their lines: the first number, the byte places, and each part with its number.
 
 ghost use Rattle.std.specs.Prelude.{◌≤◌, length};
 ghost use Rattle.kmn_base.specs.declared.limits.TheConstants.{TEXT_BYTES};
 
-use crate::{Part, lines, parts};
+use crate::fixtures::source_of;
 use kmn_base::slices::{before, behind};
+use kmn_lines::{Part, lines, parts};
 use std::alloc::{AllocError, Global};
 use std::test::Fail;
 
@@ -55,22 +55,6 @@ $keymanweb: 'a => [1 0..14]
 \¶$kmfl:a => [1 0..9|1:]
 $keymanwebs a => [1 0..13|1:$keymanwebs a]
 a $keyman:b => [1 0..11|1:a $keyman:b]"#;
-
-/// The text that a text of the table stands for.
-fn source_of(alloc: Global, text: &str) -> Result<String, AllocError> {
-    let mut source = String::new(alloc);
-    for c in text.chars() {
-        let meant = match c {
-            '¶' => '\n',
-            '§' => '\r',
-            '¬' => '\t',
-            '†' => '\u{FEFF}',
-            _ => c,
-        };
-        source.push(meant)?;
-    }
-    Ok(source)
-}
 
 fn show_part(alloc: Global, out: &mut Vec<u8>, source: &str, part: Part) -> Result<(), AllocError> {
     let number = format!(in alloc; "|{}:", part.line)?;

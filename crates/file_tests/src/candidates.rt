@@ -1,20 +1,11 @@
 //! The records that can hold for a press and a last item, one after the other, what is looked up of a file, the stores that
-//! have items and the first places there, and the numbers of what stores have.
+//! have items and the first places there, and which stores are alike.
 
-ghost use Rattle.std.specs.Prelude.{IfOk};
-ghost use Rattle.std.specs.List.Sorted.{IsNonDecreasingBy};
-ghost use Rattle.rule_index.specs.Holdings.{holding_rank};
-
-use crate::holding::Holding;
-use crate::holdings::Holdings;
-use crate::options::option_numbers;
-use crate::own_names::own_keys;
-use crate::values::store_numbers;
-use crate::{RuleIndex, wanted_classes};
 use file_parts::{ContextItem, FileTables};
 use kmn_base::Item::{Char, Mark};
 use kmn_base::limits::{RECORDS, STORE_ELEMENTS, STORES};
-use kmn_base::{Element, Item, KeyPress, Memory, Seq};
+use kmn_base::{Element, Item, KeyPress, Memory};
+use rule_index::{Holding, IndexedKeyboard, RuleIndex, wanted_classes};
 use std::alloc::Global;
 use std::test::Fail;
 
@@ -46,14 +37,33 @@ const CANDIDATES: &[Asked] = &[
     (false, 112, 0, &[Char('x')], &[0, 1, 3, 4, 5]),
 ];
 
-/// What stores have.
+/// Six stores without names, and no groups.
+const STORES_FILE: &[u8; 190] = b"\
+    KXTS\0\x0A\0\0\0\0\0\0\0\0\0\0\0\0\0\0\0\0\0\0\x06\0\0\0\0\0\0\0@\0\0\0\0\0\0\0\0\0\0\0\0\0\0\0\0\0\0\0\0\0\0\0\
+    \0\0\0\0\0\0\0\0\0\0\0\0\0\0\0\0\x88\0\0\0\0\0\0\0\0\0\0\0\0\0\0\0\0\0\0\0\0\0\0\0\x90\0\0\0\0\0\0\0\0\0\0\0\x9E\
+    \0\0\0\0\0\0\0\0\0\0\0\xA8\0\0\0\0\0\0\0\0\0\0\0\xB0\0\0\0a\0b\0a\0\0\0\xFF\xFF\x0A\0\0@A\0\x10\0b\0\0\0\xFF\xFF\
+    \x08\0\x01\0a\0\0\0a\0b\0a\0\0\0\xFF\xFF\x0A\0\0@B\0\x10\0b\0\0\0";
+
+/// What the six stores have.
 const CONTENTS: &[&[Element]] = &[
     &[Element::Char('a'), Element::Char('b'), Element::Char('a')],
     &[],
-    &[Element::Key { flags: 0, code: 65 }, Element::Char('b')],
+    &[
+        Element::Key {
+            flags: 0x4000,
+            code: 65,
+        },
+        Element::Char('b'),
+    ],
     &[Element::Mark(1), Element::Char('a')],
     &[Element::Char('a'), Element::Char('b'), Element::Char('a')],
-    &[Element::Key { flags: 0, code: 66 }, Element::Char('b')],
+    &[
+        Element::Key {
+            flags: 0x4000,
+            code: 66,
+        },
+        Element::Char('b'),
+    ],
 ];
 
 /// Items and the stores that have them, each with the first place there.
@@ -64,8 +74,8 @@ const HOLDERS: &[(Item, &'static [(u16, u16)])] = &[
     (Mark(2), &[]),
 ];
 
-/// The numbers of no elements and of each store's: of what is the same, the first place.
-const NUMBERS: &[usize] = &[0, 1, 0, 3, 4, 1, 6];
+/// Of each store the first that has the same elements, and of one that isn't there an empty one.
+const ALIKE: &[u32] = &[0, 1, 2, 3, 0, 5, 1];
 
 /// The index of a group's records, where there are not too many.
 fn index_of(alloc: Global, file: &FileTables<'_>, number: u32) -> Result<RuleIndex, Memory> {
@@ -88,27 +98,41 @@ fn answers(with_keys: &RuleIndex, without_keys: &RuleIndex, asked: &Asked) -> bo
     candidates.next().is_none()
 }
 
-/// Stores with these elements.
-fn stores_of(alloc: Global, contents: &[&[Element]]) -> Result<Vec<Seq<Element>>, Memory> {
-    let mut stores = Vec::new(alloc);
-    for elements in contents {
-        stores.push(Seq::from_slice(alloc, elements)?)?;
+/// A file with what is looked up, where there are not too many stores, elements and records.
+fn keyboard_of<'a>(alloc: Global, file: FileTables<'a>) -> Result<IndexedKeyboard<'a>, Memory> {
+    let has_few_stores = file.store_count() as usize <= STORES;
+    let has_few_elements = file
+        .stores()
+        .all(|store| store.elements().count() <= STORE_ELEMENTS);
+    let has_few_records = file
+        .groups()
+        .all(|group| group.rule_count() as usize <= RECORDS);
+    if has_few_stores && has_few_elements && has_few_records {
+        return IndexedKeyboard::new(alloc, file);
     }
-    Ok(stores)
+    Err(Memory)
 }
 
-/// Which of these stores have an item, where there are not too many of them, and none has too many elements.
-fn holdings_of(alloc: Global, contents: &[&[Element]]) -> Result<Holdings, Memory>
-    ensures { IfOk result (λ holdings. IsNonDecreasingBy holding_rank holdings) }
-{
-    let stores = stores_of(alloc, contents)?;
-    let are_few = stores
-        .iter()
-        .all(|elements| elements.len() <= STORE_ELEMENTS);
-    if stores.len() > STORES || !are_few {
-        return Err(Memory);
-    }
-    Holdings::of(alloc, stores.as_slice())
+/// Whether each store has its elements, and none behind them.
+fn has_contents(keyboard: &IndexedKeyboard<'_>) -> bool {
+    (0..7u32).all(|store| {
+        (0..4usize).all(|place| {
+            let wanted = CONTENTS
+                .get(store as usize)
+                .and_then(|elements| elements.get(place));
+            keyboard.element_at(store, place) == wanted.copied()
+        })
+    })
+}
+
+/// Whether of each two stores those have the same elements that should.
+fn are_alike(keyboard: &IndexedKeyboard<'_>) -> bool {
+    (0..7u32).all(|store| {
+        (0..7u32).all(|other| {
+            let wanted = ALIKE.get(store as usize) == ALIKE.get(other as usize);
+            keyboard.same_elements(store, other) == wanted
+        })
+    })
 }
 
 /// Whether rows are of these stores and places.
@@ -146,31 +170,31 @@ fn contexts_of_records(rt: HostRuntime) -> Result<(), Fail> {
 
 #[test]
 fn options_and_own_keys_of_a_file(rt: HostRuntime) -> Result<(), Fail> {
-    let numbers = option_numbers(rt.alloc(), &FileTables::of(FILE))?;
-    assert!(rt; numbers.as_slice() == [None, Some(0), Some(1)].as_slice());
-    let names = own_keys(rt.alloc(), &FileTables::of(FILE))?;
-    assert!(rt; names.name_at(256) == Some(b"K1".as_slice()));
-    assert!(rt; names.name_at(257) == Some(b"k2".as_slice()));
-    assert!(rt; names.name_at(258).is_none());
+    let keyboard = keyboard_of(rt.alloc(), FileTables::of(FILE))?;
+    assert!(rt; keyboard.numbers() == [None, Some(0), Some(1)].as_slice());
+    assert!(rt; keyboard.own_key(256) == Some(b"K1".as_slice()));
+    assert!(rt; keyboard.own_key(257) == Some(b"k2".as_slice()));
+    assert!(rt; keyboard.own_key(258).is_none());
     Ok(())
 }
 
 #[test]
 fn holders_of_items(rt: HostRuntime) -> Result<(), Fail> {
-    let holdings = holdings_of(rt.alloc(), CONTENTS)?;
+    let keyboard = keyboard_of(rt.alloc(), FileTables::of(STORES_FILE))?;
+    assert!(rt; has_contents(&keyboard));
     for (item, rows) in HOLDERS.iter() {
-        assert!(rt; are_rows(holdings.holders(*item), rows));
+        assert!(rt; are_rows(keyboard.holders(*item), rows));
     }
-    assert!(rt; holdings.place_of(0, Char('a')) == Some(0));
-    assert!(rt; holdings.place_of(3, Char('a')) == Some(1));
-    assert!(rt; holdings.place_of(2, Char('a')).is_none());
-    assert!(rt; holdings.place_of(6, Char('a')).is_none());
+    assert!(rt; keyboard.place_of(0, Char('a')) == Some(0));
+    assert!(rt; keyboard.place_of(3, Char('a')) == Some(1));
+    assert!(rt; keyboard.place_of(2, Char('a')).is_none());
+    assert!(rt; keyboard.place_of(6, Char('a')).is_none());
     Ok(())
 }
 
 #[test]
-fn numbers_of_stores(rt: HostRuntime) -> Result<(), Fail> {
-    let stores = stores_of(rt.alloc(), CONTENTS)?;
-    assert!(rt; store_numbers(rt.alloc(), stores.as_slice())?.as_slice() == NUMBERS);
+fn stores_that_are_alike(rt: HostRuntime) -> Result<(), Fail> {
+    let keyboard = keyboard_of(rt.alloc(), FileTables::of(STORES_FILE))?;
+    assert!(rt; are_alike(&keyboard));
     Ok(())
 }

@@ -1,6 +1,6 @@
 //! The cache after each call, and what is filled in and read again.
 
-use crate::Cache;
+use context_cache::Cache;
 use kmn_base::Item;
 use kmn_base::Item::{Char, Mark};
 use std::test::Fail;

@@ -1,9 +1,9 @@
 //! What errors print, gathered in a list, and look-ups.
 
-use crate::bytes::hex_digit;
-use crate::names::named_in;
-use crate::slices::{before, behind};
-use crate::{Code, CompileError, Refusal, Seq, Text};
+use kmn_base::bytes::hex_digit;
+use kmn_base::names::named_in;
+use kmn_base::slices::{before, behind};
+use kmn_base::{Code, CompileError, Refusal, Seq, Text};
 use std::test::Fail;
 
 /// The refusal of a line.

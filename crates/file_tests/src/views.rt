@@ -1,14 +1,8 @@
-use crate::{GroupRef, KmxView, RuleRef};
-use std::test::Fail;
+//! The parts of a file by place.
 
-/// The file of one rule, `+ 'a' > 'b'` in line 3, in a group `main` that uses keys.
-const ONE_RULE: [u8; 122] = [
-    0x4B, 0x58, 0x54, 0x53, 0x00, 0x0A, 0x00, 0x00, 0, 0, 0, 0, 0, 0, 0, 0, 0, 0, 0, 0, 0, 0, 0, 0,
-    0, 0, 0, 0, 1, 0, 0, 0, 0, 0, 0, 0, 0x40, 0, 0, 0, 0xFF, 0xFF, 0xFF, 0xFF, 0, 0, 0, 0, 0, 0, 0,
-    0, 0, 0, 0, 0, 0, 0, 0, 0, 0, 0, 0, 0, 0x6C, 0, 0, 0, 0x58, 0, 0, 0, 0, 0, 0, 0, 0, 0, 0, 0, 1,
-    0, 0, 0, 1, 0, 0, 0, 0x61, 0, 0, 0, 3, 0, 0, 0, 0, 0, 0, 0, 0x76, 0, 0, 0, 0, 0, 0, 0, 0x6D, 0,
-    0x61, 0, 0x69, 0, 0x6E, 0, 0, 0, 0x62, 0, 0, 0,
-];
+use crate::fixtures::ONE_RULE;
+use kmx_view::{GroupRef, KmxView, RuleRef};
+use std::test::Fail;
 
 const GROUP: GroupRef = GroupRef {
     name: 108,
