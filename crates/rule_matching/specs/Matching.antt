@@ -1,7 +1,7 @@
 -- What a pattern catches of an item of a list, which is told by how many items stand behind it, and by what is kept of it; when
 -- what is known of the items' places and of their stores is right. What a context catches where each of its conditions and each
 -- `nul` stands.
-use Rattle.std.specs.Prelude.{◌≡◌, ℕ, zero, suc, ltb, ◌+◌, ◌-◌, ◌<◌, Bool, true, not, ◌&&◌, ◌||◌, if◌then◌else◌, List, length, map, Option, Some, None, slice_get, is_some, option_and_then}
+use Rattle.std.specs.Prelude.{◌≡◌, ℕ, zero, suc, ltb, ◌+◌, ◌-◌, ◌<◌, Bool, true, false, not, ◌&&◌, ◌||◌, if◌then◌else◌, List, length, map, Option, Some, None, slice_get, is_some, option_and_then}
 use Rattle.std.specs.List.{list_all}
 use Rattle.kmn_base.specs.declared.items.Item.{Item}
 use Rattle.rule_model.specs.declared.event_state.Catch.{Catch}
@@ -13,6 +13,7 @@ use Rattle.rule_model.specs.Match.{Content, catches_from, matches, place_for, pl
 use Rattle.rule_model.specs.Hold.{is_true, is_at_start}
 use Rattle.rule_model.specs.Tab.{elements_of, tab_pattern}
 use Rattle.file_parts.specs.declared.context_item.ContextItem.{ContextItem}
+use Rattle.file_parts.specs.declared.context_item.ContextItem.TheVariants as item
 use Rattle.file_parts.specs.ContextItems.{pattern_of}
 use Rattle.rule_matching.specs.declared.place_memory.PlaceMemory.{PlaceMemory}
 use Rattle.rule_matching.specs.declared.taken.Taken.{Taken}
@@ -45,6 +46,13 @@ pub record RemembersRight (moment : MomentValue) (left : List Item) (memory : Pl
 -- what an item of a context in the numbers of a file means
 abbrev pub item_meaning : List Store → ContextItem → Pattern
 item_meaning stores item = tab_pattern stores (pattern_of item)
+
+-- whether an item of a context looks at an item of the text and at a store
+abbrev pub looks_at_store : ContextItem → Bool
+looks_at_store (item.Any store) = true
+looks_at_store (item.NotAny store) = true
+looks_at_store (item.Index store offset) = true
+looks_at_store other = false
 
 -- what was taken at an offset, which counts from 1
 abbrev pub taken_at : List Taken → ℕ → Option Taken

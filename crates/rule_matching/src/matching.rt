@@ -1,4 +1,4 @@
-ghost use Rattle.std.specs.Prelude.{◌≡◌, ◌≤◌, ◌<◌, ◌-◌, [], Some, None, drop, length, map, nat_eq, option_and_then, option_map, slice_get, true, if◌then◌else◌};
+ghost use Rattle.std.specs.Prelude.{◌≡◌, ◌≤◌, ◌<◌, ◌-◌, [], Some, None, drop, false, length, map, nat_eq, option_and_then, option_map, slice_get, true, if◌then◌else◌};
 ghost use Rattle.kmn_base.specs.declared.limits.TheConstants.{CONTEXT_ITEMS};
 ghost use Rattle.rule_model.specs.Match.{takes_item};
 ghost use Rattle.rule_model.specs.Hold.{holds};
@@ -7,7 +7,7 @@ ghost use Rattle.rule_model.specs.Tab.{tab_pattern, tab_rule};
 ghost use Rattle.file_parts.specs.ContextItems.{pattern_of};
 ghost use Rattle.rule_index.specs.Groups.{IsRuleIndexOf};
 ghost use Rattle.rule_matching.specs.Choices.{all_caught, caught_in, content_of, meaning_in, record_in, RemembersFor};
-ghost use Rattle.rule_matching.specs.Matching.{allowed_catches, catch_of, is_allowed, item_before, item_meaning};
+ghost use Rattle.rule_matching.specs.Matching.{allowed_catches, catch_of, is_allowed, item_before, item_meaning, looks_at_store};
 ghost use Rattle.rule_matching.specs.Moment.{content_at, held_record, AreShort};
 
 use crate::caught::Caught;
@@ -31,6 +31,32 @@ fn storeless(fits: bool, distance: usize) -> Option<Taken>
         distance,
         store: None,
     })
+}
+
+/// What a pattern that looks at no store takes of the item that so many items stand behind, behind what was taken so far. It stays
+/// a call: with it in place, all patterns would be told apart by a jump through a table, which costs some processors as much as
+/// the rest of an item.
+#[inline(never)]
+fn taken_storeless(
+    choice: &Choice<'_>,
+    distance: usize,
+    taken: &[Taken],
+    item: ContextItem,
+) -> Option<Taken>
+    requires within { distance < length choice.now.left.now }
+    requires takes { takes_item (tab_pattern [] (pattern_of item)) ≡ true }
+    requires storeless { looks_at_store item ≡ false }
+    ensures { option_map (caught_in choice.now) result ≡ option_and_then
+        (catch_of (content_of choice.now) (map (caught_in choice.now) taken.now) (meaning_in choice.now item)) (item_before choice.now.left.now distance) }
+{
+    let next = item_before(choice.left, distance);
+    let fits = match item {
+        ContextItem::Char(c) => is_item(next, Element::Char(c)),
+        ContextItem::Mark(m) => is_item(next, Element::Mark(m)),
+        ContextItem::ContextAt(offset) => is_same(next, item_taken(choice.left, taken, offset)),
+        _ => unreachable!(),
+    };
+    storeless(fits, distance)
 }
 
 /// What a pattern that looks at an item takes of the one that so many items stand behind, behind what was taken so far.
@@ -62,14 +88,6 @@ fn taken_by(
             let is_there = is_in_store(choice, distance, u32::from(store), places);
             storeless(!is_there, distance)
         }
-        ContextItem::Char(c) => {
-            let next = item_before(choice.left, distance);
-            storeless(is_item(next, Element::Char(c)), distance)
-        }
-        ContextItem::Mark(m) => {
-            let next = item_before(choice.left, distance);
-            storeless(is_item(next, Element::Mark(m)), distance)
-        }
         ContextItem::Index(store, offset) => {
             let place = place_taken(choice, taken, offset, places);
             let wanted = choice.moment.element_at(u32::from(store), place);
@@ -78,14 +96,7 @@ fn taken_by(
                 distance,
             )
         }
-        ContextItem::ContextAt(offset) => {
-            let wanted = item_taken(choice.left, taken, offset);
-            storeless(
-                is_same(item_before(choice.left, distance), wanted),
-                distance,
-            )
-        }
-        ContextItem::Equal(..) | ContextItem::Unequal(..) | ContextItem::Nul => unreachable!(),
+        _ => taken_storeless(choice, distance, taken, item),
     }
 }
 
