@@ -122,10 +122,10 @@ impl<'a> Session<'a> {
     pub fn copy(&self, alloc: Global) -> Result<Session<'a>, Memory>
         ensures { IfOk result (λ session. session ≡ self.now) }
     {
-        let engine = self.engine.copy(alloc)?;
-        let editor = self.editor.copy(alloc)?;
         let mut changes = Vec::with_capacity(alloc, self.changes.capacity())?;
         changes.extend_from_slice(self.changes.as_slice())?;
+        let editor = self.editor.copy(alloc)?;
+        let engine = self.engine.copy(alloc)?;
         Ok(Session {
             engine,
             editor,

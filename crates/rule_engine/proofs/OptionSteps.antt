@@ -71,11 +71,11 @@ module _ (tables : Tables) (lent : List ℕ) (cells after : List Cell) (n : ℕ)
       ∙ (ap (λ (t : EventState). record { tables = tables; lent = lent; state = t }) (reset_follows tables cells n s few) ∙ ap reset_in is)
 
 -- nothing is set, saved or reset of a store that is no option
-pub nothing_set : (number : Option ℕ) (value : List Element) (s : EventState) → number ≡ None → s ≡ set_current number value s
-nothing_set number value s none = sym (ap (λ (o : Option ℕ). set_current o value s) none)
+pub nothing_set : (option : Option ℕ) (value : List Element) (s : EventState) → option ≡ None → s ≡ set_current option value s
+nothing_set option value s none = sym (ap (λ (o : Option ℕ). set_current o value s) none)
 
-pub nothing_saved : (number : Option ℕ) (s : EventState) → number ≡ None → s ≡ save_current number s
-nothing_saved number s none = sym (ap (λ (o : Option ℕ). save_current o s) none)
+pub nothing_saved : (option : Option ℕ) (s : EventState) → option ≡ None → s ≡ save_current option s
+nothing_saved option s none = sym (ap (λ (o : Option ℕ). save_current o s) none)
 
-pub nothing_reset : (number : Option ℕ) (value : List Element) (s : EventState) → number ≡ None → s ≡ reset_current number value s
-nothing_reset number value s none = sym (ap (λ (o : Option ℕ). reset_current o value s) none)
+pub nothing_reset : (option : Option ℕ) (value : List Element) (s : EventState) → option ≡ None → s ≡ reset_current option value s
+nothing_reset option value s none = sym (ap (λ (o : Option ℕ). reset_current o value s) none)

@@ -66,8 +66,8 @@ impl<'a> Engine<'a> {
     {
         let options = Options::new(alloc, file.store_count())?;
         let places = PlaceMemory::new(alloc, file.store_count() as usize)?;
-        let indexed = IndexedKeyboard::new(alloc, file)?;
         let inserted = Inserted::with_room(alloc)?;
+        let indexed = IndexedKeyboard::new(alloc, file)?;
         Ok(Engine {
             indexed,
             cache: Cache::new(),
@@ -81,10 +81,10 @@ impl<'a> Engine<'a> {
     pub fn copy(&self, alloc: Global) -> Result<Engine<'a>, Memory>
         ensures { IfOk result (λ engine. engine ≡ self.now) }
     {
-        let indexed = IndexedKeyboard::new(alloc, self.indexed.file())?;
         let options = self.options.copy(alloc)?;
         let inserted = self.inserted.copy(alloc)?;
         let places = PlaceMemory::new(alloc, self.indexed.file().store_count() as usize)?;
+        let indexed = IndexedKeyboard::new(alloc, self.indexed.file())?;
         Ok(Engine {
             indexed,
             cache: self.cache.copy(),

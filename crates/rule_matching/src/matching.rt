@@ -34,8 +34,8 @@ fn storeless(fits: bool, distance: usize) -> Option<Taken>
 }
 
 /// What a pattern that looks at no store takes of the item that so many items stand behind, behind what was taken so far. It stays
-/// a call: with it in place, all patterns would be told apart by a jump through a table, which costs some processors as much as
-/// the rest of an item.
+/// a call, and `any` and `notany` are one arm: with more arms in place a pattern is told by a jump through a table, which costs
+/// some processors as much as the rest of an item.
 #[inline(never)]
 fn taken_storeless(
     choice: &Choice<'_>,
@@ -77,16 +77,17 @@ fn taken_by(
     ensures right { RemembersFor choice.now places.new }
 {
     match item {
-        ContextItem::Any(store) => {
+        ContextItem::Any(store) | ContextItem::NotAny(store) => {
             let store = u32::from(store);
-            is_in_store(choice, distance, store, places).then_some(Taken {
-                distance,
-                store: Some(store),
-            })
-        }
-        ContextItem::NotAny(store) => {
-            let is_there = is_in_store(choice, distance, u32::from(store), places);
-            storeless(!is_there, distance)
+            let is_there = is_in_store(choice, distance, store, places);
+            if matches!(&item, ContextItem::Any(_)) {
+                is_there.then_some(Taken {
+                    distance,
+                    store: Some(store),
+                })
+            } else {
+                storeless(!is_there, distance)
+            }
         }
         ContextItem::Index(store, offset) => {
             let place = place_taken(choice, taken, offset, places);
