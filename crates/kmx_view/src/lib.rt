@@ -13,4 +13,3 @@ pub use numbers::{half_at, word_at};
 pub use parts::{GroupRef, RuleRef, StoreRef};
 pub use strings::{ended_string, string_bytes};
 pub use view::KmxView;
-
