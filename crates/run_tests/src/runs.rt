@@ -122,25 +122,6 @@ fn source_of(alloc: Global, text: &str) -> Result<String, Fail> {
     written_out(alloc, text)
 }
 
-/// The name and the bytes of a file.
-type FileRow<'a> = (&'a [u8], &'a [u8]);
-
-/// Files by name and bytes.
-fn files_of(alloc: Global, rows: &[FileRow<'_>]) -> Result<Vec<(Text, Seq<u8>)>, Fail> {
-    let mut files = Vec::new(alloc);
-    for &(name, bytes) in rows {
-        files.push((seq(alloc, name)?, seq(alloc, bytes)?))?;
-    }
-    Ok(files)
-}
-
-/// A folder with these files. The call of this number fails, and none for 0.
-fn folder_with(alloc: Global, rows: &[FileRow<'_>], failing: u32) -> Result<MemoryFolder, Fail> {
-    let files = files_of(alloc, rows)?;
-    let fails = Vec::from_slice(alloc, &[failing])?;
-    Ok(MemoryFolder::new(alloc, Seq::from_vec(files), Seq::from_vec(fails)))
-}
-
 /// A folder with a compiled file `a.kmx`, a script `a.keys`, and the source as `a.kmn` beside a picture of four bytes, and as
 /// `d/a.kmn` beside one of eight. The call of this number fails, and none for 0.
 fn folder(
@@ -152,16 +133,19 @@ fn folder(
 ) -> Result<MemoryFolder, Fail> {
     let source = source_of(alloc, source)?;
     let script = written_out(alloc, script)?;
-    let files: &[FileRow<'_>] = &[
-        (b"a.kmn", source.as_bytes()),
-        (b"a.kmx", file),
-        (b"a.keys", script.as_bytes()),
-        (b"p.ico", &[0, 1, 2, 3]),
-        (b"d/a.kmn", source.as_bytes()),
-        (b"d/p.ico", &[0, 1, 2, 3, 4, 5, 6, 7]),
-        (b"sample.ico", &[0, 1, 2, 3]),
-    ];
-    folder_with(alloc, files, failing)
+    let mut files = Vec::new(alloc);
+    files.push((seq(alloc, b"a.kmn")?, seq(alloc, source.as_bytes())?))?;
+    files.push((seq(alloc, b"a.kmx")?, seq(alloc, file)?))?;
+    files.push((seq(alloc, b"a.keys")?, seq(alloc, script.as_bytes())?))?;
+    files.push((seq(alloc, b"p.ico")?, seq(alloc, &[0, 1, 2, 3])?))?;
+    files.push((seq(alloc, b"d/a.kmn")?, seq(alloc, source.as_bytes())?))?;
+    files.push((
+        seq(alloc, b"d/p.ico")?,
+        seq(alloc, &[0, 1, 2, 3, 4, 5, 6, 7])?,
+    ))?;
+    files.push((seq(alloc, b"sample.ico")?, seq(alloc, &[0, 1, 2, 3])?))?;
+    let fails = Vec::from_slice(alloc, &[failing])?;
+    Ok(MemoryFolder::new(alloc, Seq::from_vec(files), Seq::from_vec(fails)))
 }
 
 /// The file that a source is compiled to.
@@ -326,12 +310,14 @@ fn long_texts(rt: HostRuntime) -> Result<(), Fail> {
 /// Whether a picture that passes its limit by one byte is refused, and nothing written.
 fn is_long_picture_refused(alloc: Global) -> Result<bool, Fail> {
     let source = written_out(alloc, "store(&bitmap) 'p.ico'~@+ 'a' > 'b'~")?;
-    let picture = vec![in alloc; 0u8; 1_048_577]?;
-    let files: &[FileRow<'_>] = &[
-        (b"a.kmn", source.as_bytes()),
-        (b"p.ico", picture.as_slice()),
-    ];
-    let mut folder = folder_with(alloc, files, 0)?;
+    let mut picture = Vec::new(alloc);
+    for _ in 0..1_048_577 {
+        picture.push(0)?;
+    }
+    let mut files = Vec::new(alloc);
+    files.push((seq(alloc, b"a.kmn")?, seq(alloc, source.as_bytes())?))?;
+    files.push((seq(alloc, b"p.ico")?, Seq::from_vec(picture)))?;
+    let mut folder = MemoryFolder::new(alloc, Seq::from_vec(files), Seq::new(alloc));
     let mut sink = MemorySink::new(alloc, Seq::new(alloc));
     let status = ended(alloc, "compile a.kmn out", &mut folder, &mut sink)?;
     Ok(
