@@ -1,5 +1,5 @@
 -- One step of a scan: the token that the bytes begin with, and what is left behind it.
-use Rattle.std.proofs.Common.{◌≡◌, ℕ, zero, suc, ◌+◌, ◌-◌, ◌<◌, ◌≤◌, Bool, true, false, ◌||◌, not, if◌then◌else◌, List, [], ◌∷◌, ◌++◌, length, take, drop, get_or, Option, None, Some, is_some, Ok, refl, sym, ◌∙◌, ap, subst, arith, append_assoc, add-one, drop-cons}
+use Rattle.std.proofs.Common.{◌≡◌, ℕ, zero, suc, ◌+◌, ◌-◌, ◌<◌, ◌≤◌, Bool, true, false, ◌||◌, not, if◌then◌else◌, List, [], ◌∷◌, ◌++◌, length, take, drop, get_or, Option, None, is_some, Ok, refl, sym, ◌∙◌, ap, subst, arith, append_assoc, add-one, drop-cons}
 use Rattle.std.proofs.lemmas.Bool.{cond-false, or_left}
 use Rattle.kmn_base.specs.declared.codes.Code.{Code}
 use Rattle.kmn_base.specs.Bytes.{is_blank, is_quote}
@@ -74,13 +74,6 @@ step_on old new line at (byte ∷ bytes) text size token long blank e within som
       ap (λ (ts : List Token). ts ++ rest) h ∙ append_assoc old (token ∷ []) rest ∙ ap (λ (ts : List Token). old ++ ts) tokens,
       sym (first_fault_step byte bytes size blank e some ∙ ap (λ (f : Option Code). or_else f (first_fault 0 (drop size (byte ∷ bytes)))) fine),
     )
-
--- the fault of the token that the bytes begin with
-pub stops_at : (bytes text : List ℕ) (size : ℕ) (code : Code) → 0 < length bytes → is_blank (get_or bytes 0 0) ≡ false → size ≡ token_size bytes → 0 < size → text ≡ take size bytes → token_fault text ≡ Some code → first_fault 0 bytes ≡ Some code
-stops_at [] text size code long blank e some f fault = absurd (omega arith)
-stops_at (byte ∷ bytes) text size code long blank e some f fault =
-    let here : token_fault (take size (byte ∷ bytes)) ≡ Some code = ap token_fault (sym f) ∙ fault in
-    first_fault_step byte bytes size blank e some ∙ ap (λ (f : Option Code). or_else f (first_fault 0 (drop size (byte ∷ bytes)))) here
 
 pub first_is : (text : List ℕ) → 0 < length text → get_or text 0 0 ≡ first_or_end text
 first_is [] h = absurd (omega arith)

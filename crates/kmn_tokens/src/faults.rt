@@ -74,10 +74,7 @@ fn kind(text: &[u8]) -> Result<TokenKind, Code>
     if !starts_number(text) {
         return Ok(plain_kind(text));
     }
-    match number(behind(text, 2)) {
-        Ok(c) => Ok(TokenKind::Number(c)),
-        Err(code) => Err(code),
-    }
+    Ok(TokenKind::Number(number(behind(text, 2))?))
 }
 
 /// The token with a text at a place of a physical line.
@@ -85,13 +82,10 @@ pub(crate) fn token_at(line: u32, at: usize, text: &[u8]) -> Result<Token, Code>
     requires { at + length text.now < 2 ^ 32 }
     ensures { Gives (token_fault text.now) (token_at line at text.now) result }
 {
-    match kind(text) {
-        Ok(kind) => Ok(Token {
-            kind,
-            line,
-            from: at as u32,
-            to: (at + text.len()) as u32,
-        }),
-        Err(code) => Err(code),
-    }
+    Ok(Token {
+        kind: kind(text)?,
+        line,
+        from: at as u32,
+        to: (at + text.len()) as u32,
+    })
 }

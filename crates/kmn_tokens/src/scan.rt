@@ -24,13 +24,9 @@ fn add_next(out: &mut Seq<Token>, line: u32, at: usize, bytes: &[u8]) -> Result<
         return Ok(1);
     }
     let size = token_size(bytes);
-    match token_at(line, at, before(bytes, size)) {
-        Ok(token) => match out.add(token) {
-            Ok(()) => Ok(size),
-            Err(_) => Err(TokenError::NoMemory),
-        },
-        Err(code) => Err(TokenError::Fault(code)),
-    }
+    let token = token_at(line, at, before(bytes, size))?;
+    out.add(token)?;
+    Ok(size)
 }
 
 /// Appends the tokens of the bytes from a place on.
