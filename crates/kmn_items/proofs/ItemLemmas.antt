@@ -1,6 +1,7 @@
 -- Items that are read one after the other.
-use Rattle.std.proofs.Common.{◌≡◌, ℕ, zero, suc, ◌+◌, ◌<◌, List, [], ◌∷◌, ◌++◌, length, drop, refl, sym, ap, ◌∙◌, append_assoc, arith}
+use Rattle.std.proofs.Common.{◌≡◌, ℕ, zero, suc, ◌+◌, ◌<◌, List, [], ◌∷◌, ◌++◌, length, drop, refl, sym, ap, subst, ◌∙◌, append_assoc, arith}
 use Rattle.std.specs.Prelude.{Result, Ok, Err}
+use Rattle.std.specs.Result.{IsErrAnd}
 use Rattle.rule_model.specs.declared.program.SrcItem.{SrcItem}
 use Rattle.kmn_items.specs.declared.syntax.Fault.{Fault}
 use Rattle.kmn_items.specs.declared.syntax.Trouble.{Trouble}
@@ -49,6 +50,12 @@ items_stop place seen last at items [] trouble some read = absurd (omega (arith,
 items_stop place seen last at items (token ∷ tokens) NoMemory some read = tt
 items_stop place seen last at items (token ∷ tokens) (Broken fault) some read =
     ap (λ r. prepend items (then_items r (λ (k : Taken). read_items place k.seen last k.more (at + 1) tokens))) read
+
+-- what is answered for a trouble is what the trouble says
+pub passed_on : {A : Type 0} (read : Result A Fault) (trouble : Trouble) (answer : Result A Trouble)
+    → IsErrAnd answer (λ given. given ≡ trouble) → Reads read (Err trouble) → Reads read answer
+passed_on read trouble (Ok value) is says = absurd is
+passed_on read trouble (Err given) is says = subst (λ (t : Trouble). Reads read (Err t)) (sym is) says
 
 -- the item put last
 pub last_item_push : (none : Fault) (items : List SrcItem) (item : SrcItem) → last_item none (items ++ item ∷ []) ≡ Ok item

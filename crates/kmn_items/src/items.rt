@@ -60,15 +60,11 @@ pub fn read_items(
             last,
             at: next,
         };
-        match read_item(alloc, spot, rest) {
-            Ok(taken) => {
-                items = joined(items, taken.items)?;
-                seen = taken.seen;
-                next += 1 + taken.more;
-                rest = rest.behind(1 + taken.more);
-            }
-            Err(trouble) => return Err(trouble),
-        }
+        let taken = read_item(alloc, spot, rest)?;
+        items = joined(items, taken.items)?;
+        seen = taken.seen;
+        next += 1 + taken.more;
+        rest = rest.behind(1 + taken.more);
     }
     Ok(items)
 }
@@ -84,12 +80,7 @@ pub fn read_key(
     requires { at + length (texts tokens) < 2 ^ 60 }
     ensures { Reads (read_key last at (texts tokens.entry)) result }
 {
-    let mut items = match read_items(alloc, Where::Key, last, at, tokens) {
-        Ok(items) => items,
-        Err(trouble) => return Err(trouble),
-    };
-    match items.pop() {
-        Some(item) => Ok(item),
-        None => Err(refused((at + tokens.len()).min(last), Code::S05)),
-    }
+    let mut items = read_items(alloc, Where::Key, last, at, tokens)?;
+    let end = (at + tokens.len()).min(last);
+    items.pop().ok_or(refused(end, Code::S05))
 }
