@@ -64,10 +64,8 @@ fn read_text(alloc: Global, source: &str) -> Result<Program, CompileError>
         refused: None,
     };
     for logical in lines(source) {
-        match tokens(alloc, source, logical) {
-            Ok(tokens) => read_on(alloc, source, &mut reading, logical, tokens.as_slice())?,
-            Err(error) => return Err(error),
-        }
+        let tokens = tokens(alloc, source, logical)?;
+        read_on(alloc, source, &mut reading, logical, tokens.as_slice())?;
     }
     match reading.refused {
         Some(refusal) => Err(CompileError::Refused(refusal)),

@@ -106,16 +106,13 @@ pub(crate) fn read_match(
     if let Some(fault) = match_fault(group, arrow, tokens) {
         return Err(Trouble::Broken(fault));
     }
-    match read_items(alloc, Where::Output, last, 2, tokens.behind(2)) {
-        Ok(output) => Ok(Statement::Rule(RuleDef {
-            line: number,
-            kind,
-            context: Seq::new(alloc),
-            key: None,
-            output,
-        })),
-        Err(trouble) => Err(trouble),
-    }
+    Ok(Statement::Rule(RuleDef {
+        line: number,
+        kind,
+        context: Seq::new(alloc),
+        key: None,
+        output: read_items(alloc, Where::Output, last, 2, tokens.behind(2))?,
+    }))
 }
 
 /// Whether tokens begin as a rule can that has no `>`.
@@ -180,10 +177,7 @@ fn rule_key(alloc: Global, line: Line<'_>, signs: Signs) -> Result<Option<SrcIte
         }));
     }
     let key = line.tokens.before(signs.arrow).behind(signs.plus + 1);
-    match read_key(alloc, line.last, signs.plus + 1, key) {
-        Ok(item) => Ok(Some(item)),
-        Err(trouble) => Err(trouble),
-    }
+    Ok(Some(read_key(alloc, line.last, signs.plus + 1, key)?))
 }
 
 /// Reads the items of a rule, section by section.
@@ -199,26 +193,14 @@ fn rule_body(alloc: Global, line: Line<'_>, signs: Signs) -> Result<RuleDef, Tro
         tokens,
         ..
     } = line;
-    let before = tokens.before(signs.plus);
-    let context = match read_items(alloc, Where::Context, last, 0, before) {
-        Ok(context) => context,
-        Err(trouble) => return Err(trouble),
-    };
-    let key = match rule_key(alloc, line, signs) {
-        Ok(key) => key,
-        Err(trouble) => return Err(trouble),
-    };
     let place = signs.arrow + 1;
-    match read_items(alloc, Where::Output, last, place, tokens.behind(place)) {
-        Ok(output) => Ok(RuleDef {
-            line: number,
-            kind: RuleKind::Plain,
-            context,
-            key,
-            output,
-        }),
-        Err(trouble) => Err(trouble),
-    }
+    Ok(RuleDef {
+        line: number,
+        kind: RuleKind::Plain,
+        context: read_items(alloc, Where::Context, last, 0, tokens.before(signs.plus))?,
+        key: rule_key(alloc, line, signs)?,
+        output: read_items(alloc, Where::Output, last, place, tokens.behind(place))?,
+    })
 }
 
 /// The place of a code in the order of the codes of a source's form.

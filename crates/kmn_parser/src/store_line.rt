@@ -131,8 +131,6 @@ pub(crate) fn read_store(alloc: Global, line: Line<'_>) -> Result<Statement, Tro
     if let Some(fault) = store_fault(last, tokens) {
         return Err(Trouble::Broken(fault));
     }
-    match read_items(alloc, Where::Store, last, 4, tokens.behind(4)) {
-        Ok(items) => Ok(Statement::Store(store_def(alloc, number, tokens.text(2), items)?)),
-        Err(trouble) => Err(trouble),
-    }
+    let items = read_items(alloc, Where::Store, last, 4, tokens.behind(4))?;
+    Ok(Statement::Store(store_def(alloc, number, tokens.text(2), items)?))
 }
