@@ -33,10 +33,9 @@ fn add_target(targets: &mut Vec<Target>, item: UnitItem) -> Result<(), VerifyErr
     if targets.len() == OFFSET_REACH {
         return Ok(());
     }
-    match targets.push(target_of(item)) {
-        Ok(()) => Ok(()),
-        Err(_) => Err(VerifyError::Memory),
-    }
+    targets
+        .push(target_of(item))
+        .map_err(|_| VerifyError::Memory)
 }
 
 /// An item of a context at a place, where `targets` has the items before it so far as offsets reach.
@@ -49,10 +48,7 @@ fn check_context_item(
     ensures { (before : List Target) → targets.now ≡ reached before → TellsOf (item_fault bytes.now Context before item at) (Unit {0}) result }
 {
     offset_is_unit(item);
-    match check_item(bytes, StringKind::Context, targets, item, at) {
-        Ok(()) => Ok(()),
-        Err(fault) => Err(VerifyError::Refused(fault)),
-    }
+    Ok(check_item(bytes, StringKind::Context, targets, item, at)?)
 }
 
 /// The items of a context whose first unit stands at a place; `targets` becomes what offsets can point at in it.
@@ -70,15 +66,9 @@ pub(crate) fn walk_context(
     for read in items_of(string) {
         match read {
             Ok(item) => {
-                match check_context_item(bytes, targets, item, place) {
-                    Ok(()) => {}
-                    Err(error) => return Err(error),
-                }
+                check_context_item(bytes, targets, item, place)?;
                 place += spelled_size(item);
-                match add_target(targets, item) {
-                    Ok(()) => {}
-                    Err(error) => return Err(error),
-                }
+                add_target(targets, item)?;
             }
             Err(bad) => {
                 let fault = spelling_fault(place, bad.kind, bad.code);
@@ -110,10 +100,7 @@ fn check_context(bytes: &[u8], place: usize, targets: &mut Vec<Target>) -> Resul
     requires place { place < FILE_BYTES }
     ensures { TellsOf (context_string_fault bytes.now place) (targets.new.items ≡ context_targets bytes.now (word_at bytes.now place)) result }
 {
-    match read_context(bytes, place, targets) {
-        Ok(()) => {}
-        Err(error) => return Err(error),
-    }
+    read_context(bytes, place, targets)?;
     if targets.len() > CONTEXT_ITEMS {
         return Err(VerifyError::Refused(Fault::of(Code::V15, place as u32)));
     }
@@ -147,18 +134,9 @@ pub(crate) fn check_record(
     requires place { place + 20 ≤ FILE_BYTES }
     ensures { TellsOf (record_fault bytes.now using_keys place) (Unit {0}) result }
 {
-    match check_flags(bytes, using_keys, place + 8) {
-        Ok(()) => {}
-        Err(fault) => return Err(VerifyError::Refused(fault)),
-    }
-    match check_context(bytes, place + 16, targets) {
-        Ok(()) => {}
-        Err(error) => return Err(error),
-    }
-    match check_output(bytes, StringKind::Output, targets, place + 12) {
-        Ok(()) => Ok(()),
-        Err(fault) => Err(VerifyError::Refused(fault)),
-    }
+    check_flags(bytes, using_keys, place + 8)?;
+    check_context(bytes, place + 16, targets)?;
+    Ok(check_output(bytes, StringKind::Output, targets, place + 12)?)
 }
 
 /// The records of a group.
@@ -174,10 +152,7 @@ pub(crate) fn check_records(
     ensures { TellsOf (records_fault bytes.now using_keys place count) (Unit {0}) result }
 {
     for i in 0..count as usize {
-        match check_record(bytes, using_keys, place as usize + RULE_BYTES * i, targets) {
-            Ok(()) => {}
-            Err(error) => return Err(error),
-        }
+        check_record(bytes, using_keys, place as usize + RULE_BYTES * i, targets)?;
     }
     Ok(())
 }

@@ -34,6 +34,17 @@ pub enum VerifyError {
     Memory,
 }
 
+impl From<Fault> for VerifyError {
+    ghost use Rattle.std.specs.Prelude.{◌≡◌};
+    ghost use Rattle.kmx_verifier.specs.declared.faults.VerifyError.TheVariants as error;
+
+    ghost from_gives = { λ fault given. given ≡ error.Refused fault };
+
+    fn from(fault: Fault) -> VerifyError {
+        VerifyError::Refused(fault)
+    }
+}
+
 /// The strings of a file whose items are looked at.
 #[derive(Clone, Copy, Debug, PartialEq, Eq)]
 pub enum StringKind {

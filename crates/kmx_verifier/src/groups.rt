@@ -58,25 +58,17 @@ fn check_group(
         (λ count. (group_fault bytes.now before place ≡ None) × (count ≡ before + word_at bytes.now (place + 16)) × (count ≤ RECORDS))
         (λ error. IsRefusal error (λ fault. group_fault bytes.now before place ≡ Some fault)) }
 {
-    let count = match check_records_place(bytes, before, place) {
-        Ok(count) => count,
-        Err(fault) => return Err(VerifyError::Refused(fault)),
-    };
-    match check_group_strings(bytes, place) {
-        Ok(()) => {}
-        Err(fault) => return Err(VerifyError::Refused(fault)),
-    }
+    let count = check_records_place(bytes, before, place)?;
+    check_group_strings(bytes, place)?;
     let using_keys = word_at(bytes, place + 20) != 0;
-    match check_records(
+    check_records(
         bytes,
         using_keys,
         word_at(bytes, place + 4),
         word_at(bytes, place + 16),
         targets,
-    ) {
-        Ok(()) => Ok(count),
-        Err(error) => Err(error),
-    }
+    )?;
+    Ok(count)
 }
 
 /// The groups.
@@ -92,10 +84,7 @@ pub(crate) fn check_groups(
 {
     let mut records = 0;
     for i in 0..count as usize {
-        match check_group(bytes, records, place as usize + GROUP_BYTES * i, targets) {
-            Ok(so_far) => records = so_far,
-            Err(error) => return Err(error),
-        }
+        records = check_group(bytes, records, place as usize + GROUP_BYTES * i, targets)?;
     }
     Ok(())
 }

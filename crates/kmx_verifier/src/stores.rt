@@ -32,10 +32,7 @@ pub(crate) fn check_stores(bytes: &[u8], place: u32, count: u32) -> Result<(), F
 {
     let mut elements = 0;
     for i in 0..count as usize {
-        match check_store(bytes, elements, place as usize + STORE_BYTES * i) {
-            Ok(count) => elements = count,
-            Err(fault) => return Err(fault),
-        }
+        elements = check_store(bytes, elements, place as usize + STORE_BYTES * i)?;
     }
     Ok(())
 }

@@ -114,8 +114,6 @@ pub fn verify<'a>(alloc: Global, bytes: &'a [u8]) -> Result<Verified<'a>, Verify
         (λ file. (fault_of bytes.now ≡ None) × (file ≡ bytes.now))
         (λ error. IsRefusal error (λ fault. fault_of bytes.now ≡ Some fault)) }
 {
-    match check_file(alloc, bytes) {
-        Ok(()) => Ok(Verified { bytes }),
-        Err(error) => Err(error),
-    }
+    check_file(alloc, bytes)?;
+    Ok(Verified { bytes })
 }

@@ -16,22 +16,10 @@ use std::alloc::Global;
 pub(crate) fn check_file(alloc: Global, bytes: &[u8]) -> Result<(), VerifyError>
     ensures { TellsOf (fault_of bytes.now) (length bytes.now ≤ FILE_BYTES) result }
 {
-    match check_size(bytes) {
-        Ok(()) => {}
-        Err(fault) => return Err(VerifyError::Refused(fault)),
-    }
-    match check_header(bytes) {
-        Ok(()) => {}
-        Err(fault) => return Err(VerifyError::Refused(fault)),
-    }
-    match check_arrays(bytes) {
-        Ok(()) => {}
-        Err(fault) => return Err(VerifyError::Refused(fault)),
-    }
-    match check_stores(bytes, word_at(bytes, 32), word_at(bytes, 24)) {
-        Ok(()) => {}
-        Err(fault) => return Err(VerifyError::Refused(fault)),
-    }
+    check_size(bytes)?;
+    check_header(bytes)?;
+    check_arrays(bytes)?;
+    check_stores(bytes, word_at(bytes, 32), word_at(bytes, 24))?;
     let mut targets = Vec::new(alloc);
     check_groups(bytes, word_at(bytes, 36), word_at(bytes, 28), &mut targets)
 }

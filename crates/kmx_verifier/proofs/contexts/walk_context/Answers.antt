@@ -1,4 +1,5 @@
 use Rattle.std.proofs.Common.{sym, ◌∙◌, [], map}
+use Rattle.std.proofs.lemmas.Result.{err_from_is_err_and}
 use Rattle.item_codec.specs.Walk.{items_given, results_of}
 use Rattle.kmx_verifier.specs.Items.{target_of}
 use Rattle.kmx_verifier.specs.FaultOf.{context_fault}
@@ -12,12 +13,13 @@ loop-read-init c =
     rw (c.clear.ensures.items, c.into_iter-read-iterator.ensures.into_iter_gives, c.items_of-read-items.ensures)
     (context_starts c.args.bytes.now c.args.string.now FILE_BYTES c.args.at (bytes_small _ c.type_inv.string) c.requires.within)
 
-pub returns-in-Err-check_context_item : goal.returns-in-Err-check_context_item
-returns-in-Err-check_context_item c =
-    context_stops c.args.bytes.now (context_fault c.args.bytes.now [] c.args.at (results_of c.args.string.now)) (map target_of (items_given (results_of c.args.string.now)))
-    FILE_BYTES c.loop-read.place c.loop-read.targets.items c.in-Ok.item c.next.new.self c.in-Err-check_context_item.error
+pub returns-in_err-check_context_item-in-Ok : goal.returns-in_err-check_context_item-in-Ok
+returns-in_err-check_context_item-in-Ok c =
+    let p = err_from_is_err_and c.from_residual.result c.from_residual.ensures.1 in rw (p.1, p.2)
+    (context_stops c.args.bytes.now (context_fault c.args.bytes.now [] c.args.at (results_of c.args.string.now)) (map target_of (items_given (results_of c.args.string.now)))
+    FILE_BYTES c.loop-read.place c.loop-read.targets.items c.in-Ok.item c.next.new.self _
     (rw (sym c.in-Ok.is, sym c.in-Some.ensures.steps) c.loop-read.invariant)
-    (λ before is. c.in-Err-check_context_item.ensures before (c.deref.ensures.value ∙ is))
+    (λ before is. c.in_err-check_context_item-in-Ok.ensures before (c.deref.ensures.value ∙ is)))
 
 pub add_target-requires : goal.add_target-requires
 add_target-requires c = context_few _ _ _ _ _ _ _ c.loop-read.invariant
@@ -28,4 +30,4 @@ loop-read-preserved c =
     (context_goes_on c.args.bytes.now (context_fault c.args.bytes.now [] c.args.at (results_of c.args.string.now)) (map target_of (items_given (results_of c.args.string.now)))
     FILE_BYTES c.loop-read.place c.loop-read.targets.items c.add_target.new.targets.items c.in-Ok.item c.next.new.self
     (rw (sym c.in-Ok.is, sym c.in-Some.ensures.steps) c.loop-read.invariant)
-    (λ before is. c.in-Ok-check_context_item.ensures before (c.deref.ensures.value ∙ is)) c.in-Ok-add_target.ensures)
+    (λ before is. c.in_ok-check_context_item-in-Ok.ensures before (c.deref.ensures.value ∙ is)) c.in_ok-add_target-in-Ok.ensures)
