@@ -30,6 +30,17 @@ pub enum TextError {
     Memory,
 }
 
+impl From<Memory> for TextError {
+    ghost use Rattle.std.specs.Prelude.{◌≡◌};
+    ghost use Rattle.file_text.specs.declared.text.TextError.TheVariants as error;
+
+    ghost from_gives = { λ _ given. given ≡ error.Memory };
+
+    fn from(_memory: Memory) -> TextError {
+        TextError::Memory
+    }
+}
+
 /// The text of tables, where it is within the limit of a text, and its size.
 #[tactic(auto, using(crate::proofs::FewParts::few_stores, crate::proofs::FewParts::few_groups))]
 fn page_of_tables(alloc: Global, tables: &Tables) -> Result<Page, Memory>
@@ -65,11 +76,6 @@ pub fn text_of(alloc: Global, file: &Verified<'_>) -> Result<Text, TextError>
     ensures within { OnOk result (nat_lt TEXT_BYTES (length (program_text (back (tables_of file.now)))) ≡ false) }
     ensures refused { IfErr result (IsTooLong (length (program_text (back (tables_of file.now))))) }
 {
-    let Ok(tables) = file.copied_tables(alloc) else {
-        return Err(TextError::Memory);
-    };
-    match page_of_tables(alloc, &tables) {
-        Ok(page) => text_within(page),
-        Err(Memory) => Err(TextError::Memory),
-    }
+    let tables = file.copied_tables(alloc)?;
+    text_within(page_of_tables(alloc, &tables)?)
 }
