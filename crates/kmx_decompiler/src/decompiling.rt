@@ -19,9 +19,9 @@ use crate::refusals::DecompileError;
 use file_names::{Called, called_by, free_stores};
 use file_text::{Front, front_count, front_of, page_of};
 use indexed_tables::IndexedTables;
+use kmn_base::Text;
 use kmn_base::limits::TEXT_BYTES;
 use kmn_base::slices::behind;
-use kmn_base::{Memory, Text};
 use kmx_verifier::Verified;
 use rule_model::Tables;
 use spelled_files::NoSpelling;
@@ -99,12 +99,9 @@ pub fn decompile(alloc: Global, file: &Verified<'_>) -> Result<Text, DecompileEr
     ensures spelled { OnOk result (unspelled file.now ≡ None) }
     ensures refused { IfErr result (λ why. TellsWhy file.now why) }
 {
-    let Ok(tables) = file.copied_tables(alloc) else {
-        return Err(DecompileError::Memory);
-    };
-    match disorder(tables.groups.as_slice()) {
-        Ok(None) => text_in_order(alloc, file.bytes(), &tables),
-        Ok(Some(why)) => Err(refusal(why)),
-        Err(Memory) => Err(DecompileError::Memory),
+    let tables = file.copied_tables(alloc)?;
+    if let Some(why) = disorder(tables.groups.as_slice())? {
+        return Err(refusal(why));
     }
+    text_in_order(alloc, file.bytes(), &tables)
 }

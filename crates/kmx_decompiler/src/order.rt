@@ -36,10 +36,7 @@ fn first_longer(rules: &[Rule]) -> Option<usize>
 fn file_number(number: usize) -> Result<u32, Memory>
     ensures { IfOk result (λ same. same ≡ number) }
 {
-    match u32::try_from(number) {
-        Ok(same) => Ok(same),
-        Err(_) => Err(Memory),
-    }
+    u32::try_from(number).map_err(|_| Memory)
 }
 
 /// The first record of all groups with a longer context than the one before it.
