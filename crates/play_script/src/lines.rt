@@ -173,10 +173,7 @@ fn read_lines(
     let mut line = 1;
     while !rest.is_empty() {
         let (first, behind) = first_line(rest);
-        match read_line(alloc, dictionary, line, first, &mut reader) {
-            Ok(()) => {}
-            Err(error) => return Err(error),
-        }
+        read_line(alloc, dictionary, line, first, &mut reader)?;
         rest = behind;
         line += 1;
     }

@@ -112,10 +112,8 @@ fn first_piece(text: &[u8]) -> Option<(&[u8], &[u8])>
     ensures parts { MatchOption result (slice_split is_closing text.now ≡ text.now ∷ []) (λ parts. slice_split is_closing text.now ≡ parts.0.now ∷ slice_split is_closing parts.1.now) }
     ensures nearer { MatchOption result (Unit {0}) (λ parts. length parts.1.now < length text.now) }
 {
-    match first_closing(text) {
-        Some(at) => Some((&text[..at], &text[at + 1..])),
-        None => None,
-    }
+    let at = first_closing(text)?;
+    Some((&text[..at], &text[at + 1..]))
 }
 
 /// What stands behind the last bracket.
@@ -141,10 +139,7 @@ pub(crate) fn read_brackets(
 {
     let mut rest = text;
     while let Some((piece, behind)) = first_piece(rest) {
-        match read_bracket(dictionary, line, piece, reader) {
-            Ok(()) => {}
-            Err(error) => return Err(error),
-        }
+        read_bracket(dictionary, line, piece, reader)?;
         rest = behind;
     }
     read_last(line, without_blanks(rest))

@@ -58,23 +58,20 @@ impl Reader {
         if self.events >= SCRIPT_EVENTS {
             return Err(refused(line, Code::P07));
         }
-        match self.entries.push(Entry::Act { line, event }) {
-            Ok(()) => {
-                self.events += 1;
-                Ok(())
-            }
-            Err(_entry) => Err(ScriptError::Memory),
-        }
+        self.entries
+            .push(Entry::Act { line, event })
+            .map_err(|_entry| ScriptError::Memory)?;
+        self.events += 1;
+        Ok(())
     }
 
     /// One more entry that expects a text.
     pub(crate) fn expect(&mut self, line: u32, text: Seq<char>) -> Result<(), ScriptError>
         ensures { Leaves (with_entry self.old (entry.Expect line text)) self.new result }
     {
-        match self.entries.push(Entry::Expect { line, text }) {
-            Ok(()) => Ok(()),
-            Err(_entry) => Err(ScriptError::Memory),
-        }
+        self.entries
+            .push(Entry::Expect { line, text })
+            .map_err(|_entry| ScriptError::Memory)
     }
 }
 
@@ -99,10 +96,9 @@ fn needed_number(line: u32, text: &[u8]) -> Result<u32, ScriptError>
 fn needed_string(alloc: Global, line: u32, text: &[u8]) -> Result<Seq<char>, ScriptError>
     ensures { Needs line P04 (string text.now) result }
 {
-    match string(alloc, text) {
-        Ok(Some(value)) => Ok(value),
-        Ok(None) => Err(refused(line, Code::P04)),
-        Err(_memory) => Err(ScriptError::Memory),
+    match string(alloc, text)? {
+        Some(value) => Ok(value),
+        None => Err(refused(line, Code::P04)),
     }
 }
 
