@@ -166,10 +166,7 @@ fn check_value(
     if let Some(fault) = rules_fault(alloc, keyboard, groups, &found)? {
         return Err(LayoutError::Refused(fault));
     }
-    match u32::try_from(found.keys.len()) {
-        Ok(count) => Ok(count),
-        Err(_) => Err(LayoutError::Memory),
-    }
+    u32::try_from(found.keys.len()).map_err(|_| LayoutError::Memory)
 }
 
 /// The count of the keys of a layout, subkeys among them, where it breaks no rule for the keyboard of the tables; else

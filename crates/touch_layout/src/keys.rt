@@ -104,10 +104,7 @@ fn add_own<'v>(value: &'v Value, place: Place, found: &mut Vec<TouchKey<'v>>) ->
     let Some(key) = own_key(value, place) else {
         return Err(Unread::Shape);
     };
-    match found.push(key) {
-        Ok(()) => Ok(()),
-        Err(_) => Err(Unread::Memory),
-    }
+    found.push(key).map_err(|_| Unread::Memory)
 }
 
 /// Adds the keys of the list that is a member, if there is one.

@@ -136,10 +136,10 @@ fn add_layer<'v>(
         return Err(Unfit::Shape(place));
     };
     add_rows(rows, platform, layer, &mut found.keys)?;
-    match found.layers.push(TouchLayer { place, id }) {
-        Ok(()) => Ok(()),
-        Err(_) => Err(Unfit::Memory),
-    }
+    found
+        .layers
+        .push(TouchLayer { place, id })
+        .map_err(|_| Unfit::Memory)
 }
 
 /// The text that is a member.
