@@ -25,10 +25,8 @@ pub struct Compiled {
 pub fn front(alloc: Global, source: &[u8]) -> Result<Checked, CompileError>
     ensures { Answers (checked source.now) result }
 {
-    match parse(alloc, source) {
-        Ok(program) => check(alloc, program),
-        Err(error) => Err(error),
-    }
+    let program = parse(alloc, source)?;
+    check(alloc, program)
 }
 
 /// The tables of a checked program, their records in order.
@@ -57,8 +55,6 @@ pub fn back(alloc: Global, checked: &Checked, picture: &[u8]) -> Result<Compiled
 pub fn compile(alloc: Global, source: &[u8], picture: &[u8]) -> Result<Compiled, CompileError>
     ensures { CompilesTo (checked source.now) picture.now result }
 {
-    match front(alloc, source) {
-        Ok(checked) => back(alloc, &checked, picture),
-        Err(error) => Err(error),
-    }
+    let checked = front(alloc, source)?;
+    back(alloc, &checked, picture)
 }

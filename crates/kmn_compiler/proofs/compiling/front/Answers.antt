@@ -1,11 +1,14 @@
+use Rattle.std.proofs.lemmas.Result.{err_from_is_err_and}
 use Rattle.kmn_compiler.proofs.Checks.{is_read, checked_read, unread}
 use Rattle.kmn_compiler.proofs.compiling.front.Goals as goal
 
 pub check-requires : goal.check-requires
-check-requires c = is_read c.args.source.now c.in-Ok.program c.in-Ok.ensures
+check-requires c = is_read c.args.source.now c.in_ok-program.program c.in_ok-program.ensures
 
-pub returns-in-Ok : goal.returns-in-Ok
-returns-in-Ok c = checked_read c.args.source.now c.in-Ok.program c.check.result c.in-Ok.ensures c.check.ensures
+pub returns : goal.returns
+returns c = checked_read c.args.source.now c.in_ok-program.program c.check.result c.in_ok-program.ensures c.check.ensures
 
-pub returns-in-Err : goal.returns-in-Err
-returns-in-Err c = unread c.args.source.now c.in-Err.error c.in-Err.ensures
+pub returns-in_err-program : goal.returns-in_err-program
+returns-in_err-program c =
+    let p = err_from_is_err_and c.from_residual.result c.from_residual.ensures.1 in
+    rw (p.1, p.2) (unread c.args.source.now c.in_err-program.field-0.0 c.in_err-program.ensures)
