@@ -1,6 +1,7 @@
 -- Lists that are appended in parts.
 use Rattle.std.proofs.Common.{◌≡◌, ℕ, List, [], ◌∷◌, ◌++◌, take, arith, drop, length, Result, Ok, Err, subst, refl, sym, ◌∙◌, ap, append_assoc, append-nil}
 use Rattle.std.proofs.lemmas.List.{take-append-drop}
+use Rattle.std.specs.Prelude.{IsErrAnd}
 use Rattle.kmn_outside.specs.Outside.{Puts}
 use Rattle.kmn_outside.specs.declared.traits.WriteError.{WriteError}
 use Rattle.kmn_outside.specs.declared.traits.WriteError.TheVariants as write
@@ -83,3 +84,11 @@ prints_rest rest start before after whole (Err error) h begun =
 pub prints_behind : {A E : Type 0} (line more before middle after : List ℕ) (result : Result A E) → middle ≡ before ++ line → Prints middle after more result → Prints before after (line ++ more) result
 prints_behind line more before middle after (Ok x) is prints = prints ∙ ap (λ front. front ++ more) is ∙ append_assoc before line more
 prints_behind line more before middle after (Err error) is begun = begun_behind before middle after line more is begun
+
+-- where an error is passed on, a first part was printed
+pub fault_prints : {A : Type 0} (before after wanted : List ℕ) (error : WriteError) (result : Result A WriteError) → IsErrAnd result (λ given. given ≡ error) → IsBegun before after wanted
+    → Prints before after wanted result
+fault_prints before after wanted error (Ok x) is begun = absurd is
+fault_prints before after wanted error (Err given) is begun = begun
+
+pub ruleset faults = (fault_prints, none_begun)

@@ -63,10 +63,9 @@ pub fn play<'a, S: Sink>(
 {
     let mut counts = no_counts();
     for entry in entries {
-        match play_entry(alloc, &mut session, counts, entry, out) {
-            Ok(Played::On(next)) => counts = next,
-            Ok(Played::Refused) => return Ok(PlayEnd::Refused),
-            Err(error) => return Err(error),
+        match play_entry(alloc, &mut session, counts, entry, out)? {
+            Played::On(next) => counts = next,
+            Played::Refused => return Ok(PlayEnd::Refused),
         }
     }
     put_end(alloc, &session, counts, out)
@@ -109,7 +108,7 @@ fn play_entry<S: Sink>(
 }
 
 /// Does an event and prints its lines.
-#[tactic(auto, using(crate::proofs::PrintingLaws::none_begun, crate::proofs::PlayingLaws::step_of_stores))]
+#[tactic(auto, using(crate::proofs::PrintingLaws::faults, crate::proofs::PlayingLaws::step_of_stores))]
 fn play_event<S: Sink>(
     alloc: Global,
     session: &mut Session,
@@ -126,14 +125,14 @@ fn play_event<S: Sink>(
     ensures prints { IsTrue (S.told out.old) → Prints (S.written out.old) (S.written out.new) (event_lines session.old event.now) result }
 {
     match session.step(alloc, event) {
-        Ok(step) => match put_step(alloc, session, step, out) {
-            Ok(()) => Ok(Played::On(Counts {
+        Ok(step) => {
+            put_step(alloc, session, step, out)?;
+            Ok(Played::On(Counts {
                 number: step.number,
                 events: counts.events + 1,
                 failed: counts.failed,
-            })),
-            Err(error) => Err(error),
-        },
+            }))
+        }
         Err(StepError::Place) => put_refusal(alloc, counts.number.saturating_add(1), Code::E1, out),
         Err(StepError::Length) => {
             put_refusal(alloc, counts.number.saturating_add(1), Code::E2, out)
@@ -143,7 +142,7 @@ fn play_event<S: Sink>(
 }
 
 /// Prints what the last event did, and the values that it changed.
-#[tactic(auto, using(crate::proofs::PrintingLaws::none_begun, crate::proofs::PrintingLaws::begun_front, crate::proofs::PrintingLaws::prints_behind))]
+#[tactic(auto, using(crate::proofs::PrintingLaws::faults, crate::proofs::PrintingLaws::prints_behind))]
 fn put_step<S: Sink>(
     alloc: Global,
     session: &Session,
@@ -156,23 +155,19 @@ fn put_step<S: Sink>(
     ensures prints { IsTrue (S.told out.old) → Prints (S.written out.old) (S.written out.new) (happened_lines session.now step) result }
 {
     let context = session.engine().context();
-    let Ok(line) = line_of(
+    let line = line_of(
         alloc,
         step.number,
         step.outcome,
         session.inserted(),
         context,
-    ) else {
-        return Err(WriteError::Memory);
-    };
-    match put_all(out, line.as_slice()) {
-        Ok(()) => put_changes(alloc, session, session.changes(), out),
-        Err(error) => Err(error),
-    }
+    )?;
+    put_all(out, line.as_slice())?;
+    put_changes(alloc, session, session.changes(), out)
 }
 
 /// Prints the new values of options.
-#[tactic(auto, using(crate::proofs::PlayingLaws::changes_begin))]
+#[tactic(auto, using(crate::proofs::PrintingLaws::faults, crate::proofs::PlayingLaws::changes_begin))]
 fn put_changes<S: Sink>(
     alloc: Global,
     session: &Session,
@@ -185,16 +180,13 @@ fn put_changes<S: Sink>(
     ensures prints { IsTrue (S.told out.old) → Prints (S.written out.old) (S.written out.new) (flat_map (change_line session.now) changes.now) result }
 {
     for change in changes {
-        match put_change(alloc, session, change, out) {
-            Ok(()) => {}
-            Err(error) => return Err(error),
-        }
+        put_change(alloc, session, change, out)?;
     }
     Ok(())
 }
 
 /// Prints the new value of an option.
-#[tactic(auto, using(crate::proofs::PrintingLaws::none_begun))]
+#[tactic(auto, using(crate::proofs::PrintingLaws::faults))]
 fn put_change<S: Sink>(
     alloc: Global,
     session: &Session,
@@ -206,9 +198,7 @@ fn put_change<S: Sink>(
     ensures told { S.told out.new ≡ S.told out.old }
     ensures prints { IsTrue (S.told out.old) → Prints (S.written out.old) (S.written out.new) (change_line session.now change.now) result }
 {
-    let Ok(line) = change_line(alloc, session, *change) else {
-        return Err(WriteError::Memory);
-    };
+    let line = change_line(alloc, session, *change)?;
     put_all(out, line.as_slice())
 }
 
@@ -233,7 +223,7 @@ fn elements_of(value: &Option<Seq<Element>>) -> &[Element]
 }
 
 /// Prints the refusal of an event.
-#[tactic(auto, using(crate::proofs::PrintingLaws::none_begun))]
+#[tactic(auto, using(crate::proofs::PrintingLaws::faults))]
 fn put_refusal<S: Sink>(
     alloc: Global,
     number: u32,
@@ -245,17 +235,13 @@ fn put_refusal<S: Sink>(
     ensures refused { IfOk result (λ played. played ≡ Played.Refused) }
     ensures prints { IsTrue (S.told out.old) → Prints (S.written out.old) (S.written out.new) (refused_event_line number code) result }
 {
-    let Ok(line) = refused_event_line(alloc, number, code) else {
-        return Err(WriteError::Memory);
-    };
-    match put_all(out, line.as_slice()) {
-        Ok(()) => Ok(Played::Refused),
-        Err(error) => Err(error),
-    }
+    let line = refused_event_line(alloc, number, code)?;
+    put_all(out, line.as_slice())?;
+    Ok(Played::Refused)
 }
 
 /// Compares the whole text with an expected one, and prints where it differs.
-#[tactic(auto, using(crate::proofs::PrintingLaws::none_begun))]
+#[tactic(auto, using(crate::proofs::PrintingLaws::faults))]
 fn play_expect<S: Sink>(
     alloc: Global,
     session: &Session,
@@ -273,16 +259,12 @@ fn play_expect<S: Sink>(
     if is_text(session.editor().left(), session.editor().right(), text) {
         return Ok(Played::On(counts));
     }
-    let Ok(line) = expect_line(alloc, line) else {
-        return Err(WriteError::Memory);
-    };
-    match put_all(out, line.as_slice()) {
-        Ok(()) => Ok(Played::On(Counts {
-            failed: counts.failed + 1,
-            ..counts
-        })),
-        Err(error) => Err(error),
-    }
+    let line = expect_line(alloc, line)?;
+    put_all(out, line.as_slice())?;
+    Ok(Played::On(Counts {
+        failed: counts.failed + 1,
+        ..counts
+    }))
 }
 
 /// Whether a text before the caret and one after it are together this text.
@@ -294,6 +276,7 @@ fn is_text(left: &[char], right: &[char], text: &[char]) -> bool
 }
 
 /// Prints the text and the counts, and answers how the play ends.
+#[tactic(auto, using(crate::proofs::PrintingLaws::faults))]
 fn put_end<S: Sink>(
     alloc: Global,
     session: &Session,
@@ -305,19 +288,11 @@ fn put_end<S: Sink>(
     ensures ends { IfOk result (λ end. end ≡ end_after None counts.failed) }
     ensures prints { IsTrue (S.told out.old) → Prints (S.written out.old) (S.written out.new) (end_lines session.now counts) result }
 {
-    let Ok(text) = text_line(alloc, session.editor().left(), session.editor().right()) else {
-        return Err(WriteError::Memory);
-    };
-    let Ok(end) = end_line(alloc, counts.events, counts.failed) else {
-        return Err(WriteError::Memory);
-    };
-    match put_all(out, text.as_slice()) {
-        Ok(()) => match put_all(out, end.as_slice()) {
-            Ok(()) => Ok(end_after(counts.failed)),
-            Err(error) => Err(error),
-        },
-        Err(error) => Err(error),
-    }
+    let text = text_line(alloc, session.editor().left(), session.editor().right())?;
+    let end = end_line(alloc, counts.events, counts.failed)?;
+    put_all(out, text.as_slice())?;
+    put_all(out, end.as_slice())?;
+    Ok(end_after(counts.failed))
 }
 
 /// How a play ends that comes to the end of its script.

@@ -6,7 +6,7 @@ use kmn_base::slices::behind;
 use kmn_outside::{Sink, WriteError};
 
 /// Prints a line as one piece. Where the sink takes a part of it, the rest follows.
-#[tactic(auto, using(crate::proofs::PrintingLaws::put_on, crate::proofs::PrintingLaws::put_stops))]
+#[tactic(auto, using(crate::proofs::PrintingLaws::faults, crate::proofs::PrintingLaws::put_on, crate::proofs::PrintingLaws::put_stops))]
 pub fn put_all<S: Sink>(out: &mut S, line: &[u8]) -> Result<(), WriteError>
     ensures counts { WriteCounts (S.faults out.old) (S.faults out.new) result }
     ensures told { S.told out.new ≡ S.told out.old }
@@ -14,10 +14,8 @@ pub fn put_all<S: Sink>(out: &mut S, line: &[u8]) -> Result<(), WriteError>
 {
     let mut rest = line;
     while !rest.is_empty() {
-        match out.put(rest) {
-            Ok(count) => rest = behind(rest, count),
-            Err(error) => return Err(error),
-        }
+        let count = out.put(rest)?;
+        rest = behind(rest, count);
     }
     Ok(())
 }

@@ -1,5 +1,6 @@
 use Rattle.std.proofs.Common.{sym, refl, rules, arith}
 use Rattle.play_session.proofs.Printing.{sessions_begin, sessions_go_on}
+use Rattle.play_transcript.proofs.PrintingLaws.{fault_prints}
 use Rattle.play_transcript.proofs.PlayingLaws.{Begins, session_begins, HasGoneOn, gone_on, refused_ends, refused_prints, play_stops, play_ends, ends_if, ends_so}
 use Rattle.play_transcript.proofs.playing.play.Goals as goal
 
@@ -8,20 +9,20 @@ loop-entry-init g c =
     let h : Begins c.args.session c.args.session.tables c.args.entries.now = session_begins sessions_begin c.args.session c.args.session.tables c.args.entries.now c.requires in
     rw c.no_counts-counts.ensures (record { faults = refl; told = refl; session = h.options; number = h.number; events = omega arith; failed = omega arith; end = h.end; printed = λ told. h.printed _ })
 
-pub returns-in-Ok-Refused-clause-ends : goal.returns-in-Ok-Refused-clause-ends
-returns-in-Ok-Refused-clause-ends g c =
+pub returns-in-Refused-clause-ends : goal.returns-in-Refused-clause-ends
+returns-in-Refused-clause-ends g c =
     sym (refused_ends c.loop-entry.session c.loop-entry.counts c.args.entries.now c.loop-entry.entry-index c.entry-item.result c.entry-item.result (omega arith) c.entry-item.is sessions_go_on c.play_entry.new.session
     c.loop-entry.invariant.session c.loop-entry.invariant.number (search rules) _ c.loop-entry.invariant.end)
 
-pub returns-in-Ok-Refused-clause-prints : goal.returns-in-Ok-Refused-clause-prints
-returns-in-Ok-Refused-clause-prints g c = λ told.
+pub returns-in-Refused-clause-prints : goal.returns-in-Refused-clause-prints
+returns-in-Refused-clause-prints g c = λ told.
     refused_prints c.loop-entry.session c.loop-entry.counts c.args.entries.now c.loop-entry.entry-index c.entry-item.result c.entry-item.result (omega arith) c.entry-item.is sessions_go_on c.play_entry.new.session
     c.loop-entry.invariant.session c.loop-entry.invariant.number (search rules) _ _ _ _ (c.loop-entry.invariant.printed told) (search rules)
 
-pub returns-in-Err-clause-prints : goal.returns-in-Err-clause-prints
-returns-in-Err-clause-prints g c = λ told.
-    play_stops c.loop-entry.session c.loop-entry.counts c.args.entries.now c.loop-entry.entry-index c.entry-item.result c.entry-item.result (omega arith) c.entry-item.is
-    _ _ _ _ (c.loop-entry.invariant.printed told) (c.in-Err.ensures.prints (search rules))
+pub returns-in_err-next-clause-prints : goal.returns-in_err-next-clause-prints
+returns-in_err-next-clause-prints g c = λ told.
+    fault_prints _ _ _ _ _ c.from_residual.ensures.1 (play_stops c.loop-entry.session c.loop-entry.counts c.args.entries.now c.loop-entry.entry-index c.entry-item.result c.entry-item.result (omega arith) c.entry-item.is
+    _ _ _ _ (c.loop-entry.invariant.printed told) (c.in_err-next.ensures.prints (search rules)))
 
 pub returns-clause-ends : goal.returns-clause-ends
 returns-clause-ends g c =
@@ -35,8 +36,8 @@ returns-clause-prints g c = λ told.
 
 pub loop-entry-preserved : goal.loop-entry-preserved
 loop-entry-preserved g c =
-    let h : HasGoneOn c.loop-entry.session c.loop-entry.counts c.args.entries.now c.loop-entry.entry-index c.entry-item.result c.entry-item.result (omega arith) c.entry-item.is c.play_entry.new.session c.in-Ok-On.next =
-    gone_on c.loop-entry.session c.loop-entry.counts c.args.entries.now c.loop-entry.entry-index c.entry-item.result c.entry-item.result (omega arith) c.entry-item.is sessions_go_on c.play_entry.new.session c.in-Ok-On.next
+    let h : HasGoneOn c.loop-entry.session c.loop-entry.counts c.args.entries.now c.loop-entry.entry-index c.entry-item.result c.entry-item.result (omega arith) c.entry-item.is c.play_entry.new.session c.in-On.next =
+    gone_on c.loop-entry.session c.loop-entry.counts c.args.entries.now c.loop-entry.entry-index c.entry-item.result c.entry-item.result (omega arith) c.entry-item.is sessions_go_on c.play_entry.new.session c.in-On.next
     c.loop-entry.invariant.session c.loop-entry.invariant.number (search rules) in
     record {
       faults = search rules;
