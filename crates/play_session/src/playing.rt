@@ -4,13 +4,12 @@ ghost use Rattle.kmn_base.specs.declared.limits.TheConstants.{EVENT_PUTS, TEXT_C
 ghost use Rattle.rule_model.specs.KeyEvent.{outcome_of, inserted};
 ghost use Rattle.rule_model.specs.Event.{by_editor, key_event, caret_event, edit_event, setting_event, event_refusal};
 ghost use Rattle.rule_model.specs.Tab.{tab};
-ghost use Rattle.editor_model.specs.Answers.{code_of as edit_code};
 ghost use Rattle.play_session.specs.Answers.{code_of};
 ghost use Rattle.play_session.specs.Session.{AreTogether, stands_for};
 ghost use Rattle.play_session.specs.Playing.{press_gives, acted};
 
 use crate::session::StepError;
-use editor_model::{EditError, Editor};
+use editor_model::Editor;
 use kmn_base::limits::EVENT_PUTS;
 use kmn_base::{KeyPress, Memory, Outcome};
 use rule_engine::Engine;
@@ -89,13 +88,9 @@ pub(crate) fn caret_event(
     ensures unchanged { IfErr result (λ _. stands_for engine.new editor.new ≡ stands_for engine.old editor.old) }
     ensures inserted { engine.new.inserted ≡ engine.old.inserted }
 {
-    match editor.caret(place) {
-        Ok(()) => {
-            engine.sync(editor.left());
-            Ok(())
-        }
-        Err(error) => Err(step_error(error)),
-    }
+    editor.caret(place)?;
+    engine.sync(editor.left());
+    Ok(())
 }
 
 /// An edit from outside.
@@ -117,13 +112,9 @@ pub(crate) fn edit_event(
     ensures unchanged { IfErr result (λ _. stands_for engine.new editor.new ≡ stands_for engine.old editor.old) }
     ensures inserted { engine.new.inserted ≡ engine.old.inserted }
 {
-    match editor.edit(alloc, from, to, text) {
-        Ok(()) => {
-            engine.sync(editor.left());
-            Ok(())
-        }
-        Err(error) => Err(step_error(error)),
-    }
+    editor.edit(alloc, from, to, text)?;
+    engine.sync(editor.left());
+    Ok(())
 }
 
 /// A setting of the host.
@@ -143,15 +134,4 @@ pub(crate) fn setting_event(
 {
     engine.setting(alloc, name, value)?;
     Ok(())
-}
-
-/// The error of a step that an editor's error is.
-fn step_error(error: EditError) -> StepError
-    ensures { code_of result ≡ edit_code error }
-{
-    match error {
-        EditError::Place => StepError::Place,
-        EditError::Length => StepError::Length,
-        EditError::Memory => StepError::Memory,
-    }
 }

@@ -11,7 +11,7 @@ ghost use Rattle.rule_model.specs.Trace.{first_state};
 
 use crate::changes::{Change, put_changes};
 use crate::playing::{caret_event, edit_event, key_event, setting_event};
-use editor_model::Editor;
+use editor_model::{EditError, Editor};
 use kmn_base::limits::TEXT_CHARS_AT_KEY;
 use kmn_base::{Element, Event, KeyPress, Memory, Outcome, Seq, Text};
 use kmx_verifier::Verified;
@@ -51,6 +51,22 @@ impl From<Memory> for StepError {
 
     fn from(_memory: Memory) -> StepError {
         StepError::Memory
+    }
+}
+
+impl From<EditError> for StepError {
+    ghost use Rattle.std.specs.Prelude.{◌≡◌};
+    ghost use Rattle.editor_model.specs.Answers.{code_of as edit_code};
+    ghost use Rattle.play_session.specs.Answers.{code_of};
+
+    ghost from_gives = { λ error given. code_of given ≡ edit_code error };
+
+    fn from(error: EditError) -> StepError {
+        match error {
+            EditError::Place => StepError::Place,
+            EditError::Length => StepError::Length,
+            EditError::Memory => StepError::Memory,
+        }
     }
 }
 

@@ -5,9 +5,9 @@ use Rattle.play_session.proofs.Moves.{edit_done}
 use Rattle.play_session.proofs.Readings.{is_read}
 use Rattle.play_session.proofs.playing.edit_event.Goals as goal
 
-pub returns-in-Ok-clause-together : goal.returns-in-Ok-clause-together
-returns-in-Ok-clause-together c =
-    let done = edit_done c.args.engine.now c.args.editor.now c.edit.new.self c.args.from c.args.to c.args.text.now c.requires.together c.in-Ok.ensures.answer c.in-Ok.ensures.becomes in
+pub returns-clause-together : goal.returns-clause-together
+returns-clause-together c =
+    let done = edit_done c.args.engine.now c.args.editor.now c.edit.new.self c.args.from c.args.to c.args.text.now c.requires.together c.in_ok-edit.ensures.answer c.in_ok-edit.ensures.becomes in
     let read : c.sync.new.self ≡ synced c.edit.new.self.left c.args.engine.now
     = c.sync.ensures ∙ ap (λ (t : List ℕ). synced t c.args.engine.now) c.left.ensures in
     let few : length c.edit.new.self.left + length c.edit.new.self.right ≤ 1_000_000
@@ -15,9 +15,9 @@ returns-in-Ok-clause-together c =
     let is = is_read 1_000_000 1_000_000 c.args.engine.now c.args.editor.now c.edit.new.self c.requires.together few in
     subst (λ (e : EngineState). AreTogether 1_000_000 e c.edit.new.self) (sym read) is.together
 
-pub returns-in-Ok-clause-state : goal.returns-in-Ok-clause-state
-returns-in-Ok-clause-state c =
-    let done = edit_done c.args.engine.now c.args.editor.now c.edit.new.self c.args.from c.args.to c.args.text.now c.requires.together c.in-Ok.ensures.answer c.in-Ok.ensures.becomes in
+pub returns-clause-state : goal.returns-clause-state
+returns-clause-state c =
+    let done = edit_done c.args.engine.now c.args.editor.now c.edit.new.self c.args.from c.args.to c.args.text.now c.requires.together c.in_ok-edit.ensures.answer c.in_ok-edit.ensures.becomes in
     let read : c.sync.new.self ≡ synced c.edit.new.self.left c.args.engine.now
     = c.sync.ensures ∙ ap (λ (t : List ℕ). synced t c.args.engine.now) c.left.ensures in
     let few : length c.edit.new.self.left + length c.edit.new.self.right ≤ 1_000_000
