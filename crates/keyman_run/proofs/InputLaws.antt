@@ -1,5 +1,6 @@
 -- What the inputs that were read state.
 use Rattle.std.proofs.Common.{◌≡◌, ◌+◌, ℕ, IsTrue, List, [], ◌∷◌, ◌++◌, map, Option, Some, Result, Ok, Err, refl, sym, ap, ◌∙◌, subst}
+use Rattle.std.specs.Result.{IsErrAnd, MatchResult}
 use Rattle.kmn_base.specs.Answers.{Answers}
 use Rattle.kmn_base.specs.declared.refusals.CompileError.{CompileError}
 use Rattle.kmn_base.specs.declared.refusals.CompileError.TheVariants as compile
@@ -52,7 +53,7 @@ states_counts seen stated before after (Err stop.ReadFault) same states = absurd
 states_counts seen stated before after (Err stop.Memory) same states = same
 
 -- a file that was read whole
-pub gives_answered : {F A B : Type 0} (seen : A → B) (name : List ℕ) (limit : ℕ) (next : Reading → Work B) (stated : Reading → Result B Reason) (folders : FolderView F) (folder after : F) (bytes : List ℕ) (result : Result A Stop)
+gives_answered : {F A B : Type 0} (seen : A → B) (name : List ℕ) (limit : ℕ) (next : Reading → Work B) (stated : Reading → Result B Reason) (folders : FolderView F) (folder after : F) (bytes : List ℕ) (result : Result A Stop)
     → Concludes next stated → folders.faults after ≡ folders.faults folder → folders.told after ≡ folders.told folder
     → (IsTrue (folders.told folder) → Reads (folders.files folder) (folders.files after) (folders.calls folder) (folders.calls after) name limit (Ok bytes))
     → States seen (stated (Bytes bytes)) result → Gives seen (Read name limit next) folders folder after result
@@ -71,8 +72,12 @@ gives_answered seen name limit next stated folders folder after bytes result con
       (record { asked = h.1.2 ∙ ap (λ asks. folders.calls folder ++ map answered asks) (sym asked); files = h.0 }) states;
 }
 
+-- what is answered of a reading whose error is why a run stops
+abbrev pub IsStopped : Reason → Result (List ℕ) ReadError → Result (List ℕ) Stop → Type 0
+IsStopped long answer stopped = MatchResult answer (λ bytes. stopped ≡ Ok bytes) (λ error. IsErrAnd stopped (λ given. given ≡ read_stop long error))
+
 -- a file that wasn't
-pub gives_unread : {F A B : Type 0} (seen : A → B) (name : List ℕ) (limit : ℕ) (next : Reading → Work B) (stated : Reading → Result B Reason) (long : Reason) (folders : FolderView F) (folder after : F) (error : ReadError)
+gives_unread : {F A B : Type 0} (seen : A → B) (name : List ℕ) (limit : ℕ) (next : Reading → Work B) (stated : Reading → Result B Reason) (long : Reason) (folders : FolderView F) (folder after : F) (error : ReadError)
     → Concludes next stated → stated (Over (limit + 1)) ≡ Err long
     → ReadCounts (folders.faults folder) (folders.faults after) (Err error) → folders.told after ≡ folders.told folder
     → (IsTrue (folders.told folder) → Reads (folders.files folder) (folders.files after) (folders.calls folder) (folders.calls after) name limit (Err error))
@@ -101,6 +106,41 @@ gives_unread seen name limit next stated long folders folder after read.Memory c
   told = told;
   gives = λ told_folder. let h = answers told_folder in record { asked = first_none (reads (folders.files folder) (Read name limit next)) (folders.calls folder) (folders.calls after) h.1; files = h.0 };
 }
+
+-- the same by what reading was answered: a file that was read whole, and one that wasn't
+pub gives_whole : {F A B : Type 0} (seen : A → B) (name : List ℕ) (limit : ℕ) (next : Reading → Work B) (stated : Reading → Result B Reason) (folders : FolderView F) (folder after : F) (answer : Result (List ℕ) ReadError) (bytes : List ℕ) (result : Result A Stop)
+    → answer ≡ Ok bytes → Concludes next stated → ReadCounts (folders.faults folder) (folders.faults after) answer → folders.told after ≡ folders.told folder
+    → (IsTrue (folders.told folder) → Reads (folders.files folder) (folders.files after) (folders.calls folder) (folders.calls after) name limit answer)
+    → States seen (stated (Bytes bytes)) result → Gives seen (Read name limit next) folders folder after result
+gives_whole seen name limit next stated folders folder after answer bytes result is concludes counts told answers states =
+    gives_answered seen name limit next stated folders folder after bytes result concludes
+    (subst (ReadCounts (folders.faults folder) (folders.faults after)) is counts) told
+    (λ told_folder. subst (Reads (folders.files folder) (folders.files after) (folders.calls folder) (folders.calls after) name limit) is (answers told_folder)) states
+
+pub gives_stop : {F A B : Type 0} (seen : A → B) (name : List ℕ) (limit : ℕ) (next : Reading → Work B) (stated : Reading → Result B Reason) (long : Reason) (folders : FolderView F) (folder after : F) (answer : Result (List ℕ) ReadError) (s : Stop) (result : Result A Stop)
+    → IsStopped long answer (Err s) → IsErrAnd result (λ given. given ≡ s) → Concludes next stated → stated (Over (limit + 1)) ≡ Err long
+    → ReadCounts (folders.faults folder) (folders.faults after) answer → folders.told after ≡ folders.told folder
+    → (IsTrue (folders.told folder) → Reads (folders.files folder) (folders.files after) (folders.calls folder) (folders.calls after) name limit answer)
+    → Gives seen (Read name limit next) folders folder after result
+gives_stop seen name limit next stated long folders folder after (Ok bytes) s result is handed concludes over counts told answers = absurd (cc)
+gives_stop seen name limit next stated long folders folder after (Err error) s (Ok value) is handed concludes over counts told answers = absurd handed
+gives_stop {F} {A} {B} seen name limit next stated long folders folder after (Err error) s (Err given) is handed concludes over counts told answers =
+    subst (λ (t : Stop). Gives {A = A} seen (Read name limit next) folders folder after (Err t)) (sym (handed ∙ is))
+    (gives_unread seen name limit next stated long folders folder after error concludes over counts told answers)
+
+-- a file whose bytes are what its work comes to
+pub gives_bytes : {F : Type 0} (name : List ℕ) (limit : ℕ) (next : Reading → Work (List ℕ)) (stated : Reading → Result (List ℕ) Reason) (long : Reason) (folders : FolderView F) (folder after : F) (answer : Result (List ℕ) ReadError) (result : Result (List ℕ) Stop)
+    → Concludes next stated → ((bytes : List ℕ) → stated (Bytes bytes) ≡ Ok bytes) → stated (Over (limit + 1)) ≡ Err long → IsStopped long answer result
+    → ReadCounts (folders.faults folder) (folders.faults after) answer → folders.told after ≡ folders.told folder
+    → (IsTrue (folders.told folder) → Reads (folders.files folder) (folders.files after) (folders.calls folder) (folders.calls after) name limit answer)
+    → Gives itself (Read name limit next) folders folder after result
+gives_bytes name limit next stated long folders folder after (Ok bytes) result concludes whole over is counts told answers =
+    subst (λ (r : Result (List ℕ) Stop). Gives itself (Read name limit next) folders folder after r) (sym is)
+    (gives_answered itself name limit next stated folders folder after bytes (Ok bytes) concludes counts told answers (whole bytes))
+gives_bytes name limit next stated long folders folder after (Err error) (Ok bytes) concludes whole over is counts told answers = absurd is
+gives_bytes name limit next stated long folders folder after (Err error) (Err given) concludes whole over is counts told answers =
+    subst (λ (t : Stop). Gives {A = List ℕ} itself (Read name limit next) folders folder after (Err t)) (sym is)
+    (gives_unread itself name limit next stated long folders folder after error concludes over counts told answers)
 
 none_read : {B : Type 0} (files : Files) (read : Result B Reason) → reads files (given read) ≡ []
 none_read files (Ok value) = refl

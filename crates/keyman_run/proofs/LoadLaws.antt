@@ -1,6 +1,7 @@
 -- What the steps of a load state, and what a play comes to that is counted event by event.
 use Rattle.std.proofs.Common.{◌≡◌, ◌≢◌, ◌↔◌, ℕ, ◌+◌, ◌<◌, ◌≤◌, Bool, true, false, if◌then◌else◌, List, [], ◌∷◌, length, suc, drop, get_or, Option, Some, Result, Ok, Err, refl, sym, ap, ◌∙◌, subst, add-one, drop-cons, append-nil, arith}
 use Rattle.std.specs.Prelude.{is_some}
+use Rattle.std.specs.Result.{IsErrAnd}
 use Rattle.std.proofs.Math.ListN.{drop_of_length-le}
 use Rattle.kmn_base.specs.Answers.{and_then as result_then}
 use Rattle.kmn_base.specs.declared.codes.Code.{Code}
@@ -57,6 +58,12 @@ pub states_stopped : {A B C D : Type 0} (seen : A → B) (seen_more : C → D) (
 states_stopped seen seen_more part more (stop.Refused why) is = ap (λ read. result_then read more) is
 states_stopped seen seen_more part more stop.ReadFault is = is
 states_stopped seen seen_more part more stop.Memory is = tt
+
+-- what stops a step is handed on
+pub states_handed : {A B : Type 0} (seen : A → B) (stated : Result B Reason) (s : Stop) (result : Result A Stop) → IsErrAnd result (λ given. given ≡ s)
+    → States {A = A} seen stated (Err s) → States seen stated result
+states_handed seen stated s (Ok value) is states = absurd is
+states_handed {A} seen stated s (Err given) is states = subst (λ (t : Stop). States {A = A} seen stated (Err t)) (sym is) states
 
 -- the file of a program without a picture
 pub compiled_states : (program : Program) (compiled : Compiled) → CompilesTo (Ok program) [] (Ok compiled) → States itself (compiled_within program) (Ok compiled)

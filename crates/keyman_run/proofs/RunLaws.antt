@@ -1,6 +1,7 @@
 -- A run in steps: what holds of a step, and of the steps behind it, holds of both.
-use Rattle.std.proofs.Common.{◌≡◌, ◌≢◌, inl, inr, ℕ, false, IsTrue, List, [], ◌∷◌, ◌++◌, map, Option, Some, Result, Ok, Err, refl, sym, ◌∙◌, ap, subst, append_assoc, append-nil}
+use Rattle.std.proofs.Common.{◌≡◌, ◌≢◌, ◌⊎◌, inl, inr, ℕ, false, IsTrue, List, [], ◌∷◌, ◌++◌, map, Option, Some, Result, Ok, Err, refl, sym, ◌∙◌, ap, subst, append_assoc, append-nil}
 use Rattle.std.specs.Prelude.{option_map}
+use Rattle.std.specs.Result.{IsErrAnd}
 use Rattle.kmn_outside.specs.Outside.{Files, Rose, SameFiles, WriteCounts, Writes}
 use Rattle.kmn_outside.specs.declared.traits.WriteError.{WriteError}
 use Rattle.kmn_outside.specs.declared.traits.WriteError.TheVariants as write
@@ -135,6 +136,12 @@ gives_stopped {F} {A} {B} {C} {D} seen seen_more part more folders folder after 
     by_stop A B x y (stop.Refused why) counts = counts
     by_stop A B x y stop.Memory counts = counts
 
+-- what stops a step is handed on
+pub gives_handed : {F A B : Type 0} (seen : A → B) (work : Work B) (folders : FolderView F) (folder after : F) (s : Stop) (result : Result A Stop) → IsErrAnd result (λ given. given ≡ s)
+    → Gives {A = A} seen work folders folder after (Err s) → Gives seen work folders folder after result
+gives_handed seen work folders folder after s (Ok value) is g = absurd is
+gives_handed {F} {A} {B} seen work folders folder after s (Err given) is g = subst (λ (t : Stop). Gives {A = A} seen work folders folder after (Err t)) (sym is) g
+
 -- work that has its value
 pub gives_value : {F A B : Type 0} (seen : A → B) (folders : FolderView F) (folder : F) (value : A) → Gives seen (Give (seen value)) folders folder folder (Ok value)
 gives_value seen folders folder value = record {
@@ -218,6 +225,14 @@ does_told work ending folders folder after sinks out out_after how faults told w
       leaves_told (reads (folders.files folder) work) (ends (folders.files folder) work) ending (worked told_folder).0 (seen_folder folders folder) (seen_folder folders after) (seen_sink sinks out) (seen_sink sinks out_after) how
       (worked told_folder).1 tells.counts tells.prints;
 }
+
+-- a line that was printed whole, before a run that ends well or with a refusal
+pub tells_line : {S : Type 0} (good : Status) (bytes : List ℕ) (sinks : SinkView S) (out out_after : S) → (good ≡ status.Done) ⊎ (good ≡ status.Refused)
+    → sinks.faults out_after ≡ sinks.faults out → sinks.told out_after ≡ sinks.told out → (IsTrue (sinks.told out) → sinks.written out_after ≡ sinks.written out ++ bytes) → Tells good bytes sinks out out_after good
+tells_line good bytes sinks out out_after (inl is) faults told prints =
+    subst (λ (s : Status). Tells s bytes sinks out out_after s) (sym is) (record { counts = (refl, faults); told = told; prints = prints })
+tells_line good bytes sinks out out_after (inr is) faults told prints =
+    subst (λ (s : Status). Tells s bytes sinks out out_after s) (sym is) (record { counts = (refl, faults); told = told; prints = prints })
 
 -- a write that was answered
 pub does_written : {F S : Type 0} (good : Status) (printed name bytes written : List ℕ) (folders : FolderView F) (folder after : F) (sinks : SinkView S) (out out_after : S) (how : Status) (x : Unit {0})

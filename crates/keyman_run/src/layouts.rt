@@ -4,7 +4,7 @@ ghost use Rattle.std.specs.Prelude.{◌≡◌, IfOk};
 ghost use Rattle.keyman_run.specs.Endings.{sound_line};
 ghost use Rattle.keyman_run.specs.Orders.{keys_work};
 ghost use Rattle.keyman_run.specs.Reasons.{place_line};
-ghost use Rattle.keyman_run.specs.Steps.{Gives, itself, layout_stop};
+ghost use Rattle.keyman_run.specs.Steps.{Gives, itself};
 
 use crate::preparing::{Stop, read_stop};
 use crate::reason::Reason;
@@ -33,22 +33,22 @@ pub fn read_keys<F: Folder>(
 ) -> Result<u32, Stop>
     ensures { Gives itself (keys_work tables.now name.now) F.Folder folder.old folder.new result }
 {
-    match folder.read(alloc, name, TEXT_BYTES) {
-        Ok(layout) => match check_layout(alloc, layout.as_slice(), tables) {
-            Ok(count) => Ok(count),
-            Err(error) => Err(layout_stop(error)),
-        },
-        Err(error) => Err(read_stop(error, LONG_LAYOUT)),
-    }
+    let layout = folder
+        .read(alloc, name, TEXT_BYTES)
+        .map_err(|error| read_stop(error, LONG_LAYOUT))?;
+    Ok(check_layout(alloc, layout.as_slice(), tables)?)
 }
 
-/// Why a run stops where a layout breaks a rule.
-fn layout_stop(error: LayoutError) -> Stop
-    ensures { result ≡ layout_stop error }
-{
-    match error {
-        LayoutError::Refused(fault) => Stop::Refused(Reason::Layout(fault)),
-        LayoutError::Memory => Stop::Memory,
+impl From<LayoutError> for Stop {
+    ghost use Rattle.keyman_run.specs.Steps.{layout_stop};
+
+    ghost from_gives = { λ error given. given ≡ layout_stop error };
+
+    fn from(error: LayoutError) -> Stop {
+        match error {
+            LayoutError::Refused(fault) => Stop::Refused(Reason::Layout(fault)),
+            LayoutError::Memory => Stop::Memory,
+        }
     }
 }
 

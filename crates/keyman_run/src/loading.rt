@@ -14,7 +14,7 @@ ghost use Rattle.rule_model.specs.Event.{whole_text};
 ghost use Rattle.keyman_run.specs.Loads.{job_of, load_job, program_job, script_job, file_part, load_line, play_part, played_load, sums_of, sums_left, no_progress, LeadsTo};
 ghost use Rattle.keyman_run.specs.Steps.{IsCompiled, States, itself, prepared_job};
 
-use crate::preparing::{Prepared, Stop, compile_stop, key_names, script_stop};
+use crate::preparing::{Prepared, Stop, key_names};
 use crate::reason::Reason;
 use kmn_base::{Code, Event, Memory, Seq, Text};
 use kmn_compiler::{Compiled, back, front};
@@ -50,18 +50,9 @@ pub struct Progress {
 pub fn played_load(alloc: Global, number: u32) -> Result<Text, Stop>
     ensures { States itself (played_load number) result }
 {
-    let prepared = match prepare_load(alloc, number) {
-        Ok(prepared) => prepared,
-        Err(stop) => return Err(stop),
-    };
-    let sums = match play_load(alloc, &prepared) {
-        Ok(sums) => sums,
-        Err(stop) => return Err(stop),
-    };
-    match load_line(alloc, number, &prepared.compiled, sums) {
-        Ok(line) => Ok(line),
-        Err(Memory) => Err(Stop::Memory),
-    }
+    let prepared = prepare_load(alloc, number)?;
+    let sums = play_load(alloc, &prepared)?;
+    Ok(load_line(alloc, number, &prepared.compiled, sums)?)
 }
 
 /// Makes and compiles the load of a number, and reads its script.
@@ -82,10 +73,8 @@ fn prepare_texts(alloc: Global, source: &[u8], script: &[u8]) -> Result<Prepared
     ensures compiled { IfOk result (λ prepared. IsCompiled prepared.compiled) }
     ensures states { States prepared_job (job_of source.now script.now) result }
 {
-    match front(alloc, source) {
-        Ok(checked) => prepare_checked(alloc, &checked, script),
-        Err(error) => Err(compile_stop(error)),
-    }
+    let checked = front(alloc, source)?;
+    prepare_checked(alloc, &checked, script)
 }
 
 /// Compiles a checked program without a picture, and reads a script for it.
@@ -93,10 +82,8 @@ fn prepare_checked(alloc: Global, checked: &Checked, script: &[u8]) -> Result<Pr
     ensures compiled { IfOk result (λ prepared. IsCompiled prepared.compiled) }
     ensures states { States prepared_job (program_job checked.now script.now) result }
 {
-    match back(alloc, checked, &[]) {
-        Ok(compiled) => with_script(alloc, compiled, script, key_names(checked)),
-        Err(error) => Err(compile_stop(error)),
-    }
+    let compiled = back(alloc, checked, &[])?;
+    with_script(alloc, compiled, script, key_names(checked))
 }
 
 /// Reads a script for a compiled keyboard with these names of keys.
@@ -110,10 +97,8 @@ fn with_script(
     ensures compiled { IfOk result (λ prepared. IsCompiled prepared.compiled) }
     ensures states { States prepared_job (script_job compiled names.now script.now) result }
 {
-    match read_script(alloc, script, names) {
-        Ok(entries) => Ok(Prepared { compiled, entries }),
-        Err(error) => Err(script_stop(error)),
-    }
+    let entries = read_script(alloc, script, names)?;
+    Ok(Prepared { compiled, entries })
 }
 
 /// Verifies a compiled keyboard, plays the script on it, and counts.
@@ -134,16 +119,10 @@ fn play_load(alloc: Global, prepared: &Prepared) -> Result<Sums, Stop>
 fn count_play<'a>(alloc: Global, file: &'a Verified<'a>, entries: &[Entry]) -> Result<Sums, Stop>
     ensures { States itself (sums_of (trace (tab (tables_of file.now)) (events_of entries.now))) result }
 {
-    let mut session = match Session::start(alloc, file) {
-        Ok(session) => session,
-        Err(Memory) => return Err(Stop::Memory),
-    };
+    let mut session = Session::start(alloc, file)?;
     let mut progress = no_progress();
     for entry in entries {
-        match count_entry(alloc, &mut session, progress, entry) {
-            Ok(next) => progress = next,
-            Err(stop) => return Err(stop),
-        }
+        progress = count_entry(alloc, &mut session, progress, entry)?;
     }
     Ok(Sums {
         events: progress.events,

@@ -3,7 +3,7 @@ ghost use Rattle.rule_model.specs.Src.{src};
 ghost use Rattle.rule_model.specs.Tab.{tab};
 ghost use Rattle.kmn_compiler.specs.Picture.{picture_name};
 ghost use Rattle.keyman_run.specs.Orders.{bytes_work, compiled_work, file_work, job_work, picture_work, script_work, source_work};
-ghost use Rattle.keyman_run.specs.Steps.{Gives, IsCompiled, itself, prepared_job, compile_stop, script_stop, first_line, read_stop};
+ghost use Rattle.keyman_run.specs.Steps.{Gives, IsCompiled, itself, prepared_job, first_line, read_stop};
 
 use crate::neighbours::beside;
 use crate::reason::Reason;
@@ -25,6 +25,43 @@ pub enum Stop {
     Refused(Reason),
     ReadFault,
     Memory,
+}
+
+impl From<Memory> for Stop {
+    ghost use Rattle.keyman_run.specs.declared.preparing.Stop.TheVariants as stop;
+
+    ghost from_gives = { λ _ given. given ≡ stop.Memory };
+
+    fn from(_memory: Memory) -> Stop {
+        Stop::Memory
+    }
+}
+
+impl From<CompileError> for Stop {
+    ghost use Rattle.keyman_run.specs.Steps.{compile_stop};
+
+    ghost from_gives = { λ error given. given ≡ compile_stop error };
+
+    fn from(error: CompileError) -> Stop {
+        match error {
+            CompileError::Refused(refusal) => Stop::Refused(Reason::Line(refusal)),
+            CompileError::TooLarge { code, size } => Stop::Refused(Reason::Size { code, size }),
+            CompileError::Memory => Stop::Memory,
+        }
+    }
+}
+
+impl From<ScriptError> for Stop {
+    ghost use Rattle.keyman_run.specs.Steps.{script_stop};
+
+    ghost from_gives = { λ error given. given ≡ script_stop error };
+
+    fn from(error: ScriptError) -> Stop {
+        match error {
+            ScriptError::Refused(refusal) => Stop::Refused(Reason::Line(refusal)),
+            ScriptError::Memory => Stop::Memory,
+        }
+    }
 }
 
 /// A compiled keyboard, and the script to play on it.
@@ -50,18 +87,10 @@ pub fn prepare<F: Folder>(
     ensures compiled { IfOk result (λ prepared. IsCompiled prepared.compiled) }
     ensures gives { Gives prepared_job (job_work source.now keys.now) F.Folder folder.old folder.new result }
 {
-    let checked = match read_source(alloc, source, folder) {
-        Ok(checked) => checked,
-        Err(stop) => return Err(stop),
-    };
-    let compiled = match compile_beside(alloc, source, &checked, folder) {
-        Ok(compiled) => compiled,
-        Err(stop) => return Err(stop),
-    };
-    match read_entries(alloc, keys, key_names(&checked), folder) {
-        Ok(entries) => Ok(Prepared { compiled, entries }),
-        Err(stop) => Err(stop),
-    }
+    let checked = read_source(alloc, source, folder)?;
+    let compiled = compile_beside(alloc, source, &checked, folder)?;
+    let entries = read_entries(alloc, keys, key_names(&checked), folder)?;
+    Ok(Prepared { compiled, entries })
 }
 
 /// Reads and compiles the source of a name, with the picture that it names.
@@ -73,23 +102,18 @@ pub fn read_and_compile<F: Folder>(
     ensures compiled { IfOk result IsCompiled }
     ensures gives { Gives itself (compiled_work name.now) F.Folder folder.old folder.new result }
 {
-    match read_source(alloc, name, folder) {
-        Ok(checked) => compile_beside(alloc, name, &checked, folder),
-        Err(stop) => Err(stop),
-    }
+    let checked = read_source(alloc, name, folder)?;
+    compile_beside(alloc, name, &checked, folder)
 }
 
 /// Reads and checks the source of a name.
 fn read_source<F: Folder>(alloc: Global, name: &[u8], folder: &mut F) -> Result<Checked, Stop>
     ensures { Gives itself (source_work name.now) F.Folder folder.old folder.new result }
 {
-    match folder.read(alloc, name, TEXT_BYTES) {
-        Ok(source) => match front(alloc, source.as_slice()) {
-            Ok(checked) => Ok(checked),
-            Err(error) => Err(compile_stop(error)),
-        },
-        Err(error) => Err(read_stop(error, first_line(Code::L05))),
-    }
+    let source = folder
+        .read(alloc, name, TEXT_BYTES)
+        .map_err(|error| read_stop(error, first_line(Code::L05)))?;
+    Ok(front(alloc, source.as_slice())?)
 }
 
 /// Reads the picture of the program of a source, and compiles both.
@@ -102,14 +126,8 @@ fn compile_beside<F: Folder>(
     ensures compiled { IfOk result IsCompiled }
     ensures gives { Gives itself (file_work source.now checked.now) F.Folder folder.old folder.new result }
 {
-    let picture = match read_picture(alloc, source, checked, folder) {
-        Ok(picture) => picture,
-        Err(stop) => return Err(stop),
-    };
-    match back(alloc, checked, picture.as_slice()) {
-        Ok(compiled) => Ok(compiled),
-        Err(error) => Err(compile_stop(error)),
-    }
+    let picture = read_picture(alloc, source, checked, folder)?;
+    Ok(back(alloc, checked, picture.as_slice())?)
 }
 
 /// Reads the picture that a program names, which stands beside its source; no bytes where it names none.
@@ -121,10 +139,9 @@ fn read_picture<F: Folder>(
 ) -> Result<Seq<u8>, Stop>
     ensures { Gives itself (picture_work source.now (picture_name checked.now)) F.Folder folder.old folder.new result }
 {
-    match picture_name(alloc, checked) {
-        Ok(Some(name)) => read_named_picture(alloc, source, name.as_slice(), folder),
-        Ok(None) => Ok(Seq::new(alloc)),
-        Err(Memory) => Err(Stop::Memory),
+    match picture_name(alloc, checked)? {
+        Some(name) => read_named_picture(alloc, source, name.as_slice(), folder),
+        None => Ok(Seq::new(alloc)),
     }
 }
 
@@ -137,13 +154,10 @@ fn read_named_picture<F: Folder>(
 ) -> Result<Seq<u8>, Stop>
     ensures { Gives itself (picture_work source.now (Some picture.now)) F.Folder folder.old folder.new result }
 {
-    let Ok(name) = beside(alloc, source, picture) else {
-        return Err(Stop::Memory);
-    };
-    match folder.read(alloc, name.as_slice(), PICTURE_BYTES) {
-        Ok(picture) => Ok(picture),
-        Err(error) => Err(read_stop(error, LONG_PICTURE)),
-    }
+    let name = beside(alloc, source, picture)?;
+    folder
+        .read(alloc, name.as_slice(), PICTURE_BYTES)
+        .map_err(|error| read_stop(error, LONG_PICTURE))
 }
 
 /// The names of a program's own keys.
@@ -164,13 +178,10 @@ fn read_entries<F: Folder>(
 ) -> Result<Seq<Entry>, Stop>
     ensures { Gives itself (script_work names.now keys.now) F.Folder folder.old folder.new result }
 {
-    match folder.read(alloc, keys, TEXT_BYTES) {
-        Ok(script) => match read_script(alloc, script.as_slice(), names) {
-            Ok(entries) => Ok(entries),
-            Err(error) => Err(script_stop(error)),
-        },
-        Err(error) => Err(read_stop(error, first_line(Code::P06))),
-    }
+    let script = folder
+        .read(alloc, keys, TEXT_BYTES)
+        .map_err(|error| read_stop(error, first_line(Code::P06)))?;
+    Ok(read_script(alloc, script.as_slice(), names)?)
 }
 
 /// Why a compiled file that passes its limit is refused.
@@ -184,10 +195,9 @@ const LONG_FILE: Reason = Reason::File(Fault {
 pub fn read_file<F: Folder>(alloc: Global, name: &[u8], folder: &mut F) -> Result<Seq<u8>, Stop>
     ensures { Gives itself (bytes_work name.now) F.Folder folder.old folder.new result }
 {
-    match folder.read(alloc, name, FILE_BYTES) {
-        Ok(bytes) => Ok(bytes),
-        Err(error) => Err(read_stop(error, LONG_FILE)),
-    }
+    folder
+        .read(alloc, name, FILE_BYTES)
+        .map_err(|error| read_stop(error, LONG_FILE))
 }
 
 /// The names of the own keys of a session's file.
@@ -214,27 +224,6 @@ fn first_line(code: Code) -> Reason
     ensures { result ≡ first_line code }
 {
     Reason::Line(Refusal { line: 1, code })
-}
-
-/// Why a run stops where a source was not compiled.
-pub fn compile_stop(error: CompileError) -> Stop
-    ensures { result ≡ compile_stop error }
-{
-    match error {
-        CompileError::Refused(refusal) => Stop::Refused(Reason::Line(refusal)),
-        CompileError::TooLarge { code, size } => Stop::Refused(Reason::Size { code, size }),
-        CompileError::Memory => Stop::Memory,
-    }
-}
-
-/// Why a run stops where a script breaks a rule.
-pub fn script_stop(error: ScriptError) -> Stop
-    ensures { result ≡ script_stop error }
-{
-    match error {
-        ScriptError::Refused(refusal) => Stop::Refused(Reason::Line(refusal)),
-        ScriptError::Memory => Stop::Memory,
-    }
 }
 
 /// Why a run stops where an input was not read. A longer one than its limit is refused for this reason.

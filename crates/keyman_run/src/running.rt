@@ -141,10 +141,7 @@ fn tell_valid<S: Sink>(alloc: Global, file: &Verified<'_>, out: &mut S) -> Statu
     let Ok(line) = valid_line(alloc, file) else {
         return Status::Memory;
     };
-    match put_all(out, line.as_slice()) {
-        Ok(()) => Status::Done,
-        Err(error) => write_status(error),
-    }
+    tell_line(line.as_slice(), Status::Done, out)
 }
 
 /// Decompiles a file, writes its text and prints the text's size.
@@ -174,10 +171,7 @@ fn tell_decompiled<S: Sink>(alloc: Global, text: &Text, out: &mut S) -> Status
     let Ok(line) = decompiled_line(alloc, text) else {
         return Status::Memory;
     };
-    match put_all(out, line.as_slice()) {
-        Ok(()) => Status::Done,
-        Err(error) => write_status(error),
-    }
+    tell_line(line.as_slice(), Status::Done, out)
 }
 
 /// Plays a script on a compiled file, whoever made it.
@@ -288,10 +282,7 @@ fn tell_sound<S: Sink>(alloc: Global, count: u32, out: &mut S) -> Status
     let Ok(line) = sound_line(alloc, count) else {
         return Status::Memory;
     };
-    match put_all(out, line.as_slice()) {
-        Ok(()) => Status::Done,
-        Err(error) => write_status(error),
-    }
+    tell_line(line.as_slice(), Status::Done, out)
 }
 
 /// Makes, compiles and plays a load, and prints its line.
@@ -299,18 +290,18 @@ fn load<S: Sink>(alloc: Global, number: u32, out: &mut S) -> Status
     ensures { TellsLoad (load_text number) S.Sink out.old out.new result }
 {
     match played_load(alloc, number) {
-        Ok(line) => tell_load(line.as_slice(), out),
+        Ok(line) => tell_line(line.as_slice(), Status::Done, out),
         Err(stop) => tell_stop(alloc, stop, out),
     }
 }
 
-/// Prints the line of a load.
-#[tactic(auto, using(play_transcript::proofs::PrintingLaws::none_begun))]
-fn tell_load<S: Sink>(line: &[u8], out: &mut S) -> Status
-    ensures { Tells Status.Done line.now S.Sink out.old out.new result }
+/// Prints a line, and ends with this status.
+fn tell_line<S: Sink>(line: &[u8], status: Status, out: &mut S) -> Status
+    requires { (status ≡ Status.Done) ⊎ (status ≡ Status.Refused) }
+    ensures { Tells status line.now S.Sink out.old out.new result }
 {
     match put_all(out, line) {
-        Ok(()) => Status::Done,
+        Ok(()) => status,
         Err(error) => write_status(error),
     }
 }
@@ -370,10 +361,7 @@ fn tell_compiled<S: Sink>(alloc: Global, compiled: &Compiled, out: &mut S) -> St
     let Ok(line) = compiled_line(alloc, compiled) else {
         return Status::Memory;
     };
-    match put_all(out, line.as_slice()) {
-        Ok(()) => Status::Done,
-        Err(error) => write_status(error),
-    }
+    tell_line(line.as_slice(), Status::Done, out)
 }
 
 /// Plays the script on the file that was written.
@@ -399,10 +387,7 @@ fn refuse<S: Sink>(alloc: Global, why: Reason, out: &mut S) -> Status
     let Ok(line) = reason_line(alloc, why) else {
         return Status::Memory;
     };
-    match put_all(out, line.as_slice()) {
-        Ok(()) => Status::Refused,
-        Err(error) => write_status(error),
-    }
+    tell_line(line.as_slice(), Status::Refused, out)
 }
 
 /// The status of a run that ends with a play.

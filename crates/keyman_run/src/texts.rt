@@ -7,7 +7,7 @@ ghost use Rattle.keyman_run.specs.Endings.{decompiled_line};
 ghost use Rattle.keyman_run.specs.Inputs.{text_of_file};
 ghost use Rattle.keyman_run.specs.Orders.{text_work};
 ghost use Rattle.keyman_run.specs.Reasons.{spelling_line};
-ghost use Rattle.keyman_run.specs.Steps.{Gives, States, itself, text_stop};
+ghost use Rattle.keyman_run.specs.Steps.{Gives, States, itself};
 
 use crate::preparing::{Stop, read_file};
 use crate::reason::Reason;
@@ -22,10 +22,8 @@ use std::alloc::{AllocError, Global};
 pub fn read_text<F: Folder>(alloc: Global, name: &[u8], folder: &mut F) -> Result<Text, Stop>
     ensures { Gives itself (text_work name.now) F.Folder folder.old folder.new result }
 {
-    match read_file(alloc, name, folder) {
-        Ok(bytes) => text_of(alloc, bytes.as_slice()),
-        Err(stop) => Err(stop),
-    }
+    let bytes = read_file(alloc, name, folder)?;
+    text_of(alloc, bytes.as_slice())
 }
 
 /// The text that the bytes of a file go back to.
@@ -33,22 +31,22 @@ fn text_of(alloc: Global, bytes: &[u8]) -> Result<Text, Stop>
     ensures { States itself (text_of_file bytes.now) result }
 {
     match verify(alloc, bytes) {
-        Ok(file) => match decompile(alloc, &file) {
-            Ok(text) => Ok(text),
-            Err(error) => Err(text_stop(error)),
-        },
+        Ok(file) => Ok(decompile(alloc, &file)?),
         Err(VerifyError::Refused(fault)) => Err(Stop::Refused(Reason::File(fault))),
         Err(VerifyError::Memory) => Err(Stop::Memory),
     }
 }
 
-/// Why a run stops where a file has no text.
-fn text_stop(error: DecompileError) -> Stop
-    ensures { result ≡ text_stop error }
-{
-    match told(error) {
-        Some(why) => Stop::Refused(Reason::Text(why)),
-        None => Stop::Memory,
+impl From<DecompileError> for Stop {
+    ghost use Rattle.keyman_run.specs.Steps.{text_stop};
+
+    ghost from_gives = { λ error given. given ≡ text_stop error };
+
+    fn from(error: DecompileError) -> Stop {
+        match told(error) {
+            Some(why) => Stop::Refused(Reason::Text(why)),
+            None => Stop::Memory,
+        }
     }
 }
 

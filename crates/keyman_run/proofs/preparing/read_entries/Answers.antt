@@ -1,25 +1,32 @@
-use Rattle.std.proofs.Common.{◌≡◌, List, ℕ, Ok, Err, refl, subst}
+use Rattle.std.proofs.Common.{◌≡◌, List, ℕ, Ok, Err, refl, rules, subst}
 use Rattle.kmn_base.specs.declared.codes.Code.TheVariants.{P06}
 use Rattle.kmn_base.specs.declared.limits.TheConstants.{TEXT_BYTES}
 use Rattle.play_script.specs.Answers.{Answers}
 use Rattle.play_script.specs.Entries.{entries}
 use Rattle.keyman_run.specs.Inputs.{script_of}
-use Rattle.keyman_run.specs.Steps.{itself, first_line}
-use Rattle.keyman_run.proofs.InputLaws.{gives_answered, gives_unread, given_concludes, value_stated, broken_stated}
+use Rattle.keyman_run.specs.Orders.{script_work}
+use Rattle.keyman_run.specs.Steps.{itself, first_line, script_stop}
+use Rattle.keyman_run.proofs.InputLaws.{IsStopped, gives_stop, gives_whole, given_concludes, value_stated, broken_stated}
+use Rattle.keyman_run.proofs.RunLaws.{gives_handed}
 use Rattle.keyman_run.proofs.preparing.read_entries.Goals as goal
 
-pub returns-in-Ok-read_script : goal.returns-in-Ok-read_script
-returns-in-Ok-read_script g c =
-    gives_answered itself c.args.keys.now TEXT_BYTES _ _ g.F.Folder c.args.folder.now _ c.in-Ok.script _ (given_concludes (script_of c.args.names.now)) c.in-Ok.ensures.counts c.in-Ok.ensures.told c.in-Ok.ensures.reads
-    (value_stated (entries c.args.names.now c.in-Ok.script) c.in-Ok-read_script.entries
-    (subst (λ (script : List ℕ). entries c.args.names.now script ≡ Ok c.in-Ok-read_script.entries) c.as_slice.ensures c.in-Ok-read_script.ensures))
+pub returns-in_err-script : goal.returns-in_err-script
+returns-in_err-script g c =
+    let is : IsStopped (first_line P06) c.read.result (Err c.in_err-script.field-0.0) = search rules in
+    gives_stop itself c.args.keys.now TEXT_BYTES _ _ (first_line P06) g.F.Folder c.args.folder.now _ c.read.result c.in_err-script.field-0.0 c.from_residual.result is c.from_residual.ensures.1
+    (given_concludes (script_of c.args.names.now)) refl c.read.ensures.counts c.read.ensures.told c.read.ensures.reads
 
-pub returns-in-Ok : goal.returns-in-Ok
-returns-in-Ok g c = rw c.script_stop.ensures
-    (gives_answered itself c.args.keys.now TEXT_BYTES _ _ g.F.Folder c.args.folder.now _ c.in-Ok.script _ (given_concludes (script_of c.args.names.now)) c.in-Ok.ensures.counts c.in-Ok.ensures.told c.in-Ok.ensures.reads
-    (broken_stated (entries c.args.names.now c.in-Ok.script) c.in-Err-read_script.error
-    (subst (λ (script : List ℕ). Answers (entries c.args.names.now script) (Err c.in-Err-read_script.error)) c.as_slice.ensures c.in-Err-read_script.ensures)))
+pub returns-in_err-read_script : goal.returns-in_err-read_script
+returns-in_err-read_script g c =
+    let is : c.read.result ≡ Ok c.in_ok-script.script = search rules in
+    gives_handed itself (script_work c.args.names.now c.args.keys.now) g.F.Folder _ _ (script_stop c.in_err-read_script.field-0.0) c.from_residual-in_err-read_script.result c.from_residual-in_err-read_script.ensures.1
+    (gives_whole itself c.args.keys.now TEXT_BYTES _ _ g.F.Folder c.args.folder.now _ c.read.result c.in_ok-script.script _ is (given_concludes (script_of c.args.names.now)) c.read.ensures.counts c.read.ensures.told c.read.ensures.reads
+    (broken_stated (entries c.args.names.now c.in_ok-script.script) c.in_err-read_script.field-0.0
+    (subst (λ (script : List ℕ). Answers (entries c.args.names.now script) (Err c.in_err-read_script.field-0.0)) c.as_slice.ensures c.in_err-read_script.ensures)))
 
 pub returns : goal.returns
-returns g c = rw (c.read_stop.ensures, c.first_line.ensures)
-    (gives_unread itself c.args.keys.now TEXT_BYTES _ _ (first_line P06) g.F.Folder c.args.folder.now _ c.in-Err.error (given_concludes (script_of c.args.names.now)) refl c.in-Err.ensures.counts c.in-Err.ensures.told c.in-Err.ensures.reads)
+returns g c =
+    let is : c.read.result ≡ Ok c.in_ok-script.script = search rules in
+    gives_whole itself c.args.keys.now TEXT_BYTES _ _ g.F.Folder c.args.folder.now _ c.read.result c.in_ok-script.script _ is (given_concludes (script_of c.args.names.now)) c.read.ensures.counts c.read.ensures.told c.read.ensures.reads
+    (value_stated (entries c.args.names.now c.in_ok-script.script) c.in_ok-read_script.field-0
+    (subst (λ (script : List ℕ). entries c.args.names.now script ≡ Ok c.in_ok-read_script.field-0) c.as_slice.ensures c.in_ok-read_script.ensures))
