@@ -72,9 +72,9 @@ fn ended(
 fn write_text(out: &mut String, text: &str) -> Result<(), AllocError> {
     for c in text.chars() {
         match c {
-            '~' => out.push('\n')?,
-            '^' => out.push('\r')?,
-            '§' => out.push('\u{FEFF}')?,
+            '¶' => out.push('\n')?,
+            '␍' => out.push('\r')?,
+            '⌖' => out.push('\u{FEFF}')?,
             '@' => out.push_str("begin Unicode > use(main)\ngroup(main) using keys\n")?,
             _ => out.push(c)?,
         }
@@ -216,6 +216,7 @@ fn is_right(alloc: Global, row: &Run) -> Result<bool, Fail> {
 
 /// Fails at the first run of a table that isn't right.
 fn check_runs(rt: &(impl Abort + Alloc<A = Global>), table: &str) -> Result<(), Fail> {
+    let table = table.replace(rt.alloc(), "\\\n", "")?;
     let mut lines = table.lines();
     while let Some(words) = lines.next() {
         let row = Run {
@@ -252,7 +253,7 @@ fn runs_on_files(rt: HostRuntime) -> Result<(), Fail> {
 
 /// Whether the first source is compiled to these bytes.
 fn is_compiled_to(alloc: Global, file: &[u8]) -> Result<bool, Fail> {
-    Ok(compiled(alloc, "@+ 'a' > 'b'~")?.as_slice() == file)
+    Ok(compiled(alloc, "@+ 'a' > 'b'¶")?.as_slice() == file)
 }
 
 #[test]
@@ -263,7 +264,7 @@ fn first_file(rt: HostRuntime) -> Result<(), Fail> {
 
 /// Whether the file of the first source is decompiled to this text.
 fn is_decompiled_to(alloc: Global, text: &[u8]) -> Result<bool, Fail> {
-    let file = compiled(alloc, "@+ 'a' > 'b'~")?;
+    let file = compiled(alloc, "@+ 'a' > 'b'¶")?;
     let mut folder = folder(alloc, "", file.as_slice(), "", 0)?;
     let mut sink = MemorySink::new(alloc, Seq::new(alloc));
     ended(alloc, "decompile a.kmx out", &mut folder, &mut sink)?;
@@ -289,7 +290,7 @@ fn is_refused_behind(alloc: Global, count: u32, last: &str, printed: &str) -> Re
         alloc,
         &Run {
             words: "test a.kmn out a.keys",
-            source: "@+ 'a' > 'b'~",
+            source: "@+ 'a' > 'b'¶",
             script: script.as_str(),
             ends: "1 122",
             printed,
@@ -300,16 +301,16 @@ fn is_refused_behind(alloc: Global, count: u32, last: &str, printed: &str) -> Re
 /// A text that grows to its limit: the key that finds too long a text is refused, and the edit that would make one.
 #[test]
 fn long_texts(rt: HostRuntime) -> Result<(), Fail> {
-    let printed = "?243 del=0 ins=- pass=0 beep=0 ent=0 ctx=-~refused E2 event 244~";
+    let printed = "?243 del=0 ins=- pass=0 beep=0 ent=0 ctx=-¶refused E2 event 244¶";
     assert!(rt; is_refused_behind(rt.alloc(), 243, "[K_A]\n", printed)?);
-    let printed = "?244 del=0 ins=- pass=0 beep=0 ent=0 ctx=-~refused E2 event 245~";
+    let printed = "?244 del=0 ins=- pass=0 beep=0 ent=0 ctx=-¶refused E2 event 245¶";
     assert!(rt; is_refused_behind(rt.alloc(), 245, "", printed)?);
     Ok(())
 }
 
 /// Whether a picture that passes its limit by one byte is refused, and nothing written.
 fn is_long_picture_refused(alloc: Global) -> Result<bool, Fail> {
-    let source = written_out(alloc, "store(&bitmap) 'p.ico'~@+ 'a' > 'b'~")?;
+    let source = written_out(alloc, "store(&bitmap) 'p.ico'¶@+ 'a' > 'b'¶")?;
     let mut picture = Vec::new(alloc);
     for _ in 0..1_048_577 {
         picture.push(0)?;

@@ -12,21 +12,26 @@ pub fn name_of(alloc: Global, text: &str) -> Result<Text, Memory>
     Seq::from_slice(alloc, text.as_bytes())
 }
 
-/// The text that a text of a table stands for: ¶ is LF, § CR, ¬ a tab, † U+FEFF, · U+00A0, ° U+0000 and ‡ U+FFFF.
+/// The character that one of a table stands for: `¶` is a line feed, `␍` a carriage return, `␉` a tab, `␀` U+0000, `␡` U+FFFF,
+/// `⌖` U+FEFF and `·` U+00A0; any other is itself.
+pub fn character(c: char) -> char {
+    match c {
+        '¶' => '\n',
+        '␍' => '\r',
+        '␉' => '\t',
+        '␀' => '\0',
+        '␡' => '\u{FFFF}',
+        '⌖' => '\u{FEFF}',
+        '·' => '\u{A0}',
+        other => other,
+    }
+}
+
+/// The text that a text of a table stands for.
 pub fn source_of(alloc: Global, text: &str) -> Result<String, AllocError> {
     let mut source = String::new(alloc);
     for c in text.chars() {
-        let meant = match c {
-            '¶' => '\n',
-            '§' => '\r',
-            '¬' => '\t',
-            '†' => '\u{FEFF}',
-            '·' => '\u{A0}',
-            '°' => '\0',
-            '‡' => '\u{FFFF}',
-            _ => c,
-        };
-        source.push(meant)?;
+        source.push(character(c))?;
     }
     Ok(source)
 }

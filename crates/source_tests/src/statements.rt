@@ -1,9 +1,9 @@
 //! Sources, each with the first refusal that it gets or with what it states. In a row, what stands before the first `:`
 //! opens the source: `K` two lines with the group `main` that uses keys, `G` one line with a group that uses none, `A`
-//! nothing. Then comes the source's text, and behind ` ⇒ ` the answer. In the text `¶` is a line feed, `␍` a carriage
-//! return, `␉` a tab, `␀` U+0000, `␡` U+FFFF, and `⌖` U+FEFF. What a source states is told without its opening,
-//! statement by statement with its line; characters are hexadecimal.
+//! nothing. Then comes the source's text, whose signs `character` reads, and behind ` ⇒ ` the answer. What a source states
+//! is told without its opening, statement by statement with its line; characters are hexadecimal.
 
+use crate::fixtures::character;
 use kmn_base::{Code, CompileError, Refusal, Seq};
 use kmn_parser::parse;
 use rule_model::{BeginDef, GroupDef, KeyName, Program, RuleDef, RuleKind, SrcItem, StoreDef};
@@ -203,11 +203,15 @@ A:store(&names) 'x' ⇒ S12 1
 A:store(a) ⇒ 1 store a:
 A:store(\) 'x' ⇒ 1 store \: 78
 A:STORE(A) 'x'¶Begin UNICODE > USE(A)¶begin ansi > use(B)¶GROUP(a) Using Keys ⇒ 1 store A: 78; 2 Unicode A; 3 ANSI B; 4 group a keys
-A:store(&bitmap) 'a'¶store(&Copyright)¶store(&HOTKEY)¶store(&message)¶store(&name)¶store(&version)¶store(&mnemoniclayout) ⇒ 1 store 1: 61; 2 store 2:; 3 store 3:; 4 store 6:; 5 store 7:; 6 store 8:; 7 store 17:
+A:store(&bitmap) 'a'¶store(&Copyright)¶store(&HOTKEY)¶store(&message) ⇒ 1 store 1: 61; 2 store 2:; 3 store 3:; 4 store 6:
+A:store(&name)¶store(&version)¶store(&mnemoniclayout) ⇒ 1 store 7:; 2 store 8:; 3 store 17:
 A:store(&visualkeyboard)¶store(&layoutfile)¶store(&keyboardversion)¶store(&targets) ⇒ 1 store 24:; 2 store 35:; 3 store 36:; 4 store 38:
-A:store(&casedkeys)¶store(&includecodes)¶store(&capsalwaysoff)¶store(&capsononly)¶store(&shiftfreescaps) ⇒ 1 store 65534:; 2 store 65534:; 3 store 65534:; 4 store 65534:; 5 store 65534:
-A:store(&ethnologuecode)¶store(&windowslanguages)¶store(&language)¶store(&layout)¶store(&languagename)¶store(&displaymap) ⇒ 1 store 65535:; 2 store 65535:; 3 store 65535:; 4 store 65535:; 5 store 65535:; 6 store 65535:
-A:store(&kmw_rtl)¶store(&kmw_helpfile)¶store(&kmw_helptext)¶store(&kmw_embedjs)¶store(&kmw_embedcss) ⇒ 1 store 65535:; 2 store 65535:; 3 store 65535:; 4 store 65535:; 5 store 65535:
+A:store(&casedkeys)¶store(&includecodes) ⇒ 1 store 65534:; 2 store 65534:
+A:store(&capsalwaysoff)¶store(&capsononly)¶store(&shiftfreescaps) ⇒ 1 store 65534:; 2 store 65534:; 3 store 65534:
+A:store(&ethnologuecode)¶store(&windowslanguages)¶store(&language) ⇒ 1 store 65535:; 2 store 65535:; 3 store 65535:
+A:store(&layout)¶store(&languagename)¶store(&displaymap) ⇒ 1 store 65535:; 2 store 65535:; 3 store 65535:
+A:store(&kmw_rtl)¶store(&kmw_helpfile)¶store(&kmw_helptext) ⇒ 1 store 65535:; 2 store 65535:; 3 store 65535:
+A:store(&kmw_embedjs)¶store(&kmw_embedcss) ⇒ 1 store 65535:; 2 store 65535:
 A:group(a)¶'x' > 'y'¶group(b)¶'z' > 'w'¶match > beep¶nomatch > nul ⇒ 1 group a; 2 78 > 79; 3 group b; 4 7A > 77; 5 match > beep; 6 nomatch > nul
 A:group(a) using keys¶+ 'x' > 'y'¶group(b)¶+ 'z' > 'w' ⇒ S07 4
 A:group(a)¶'x' > 'y'¶group(b) using keys¶'z' > 'w' ⇒ S08 4
@@ -359,14 +363,16 @@ K:'' nul + 'a' > 'b' ⇒ 3 nul + 61 > 62
 K:+ 'a' > d233 xE9 xe9 351 ⇒ 3 + 61 > E9 E9 E9 E9
 K:+ d97 > x1F600 ⇒ 3 + 61 > 1F600
 K:dk(x) deadkey(U+0041) + 'a' > DK(x) ⇒ 3 dk(x) dk(U+0041) + 61 > dk(x)
-K:any(s) notany(t) index(s, 1) context(000000001) + any(u) > index(s, 3) context context(2) ⇒ 3 any(s) notany(t) index(s,1) context(1) + any(u) > index(s,3) context context(2)
+K:any(s) notany(t) + any(u) > index(s, 3) context context(2) ⇒ 3 any(s) notany(t) + any(u) > index(s,3) context context(2)
+K:any(s) index(s, 1) context(000000001) + 'a' > 'b' ⇒ 3 any(s) index(s,1) context(1) + 61 > 62
 K:if(s = "v") if(t != 'ab') nul + 'a' > nul ⇒ 3 if(s=76) if(t!=61 62) nul + 61 > nul
 K:if(s!="v") + 'a' > set(s="") ⇒ 3 if(s!=76) + 61 > set(s=)
 K:+ 'a' > outs(s) $t use(g) set(s = "1") save(s) reset(s) beep return ⇒ 3 + 61 > outs(s) outs(t) use(g) set(s=31) save(s) reset(s) beep return
 K:+ 'a' > call(x) call(() call(')') ⇒ 3 + 61 > call(x) call(() call(')')
 K:+ 'a' > switch(x) clearcontext fix layer('x') set(&x = "v") [K_A] ⇒ 3 + 61 > - - - - - -
 K:platform('x') layer(x) baselayout(x) if(&x = "v") if(&x != "v") nul + 'a' > 'b' ⇒ 3 - - - - - nul + 61 > 62
-K:+ [K_A] > 'b'¶+ [shift ctrl k_b] > 'b'¶+ [T_flip] > 'b'¶+ [CAPS U_0061_0301] > 'b' ⇒ 3 + [4000 65] > 62; 4 + [4030 66] > 62; 5 + [4000 0 T_flip] > 62; 6 + [4100 0 U_0061_0301] > 62
+K:+ [K_A] > 'b'¶+ [shift ctrl k_b] > 'b' ⇒ 3 + [4000 65] > 62; 4 + [4030 66] > 62
+K:+ [T_flip] > 'b'¶+ [CAPS U_0061_0301] > 'b' ⇒ 3 + [4000 0 T_flip] > 62; 4 + [4100 0 U_0061_0301] > 62
 K:+ [SHIFT SHIFT K_A] > 'b'¶+ [NCAPS RALT LALT RCTRL LCTRL ALT K_oE2] > 'b' ⇒ 3 + [4010 65] > 62; 4 + [424F 226] > 62
 A:store(v) 'a' dk(x) [SHIFT K_A] outs(s) $t U+0042 d67 ⇒ 1 store v: 61 dk(x) [4010 65] outs(s) outs(t) 42 43
 K:match > context context(1) index(s, 1)¶nomatch > use(main) ⇒ 3 match > context context(1) index(s,1); 4 nomatch > use(main)
@@ -443,19 +449,6 @@ const SAMPLE_RULES: &str = "9 Unicode main; \
     29 nomatch > beep; \
     30 group after; \
     31 2D 2D > 2013";
-
-/// A character of a row's text.
-fn character(c: char) -> char {
-    match c {
-        '¶' => '\n',
-        '␍' => '\r',
-        '␉' => '\t',
-        '␀' => '\0',
-        '␡' => '\u{FFFF}',
-        '⌖' => '\u{FEFF}',
-        other => other,
-    }
-}
 
 /// What opens a row's source, and how many lines it has.
 fn opening(word: &str) -> (&'static str, u32) {

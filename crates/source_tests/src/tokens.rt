@@ -18,7 +18,7 @@ a+b=c,d!=e!f => [Word 1 a|Plus 1 +|Word 1 b|Equal 1 =|Word 1 c|Comma 1 ,|Word 1 
 ! !! !== a! !!= => [Word 1 !|Word 1 !!|Unequal 1 !=|Equal 1 =|Word 1 a!|Word 1 !|Unequal 1 !=|]
 'a"b' "c'd" => [Quoted 1 'a"b'|Quoted 1 "c'd"|]
 ab'c'd'' => [Word 1 ab|Quoted 1 'c'|Word 1 d|Quoted 1 ''|]
-a¬b => [Word 1 a|Word 1 b|]
+a␉b => [Word 1 a|Word 1 b|]
 a·b => [Word 1 a·b|]
 u+1F600 U+10FFFF U+D7FF U+E000 => [U 1F600 1 u+1F600|U 10FFFF 1 U+10FFFF|U D7FF 1 U+D7FF|U E000 1 U+E000|]
 U+0041( U+00e9'x' => [U 41 1 U+0041|Open 1 (|U E9 1 U+00e9|Quoted 1 'x'|]
@@ -35,7 +35,7 @@ U+0000000 => refused L04 line 1
 U+000041 => [U 41 1 U+000041|]
 U+0041x => refused L04 line 1
 U+0041U+0042 => refused L04 line 1
-U+0041° => refused L02 line 1
+U+0041␀ => refused L02 line 1
 U+0000 => refused L02 line 1
 U+000000 => refused L02 line 1
 U+FFFF => refused L02 line 1
@@ -46,10 +46,10 @@ a 'b¶'c' => refused L03 line 1[Quoted 2 'c'|]
 'a \¶'b' => refused L03 line 1[Quoted 2 'b'|]
 'a U+D800 => refused L03 line 1
 "a' => refused L03 line 1
-'° => refused L02 line 1
-'°' => refused L02 line 1
-'a' ‡ => refused L02 line 1
-a‡b => refused L02 line 1
+'␀ => refused L02 line 1
+'␀' => refused L02 line 1
+'a' ␡ => refused L02 line 1
+a␡b => refused L02 line 1
 U+D800 'a => refused L04 line 1
 'a' U+FFFF U+D800 => refused L02 line 1
 U+D800 U+FFFF => refused L04 line 1
@@ -62,8 +62,8 @@ outs( c ) => [Word 1 outs|Open 1 (|]
 abc d => [Word 1 abc|Word 1 d|]
 + 'a' > \¶'b' c x \¶+ 'c' > 'd' => [Plus 1 +|Quoted 1 'a'|Arrow 1 >|Quoted 2 'b'|][Plus 3 +|Quoted 3 'c'|Arrow 3 >|Quoted 3 'd'|]
 + 'a' > \ 'b' => [Plus 1 +|Quoted 1 'a'|Arrow 1 >|Word 1 \|Quoted 1 'b'|]
-†U+0041 => [U 41 1 U+0041|]
-††a => [Word 1 †a|]"#;
+⌖U+0041 => [U 41 1 U+0041|]
+⌖⌖a => [Word 1 ⌖a|]"#;
 
 fn show_token(
     alloc: Global,

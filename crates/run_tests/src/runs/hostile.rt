@@ -45,7 +45,7 @@ fn is_fault(
     printed: &str,
     size: Option<usize>,
 ) -> Result<bool, Fail> {
-    let mut folder = folder(alloc, "@+ 'a' > 'b'~", b"", "[K_A]~", calls.0)?;
+    let mut folder = folder(alloc, "@+ 'a' > 'b'¶", b"", "[K_A]¶", calls.0)?;
     let fails = Vec::from_slice(alloc, &[calls.1])?;
     let mut sink = MemorySink::new(alloc, Seq::from_vec(fails));
     let ends = ended(alloc, "test a.kmn out a.keys", &mut folder, &mut sink)?;
