@@ -3,8 +3,8 @@ use Rattle.std.proofs.Common.{◌≡◌, ℕ, zero, suc, ◌-◌, ◌<◌, nat_e
 use Rattle.std.proofs.lemmas.Grind.{common_steps}
 use Rattle.std.specs.Prelude.{position, option_and_then}
 use Rattle.kmn_base.specs.Bytes.{is_quote}
-use Rattle.play_script.specs.Words.{IsTight, without_blanks, first_word}
-use Rattle.play_script.specs.Strings.{code_point, string_token, quoted_token, written_token, tokens_chars}
+use Rattle.play_script.specs.Words.{IsTight, without_blanks}
+use Rattle.play_script.specs.Strings.{code_point, unquoted, string_token, quoted_token, written_token, tokens_chars}
 
 -- the tokens behind so many bytes
 pub tokens_behind : (n : ℕ) (text : List ℕ) → tokens_chars n text ≡ tokens_chars 0 (drop n text)
@@ -22,20 +22,20 @@ abbrev size_of : Option (List ℕ × ℕ) → ℕ
 size_of None = 1
 size_of (Some token) = token.1
 
-written_some : (word : List ℕ) (c : Option ℕ) → code_point word ≡ c → 0 < size_of (option_map {U = List ℕ × ℕ} (λ c. (c ∷ [], length word)) c)
+written_some : (written : List ℕ) (c : Option ℕ) → code_point written ≡ c → 0 < size_of (option_map {U = List ℕ × ℕ} (λ c. (c ∷ [], length written)) c)
 written_some [] None is = omega arith
 written_some [] (Some c) is = absurd (cc)
-written_some (b ∷ word) None is = omega arith
-written_some (b ∷ word) (Some c) is = omega arith
+written_some (b ∷ written) None is = omega arith
+written_some (b ∷ written) (Some c) is = omega arith
 
 quoted_some : (text : List ℕ) (end : Option ℕ) → 0 < size_of (quoted_token text end)
 quoted_some text None = omega arith
 quoted_some text (Some end) = omega arith
 
 begun_some : (quote : Bool) (c : ℕ) (text : List ℕ)
-    → 0 < size_of (if quote then quoted_token text (position (λ b. nat_eq b c) text) else written_token (first_word (c ∷ text)))
+    → 0 < size_of (if quote then quoted_token text (position (λ b. nat_eq b c) text) else written_token (unquoted (c ∷ text)))
 begun_some true c text = quoted_some text (position (λ b. nat_eq b c) text)
-begun_some false c text = written_some (first_word (c ∷ text)) (code_point (first_word (c ∷ text))) refl
+begun_some false c text = written_some (unquoted (c ∷ text)) (code_point (unquoted (c ∷ text))) refl
 
 some_token : (text : List ℕ) → 0 < size_of (string_token text)
 some_token [] = omega arith

@@ -1,20 +1,15 @@
 -- The first line of a text.
 use Rattle.std.proofs.Common.{◌≡◌, ℕ, ◌+◌, ◌<◌, ◌≤◌, not, Bool, nat_lt, if◌then◌else◌, Ok, Err, refl, false, true, inl, inr, List, [], ◌∷◌, length, length-drop, take, drop, suc, sym, ap, ◌∙◌, subst, arith}
 use Rattle.std.proofs.lemmas.Grind.{common_steps}
-use Rattle.std.proofs.lemmas.List.Sums.{prefix_len-le-length}
 use Rattle.std.proofs.lemmas.Bool.{cases_Bool, cases_lt}
 use Rattle.std.proofs.lemmas.Str.{is_utf8-from_IsUtf8, IsUtf8-from_is_utf8}
 use Rattle.std.specs.Str.{is_utf8}
 use Rattle.kmn_base.specs.declared.codes.Code.TheVariants.{P01}
 use Rattle.kmn_base.specs.declared.limits.TheConstants.{TEXT_BYTES}
 use Rattle.play_script.specs.Entries.{entries, entries_of, with_found, first_script, lines_found}
-use Rattle.std.specs.Prelude.{position, unwrap_or, ◌==◌, IsUtf8}
+use Rattle.std.specs.Prelude.{◌==◌, IsUtf8}
 use Rattle.std.specs.List.{position_or_len, onto_first}
 use Rattle.play_script.specs.Lines.{text_lines, is_end, end_size, without_mark}
-
--- the first line end stands there, or the text ends there
-pub place_of_end : (bytes : List ℕ) → unwrap_or (position is_end bytes) (length bytes) ≡ position_or_len is_end bytes
-place_of_end bytes = grind (arith, common_steps, prefix_len-le-length (λ byte. not (is_end byte)) bytes)
 
 plain_line : (byte : ℕ) (text : List ℕ) (n : ℕ) → position_or_len is_end (byte ∷ text) ≡ suc n → text_lines (byte ∷ text) ≡ onto_first byte (text_lines text)
     → text_lines text ≡ take n text ∷ text_lines (drop (n + end_size (drop n text)) text)

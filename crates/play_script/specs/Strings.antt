@@ -1,37 +1,46 @@
 -- The strings of a script.
-use Rattle.std.specs.Prelude.{ℕ, zero, suc, ◌+◌, ◌-◌, ◌&&◌, nat_eq, nat_le, if◌then◌else◌, List, [], ◌∷◌, ◌++◌, length, take, option_map, option_and_then, position, Option, Some, None}
+use Rattle.std.specs.Prelude.{ℕ, zero, suc, ◌+◌, ◌-◌, Bool, ◌&&◌, ◌||◌, nat_eq, nat_le, if◌then◌else◌, List, [], ◌∷◌, ◌++◌, length, take, option_map, option_and_then, position, Option, Some, None}
+use Rattle.std.specs.List.{position_or_len}
 use Rattle.std.specs.Str.{byte}
 use lib.Utf8.{scalar}
 use Rattle.kmn_base.specs.Bytes.{is_blank, is_quote}
 use Rattle.kmn_base.specs.Digits.{bounded_value}
 use Rattle.kmn_base.specs.Texts.{decoded}
 use Rattle.kmn_base.specs.declared.limits.TheConstants.{SCRIPT_STRING_CHARS}
-use Rattle.play_script.specs.Words.{first_word, has_digits}
+use Rattle.play_script.specs.Words.{has_digits}
 
 -- a number as the character that has it
 abbrev pub scalar_of : ℕ → Option ℕ
 scalar_of c = if scalar c then Some c else None
 
--- the character that a word is: U+ and 4 to 6 hexadecimal digits
+-- the character that a text is: U+ and 4 to 6 hexadecimal digits
 abbrev pub code_point : List ℕ → Option ℕ
 code_point (u ∷ plus ∷ digits) =
     if nat_eq u (byte "U") && nat_eq plus (byte "+") && has_digits 16 4 6 digits then scalar_of (bounded_value 0x110000 16 digits) else None
-code_point word = None
+code_point text = None
 
 -- a token of a string: its characters, and how many bytes it has. A quoted one ends at its quote
 abbrev pub quoted_token : List ℕ → Option ℕ → Option (List ℕ × ℕ)
 quoted_token text None = None
 quoted_token text (Some end) = Some (decoded (take end text), end + 2)
 
--- any other ends as a word does
+-- a byte ends a token that isn't quoted: a blank, or a quote, which begins the next token
+abbrev pub ends_token : ℕ → Bool
+ends_token c = is_blank c || is_quote c
+
+-- the bytes of the token that isn't quoted with which a text begins
+abbrev pub unquoted : List ℕ → List ℕ
+unquoted text = take (position_or_len ends_token text) text
+
+-- a token that isn't quoted is a character by its number
 abbrev pub written_token : List ℕ → Option (List ℕ × ℕ)
-written_token word = option_map (λ c. (c ∷ [], length word)) (code_point word)
+written_token written = option_map (λ c. (c ∷ [], length written)) (code_point written)
 
 -- the token with which a text begins, which begins with no blank
 abbrev pub string_token : List ℕ → Option (List ℕ × ℕ)
 string_token [] = None
 string_token (c ∷ text) =
-    if is_quote c then quoted_token text (position (λ b. nat_eq b c) text) else written_token (first_word (c ∷ text))
+    if is_quote c then quoted_token text (position (λ b. nat_eq b c) text) else written_token (unquoted (c ∷ text))
 
 -- the characters of the tokens of a text up to its end, which begins behind so many bytes; blanks may stand between them
 abbrev pub tokens_chars : ℕ → List ℕ → Option (List ℕ)

@@ -126,7 +126,7 @@ fn first_end(text: &[u8]) -> Option<usize>
 }
 
 /// How many bytes the first line has.
-#[tactic(auto, using(crate::proofs::TextLaws::place_of_end))]
+#[tactic(auto, using(crate::proofs::WordLaws::place_of_first))]
 fn line_length(text: &[u8]) -> usize
     ensures within { result ≤ length text.now }
     ensures is { result ≡ position_or_len is_end text.now }

@@ -2,10 +2,10 @@
 
 ghost use Rattle.std.specs.Prelude.{◌≡◌, nat_eq, ◌<◌, ◌∷◌, length, IfOk, IfSome};
 ghost use Rattle.std.specs.List.{position};
-ghost use Rattle.play_script.specs.Strings.{code_point, quoted_token, written_token, string_token, tokens_chars, short, string};
+ghost use Rattle.play_script.specs.Strings.{code_point, ends_token, unquoted, quoted_token, written_token, string_token, tokens_chars, short, string};
 
-use crate::words::{first_word, has_digits, without_blanks};
-use kmn_base::bytes::is_quote;
+use crate::words::{has_digits, without_blanks};
+use kmn_base::bytes::{is_blank, is_quote};
 use kmn_base::digits::bounded_value;
 use kmn_base::limits::SCRIPT_STRING_CHARS;
 use kmn_base::slices::behind;
@@ -13,11 +13,11 @@ use kmn_base::texts::decoded;
 use kmn_base::{Memory, Seq};
 use std::alloc::Global;
 
-/// The character that a word is.
-fn code_point(word: &[u8]) -> Option<char>
-    ensures { result ≡ code_point word.now }
+/// The character that a text is by its number.
+fn code_point(text: &[u8]) -> Option<char>
+    ensures { result ≡ code_point text.now }
 {
-    let [u, plus, digits @ ..] = word else {
+    let [u, plus, digits @ ..] = text else {
         return None;
     };
     if *u == b'U' && *plus == b'+' && has_digits(16, 4, 6, digits) {
@@ -45,12 +45,28 @@ fn quoted_token(alloc: Global, quote: u8, text: &[u8]) -> Result<Option<(Seq<cha
     }
 }
 
-/// The token of a string that is a word.
-fn written_token(alloc: Global, word: &[u8]) -> Result<Option<(Seq<char>, usize)>, Memory>
-    ensures { IfOk result (λ token. token ≡ written_token word.now) }
+/// The place of the first byte that ends a token without quotes.
+fn first_end(text: &[u8]) -> Option<usize>
+    ensures { result ≡ position ends_token text.now }
 {
-    match code_point(word) {
-        Some(c) => Ok(Some((Seq::from_slice(alloc, &[c])?, word.len()))),
+    text.iter()
+        .position(|byte| is_blank(*byte) || is_quote(*byte))
+}
+
+/// The bytes of the token without quotes with which a text begins.
+#[tactic(auto, using(crate::proofs::WordLaws::place_of_first))]
+fn unquoted(text: &[u8]) -> &[u8]
+    ensures { result.now ≡ unquoted text.now }
+{
+    &text[..first_end(text).unwrap_or(text.len())]
+}
+
+/// The token of a string that is a character by its number.
+fn written_token(alloc: Global, written: &[u8]) -> Result<Option<(Seq<char>, usize)>, Memory>
+    ensures { IfOk result (λ token. token ≡ written_token written.now) }
+{
+    match code_point(written) {
+        Some(c) => Ok(Some((Seq::from_slice(alloc, &[c])?, written.len()))),
         None => Ok(None),
     }
 }
@@ -68,7 +84,7 @@ fn begun_token(
     if is_quote(first) {
         quoted_token(alloc, first, inside)
     } else {
-        written_token(alloc, first_word(text))
+        written_token(alloc, unquoted(text))
     }
 }
 

@@ -35,7 +35,7 @@ fn first_blank(text: &[u8]) -> Option<usize>
 }
 
 /// How many bytes stand before the first blank.
-#[tactic(auto, using(crate::proofs::WordLaws::place_of_blank))]
+#[tactic(auto, using(crate::proofs::WordLaws::place_of_first))]
 pub(crate) fn word_length(text: &[u8]) -> usize
     ensures within { result ≤ length text.now }
     ensures is { result ≡ position_or_len is_blank text.now }

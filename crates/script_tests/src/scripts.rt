@@ -37,6 +37,9 @@ option &layer ''~1:option &layer
 option \"o\" U+00E9~1:option \"o\" é
 expect \"\"~1:expect 
 expect U+0041 U+1F600 U+00005A~1:expect A\u{1F600}Z
+expect U+0041\"a\"~1:expect Aa
+edit 0 0 U+0041'x'U+00E9\"y\"U+005A~1:edit 0 0 AxéyZ
+option o U+0041''~1:option o A
 expect \"it's\"'\"'\"# [\"~1:expect it's\"# [
 [K_A]|expect \"a\"|caret 0|~1:65:0 2:expect a 3:caret 0
 `~P01 1
@@ -71,7 +74,11 @@ expect u+0041~P04 1
 expect U+D800~P04 1
 expect U+110000~P04 1
 expect U+0000041~P04 1
-expect U+0041\"x\"~P04 1
+expect U+0041\"x~P04 1
+expect U+0041x\"y\"~P04 1
+expect U+041\"x\"~P04 1
+expect U+0041U+0042~P04 1
+expect \"a\"x\"b\"~P04 1
 option~P04 1
 option o~P04 1
 option o\"1\"~P04 1
