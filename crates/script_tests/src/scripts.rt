@@ -11,101 +11,113 @@ use std::alloc::Global;
 use std::test::Fail;
 use virtual_keys::KeyDictionary;
 
-/// A script in each row, and behind `~` its entries, each with its line, or the rule that it breaks. `|` is a line end, and
-/// a backquote the byte FF. A press has its code and its modifiers. The keyboard has the names `T_flip` and `U_0041`.
+/// A script in each row, and behind ` ⇒ ` its entries, each with its line, or the rule that it breaks. `¶` is a line feed, `␍` a
+/// carriage return, `␉` a tab, `⌖` U+FEFF, and a backquote the byte FF. A press has its code and its modifiers. The keyboard
+/// has the names `T_flip` and `U_0041`.
 const ROWS: &str = "\
-~
-[K_A]~1:65:0
-[k_a]|[K_0]|~1:65:0 2:48:0
-[K_A][K_B] [K_C]|[K_BKSP]|~1:65:0 1:66:0 1:67:0 2:8:0
-  [ SHIFT \t K_SPACE ]\t[K_oE2 ] ~1:32:16 1:226:0
-[Shift k_f5]~1:116:16
-[CAPS K_B]~1:66:256
-[LCTRL K_A][RCTRL K_A][LALT K_A][RALT K_A]~1:65:1 1:65:2 1:65:4 1:65:8
-[CTRL K_A][ALT K_A][ctrl lctrl alt K_A]~1:65:1 1:65:4 1:65:5
-[SHIFT CAPS LCTRL RCTRL LALT RALT SHIFT K_NPSTAR]~1:106:287
-[K_A]\r|[K_B]\r[K_C]\r\r[K_D]~1:65:0 2:66:0 3:67:0 5:68:0
-\u{FEFF}# a note| \t|[K_A]|  #|~3:65:0
-[T_flip] [ctrl t_FLIP] [u_0041]~1:256:0 1:256:1 1:257:0
-caret 0~1:caret 0
- caret\t0000005 ~1:caret 5
-caret 9999999~1:caret 9999999
-edit 0 1 \"ab\"~1:edit 0 1 ab
-edit 3 2 'a' \"b\"U+0041 'c'\t'd'~1:edit 3 2 abAcd
-option o \"1\"~1:option o 1
-option &layer ''~1:option &layer 
-option \"o\" U+00E9~1:option \"o\" é
-expect \"\"~1:expect 
-expect U+0041 U+1F600 U+00005A~1:expect A\u{1F600}Z
-expect U+0041\"a\"~1:expect Aa
-edit 0 0 U+0041'x'U+00E9\"y\"U+005A~1:edit 0 0 AxéyZ
-option o U+0041''~1:option o A
-expect \"it's\"'\"'\"# [\"~1:expect it's\"# [
-[K_A]|expect \"a\"|caret 0|~1:65:0 2:expect a 3:caret 0
-`~P01 1
-# a note|[K_QQ]|`~P01 1
-x~P02 1
-Caret 1~P02 1
-caret0~P02 1
-expect\"c\"~P02 1
-K_A]~P02 1
-\u{FEFF}\u{FEFF}[K_A]~P02 1
-[K_A]||#|hello [K_A]|[K_QQ]~P02 4
-[]~P03 1
-[ ]~P03 1
-[SHIFT]~P03 1
-[K_A SHIFT]~P03 1
-[K_A K_B]~P03 1
-[SHIFTK_A]~P03 1
-[NCAPS K_A]~P03 1
-[K_A] [K_QQ] x~P03 1
-[T_flop]~P03 1
-[[K_A]~P03 1
-[K_A~P03 1
-[K_A] [~P03 1
-[K_A]|[K_B]| |[K_C~P03 4
-expect~P04 1
-expect x~P04 1
-expect \"a~P04 1
-expect \"a'|[K_QQ]~P04 1
-expect \"a\" x~P04 1
-expect U+041~P04 1
-expect u+0041~P04 1
-expect U+D800~P04 1
-expect U+110000~P04 1
-expect U+0000041~P04 1
-expect U+0041\"x~P04 1
-expect U+0041x\"y\"~P04 1
-expect U+041\"x\"~P04 1
-expect U+0041U+0042~P04 1
-expect \"a\"x\"b\"~P04 1
-option~P04 1
-option o~P04 1
-option o\"1\"~P04 1
-option o x~P04 1
-edit 0 0~P04 1
-edit 0 0 a~P04 1
-caret~P05 1
-caret x 0~P05 1
-caret -1~P05 1
-caret 00000001~P05 1
-edit \"a\"~P05 1
-edit 0 x \"a\"~P05 1
-edit 0 0\"a\"~P05 1
-caret 0 0~P08 1
-[K_A] x~P08 1
-[K_A]]~P08 1
-[K_A]|[K_A] x [K_QQ]~P08 2";
+[K_A] ⇒ 1:65:0
+ ⇒ 
+[k_a]¶[K_0]¶ ⇒ 1:65:0 2:48:0
+[K_A][K_B] [K_C]¶[K_BKSP]¶ ⇒ 1:65:0 1:66:0 1:67:0 2:8:0
+  [ SHIFT ␉ K_SPACE ]␉[K_oE2 ]  ⇒ 1:32:16 1:226:0
+[Shift k_f5] ⇒ 1:116:16
+[CAPS K_B] ⇒ 1:66:256
+[LCTRL K_A][RCTRL K_A][LALT K_A][RALT K_A] ⇒ 1:65:1 1:65:2 1:65:4 1:65:8
+[CTRL K_A][ALT K_A][ctrl lctrl alt K_A] ⇒ 1:65:1 1:65:4 1:65:5
+[SHIFT CAPS LCTRL RCTRL LALT RALT SHIFT K_NPSTAR] ⇒ 1:106:287
+[K_A]␍¶[K_B]␍[K_C]␍␍[K_D] ⇒ 1:65:0 2:66:0 3:67:0 5:68:0
+⌖# a note¶ ␉¶[K_A]¶  #¶ ⇒ 3:65:0
+[T_flip] [ctrl t_FLIP] [u_0041] ⇒ 1:256:0 1:256:1 1:257:0
+caret 0 ⇒ 1:caret 0
+ caret␉0000005  ⇒ 1:caret 5
+caret 9999999 ⇒ 1:caret 9999999
+edit 0 1 \"ab\" ⇒ 1:edit 0 1 ab
+edit 3 2 'a' \"b\"U+0041 'c'␉'d' ⇒ 1:edit 3 2 abAcd
+option o \"1\" ⇒ 1:option o 1
+option &layer '' ⇒ 1:option &layer 
+option \"o\" U+00E9 ⇒ 1:option \"o\" é
+expect \"\" ⇒ 1:expect 
+expect U+0041 U+1F600 U+00005A ⇒ 1:expect A\u{1F600}Z
+expect U+0041\"a\" ⇒ 1:expect Aa
+edit 0 0 U+0041'x'U+00E9\"y\"U+005A ⇒ 1:edit 0 0 AxéyZ
+option o U+0041'' ⇒ 1:option o A
+expect \"it's\"'\"'\"# [\" ⇒ 1:expect it's\"# [
+[K_A]¶expect \"a\"¶caret 0¶ ⇒ 1:65:0 2:expect a 3:caret 0
+` ⇒ P01 1
+# a note¶[K_QQ]¶` ⇒ P01 1
+x ⇒ P02 1
+Caret 1 ⇒ P02 1
+caret0 ⇒ P02 1
+expect\"c\" ⇒ P02 1
+K_A] ⇒ P02 1
+⌖⌖[K_A] ⇒ P02 1
+[K_A]¶¶#¶hello [K_A]¶[K_QQ] ⇒ P02 4
+[] ⇒ P03 1
+[ ] ⇒ P03 1
+[SHIFT] ⇒ P03 1
+[K_A SHIFT] ⇒ P03 1
+[K_A K_B] ⇒ P03 1
+[SHIFTK_A] ⇒ P03 1
+[NCAPS K_A] ⇒ P03 1
+[K_A] [K_QQ] x ⇒ P03 1
+[T_flop] ⇒ P03 1
+[[K_A] ⇒ P03 1
+[K_A ⇒ P03 1
+[K_A] [ ⇒ P03 1
+[K_A]¶[K_B]¶ ¶[K_C ⇒ P03 4
+expect ⇒ P04 1
+expect x ⇒ P04 1
+expect \"a ⇒ P04 1
+expect \"a'¶[K_QQ] ⇒ P04 1
+expect \"a\" x ⇒ P04 1
+expect U+041 ⇒ P04 1
+expect u+0041 ⇒ P04 1
+expect U+D800 ⇒ P04 1
+expect U+110000 ⇒ P04 1
+expect U+0000041 ⇒ P04 1
+expect U+0041\"x ⇒ P04 1
+expect U+0041x\"y\" ⇒ P04 1
+expect U+041\"x\" ⇒ P04 1
+expect U+0041U+0042 ⇒ P04 1
+expect \"a\"x\"b\" ⇒ P04 1
+option ⇒ P04 1
+option o ⇒ P04 1
+option o\"1\" ⇒ P04 1
+option o x ⇒ P04 1
+edit 0 0 ⇒ P04 1
+edit 0 0 a ⇒ P04 1
+caret ⇒ P05 1
+caret x 0 ⇒ P05 1
+caret -1 ⇒ P05 1
+caret 00000001 ⇒ P05 1
+edit \"a\" ⇒ P05 1
+edit 0 x \"a\" ⇒ P05 1
+edit 0 0\"a\" ⇒ P05 1
+caret 0 0 ⇒ P08 1
+[K_A] x ⇒ P08 1
+[K_A]] ⇒ P08 1
+[K_A]¶[K_A] x [K_QQ] ⇒ P08 2";
+
+/// The character that one of a row stands for.
+fn character(c: char) -> char {
+    match c {
+        '¶' => '\n',
+        '␍' => '\r',
+        '␉' => '\t',
+        '⌖' => '\u{FEFF}',
+        other => other,
+    }
+}
 
 /// The bytes of a row's script.
 fn script_of(alloc: Global, text: &str) -> Result<Vec<u8>, Fail> {
     let mut script = Vec::new(alloc);
-    for byte in text.bytes() {
-        script.push(match byte {
-            b'|' => b'\n',
-            b'`' => 0xFF,
-            byte => byte,
-        })?;
+    for c in text.chars() {
+        if c == '`' {
+            script.push(0xFF)?;
+        } else {
+            script.extend_from_slice(character(c).encode_utf8(&mut [0; 4]).as_bytes())?;
+        }
     }
     Ok(script)
 }
@@ -191,7 +203,7 @@ fn gives(alloc: Global, script: &[u8], names: &KeyDictionary, wanted: &str) -> R
 
 /// Whether a row says what its script gives.
 fn is_right(alloc: Global, names: &KeyDictionary, row: &str) -> Result<bool, Fail> {
-    let (text, wanted) = row.split_once('~').ok_or("a row without an answer")?;
+    let (text, wanted) = row.split_once(" ⇒ ").ok_or("a row without an answer")?;
     gives(alloc, script_of(alloc, text)?.as_slice(), names, wanted)
 }
 
