@@ -275,9 +275,8 @@ fn with_room(
 ) -> Result<(Vec<char>, usize), Memory>
     ensures { IfOk result (λ made. (take (length left.now) made.0.items ≡ left.now) × (made.1 ≡ length left.now + room) × (made.1 ≤ length made.0.items) × (drop made.1 made.0.items ≡ right.now)) }
 {
-    let Some(end) = left.len().checked_add(room) else {
-        return Err(Memory);
-    };
+    // A sum past all numbers is so long a text that the allocator refuses it.
+    let end = left.len().saturating_add(room);
     let mut cells = Vec::from_slice(alloc, left)?;
     cells.resize(end, '\0')?;
     cells.extend_from_slice(right)?;
