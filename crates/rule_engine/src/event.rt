@@ -19,7 +19,7 @@ use kmn_base::limits::EVENT_PUTS;
 use kmn_base::{Item, KeyPress, Outcome};
 use option_store::Options;
 use rule_index::{IndexedKeyboard, RuleIndex};
-use rule_matching::{Caught, Moment, PlaceMemory, first_held};
+use rule_matching::{Caught, EnteredGroup, Moment, PlaceMemory, first_held};
 use std::marker::Model;
 use virtual_keys::codes::K_BKSP;
 use virtual_keys::is_plain;
@@ -219,15 +219,12 @@ impl<'a> Event<'a> {
     {
         let window = self.window();
         let moment = Moment::of(self.indexed, &self.options);
-        first_held(
-            &moment,
+        let entered = EnteredGroup {
             press,
             group,
             records,
-            window.items(),
-            &mut self.places,
-            caught,
-        )
+        };
+        first_held(&moment, &entered, window.items(), &mut self.places, caught)
     }
 
     /// Takes the last items, at most as many as a window has.
