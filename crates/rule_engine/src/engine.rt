@@ -12,38 +12,35 @@ ghost use Rattle.rule_matching.specs.StoreValues.{elements_in};
 use crate::entering::press;
 use crate::event::{Event, Pressed};
 use crate::naming::store_named;
-use context_cache::Cache;
-use event_text::Inserted;
+use crate::workspace::Workspace;
 use file_parts::FileTables;
 use kmn_base::{Item, KeyPress, Memory, Outcome};
 use kmx_verifier::Verified;
 use option_store::Options;
 use rule_index::IndexedKeyboard;
-use rule_matching::{PlaceMemory, StoreValue};
+use rule_matching::StoreValue;
 use std::alloc::Global;
 use std::marker::Model;
 use std::mem;
+use std::sync::Arc;
 use virtual_keys::KeyDictionary;
 
-/// A keyboard at work: the last items before the caret, what the stores hold, what the last press inserted, and room for the
-/// places that are found while a record is chosen.
+/// A keyboard at work: a file with what is looked up in it, which the engines on the file share, and what an event works on.
 #[derive(Drop)]
 pub struct Engine<'a> {
-    indexed: IndexedKeyboard<'a>,
-    cache: Cache,
-    options: Options,
-    inserted: Inserted,
-    places: PlaceMemory,
+    indexed: Arc<IndexedKeyboard<'a>>,
+    workspace: Workspace,
 }
 
 impl<'a> Model for Engine<'a> {
+    ghost use Rattle.std.specs.Arc.{arc_value};
     ghost use Rattle.rule_engine.specs.Engine.{EngineState, engine_with, IsAtWork};
 
     ghost Value = { EngineState };
 
-    ghost view = { λ engine. engine_with engine.indexed engine.cache engine.options engine.inserted.text };
+    ghost view = { λ engine. engine_with (arc_value engine.indexed) engine.workspace.cache engine.workspace.options engine.workspace.inserted.text };
 
-    ghost invariant = { λ engine. IsAtWork engine.indexed engine.cache engine.options engine.inserted };
+    ghost invariant = { λ engine. IsAtWork (arc_value engine.indexed) engine.workspace.cache engine.workspace.options engine.workspace.inserted };
 }
 
 impl<'a> Engine<'a> {
@@ -51,8 +48,8 @@ impl<'a> Engine<'a> {
     ghost use Rattle.rule_matching.specs.Moment.{saved_of};
 
     /// The engine of a file: an empty text, each option with its elements, and none saved.
-    #[tactic(auto, using(crate::proofs::Runnable::playable_is_runnable, crate::proofs::Engines::first_is_at_work, crate::proofs::Engines::first_values))]
-    pub fn start(alloc: Global, file: &'a Verified<'a>) -> Result<Engine<'a>, Memory>
+    #[tactic(auto, using(crate::proofs::Runnable::playable_is_runnable))]
+    pub fn start(alloc: Global, file: &Verified<'a>) -> Result<Engine<'a>, Memory>
         ensures { IfOk result (λ engine. engine ≡ first_engine (tables_of file.now)) }
     {
         Engine::with_parts(alloc, file.parts())
@@ -64,33 +61,35 @@ impl<'a> Engine<'a> {
         requires { IsRunnable file }
         ensures { IfOk result (λ engine. engine ≡ first_engine file.entry) }
     {
-        let options = Options::new(alloc, file.store_count())?;
-        let places = PlaceMemory::new(alloc, file.store_count() as usize)?;
-        let inserted = Inserted::with_room(alloc)?;
+        let workspace = Workspace::new(alloc, file.store_count())?;
         let indexed = IndexedKeyboard::new(alloc, file)?;
         Ok(Engine {
-            indexed,
-            cache: Cache::new(),
-            options,
-            inserted,
-            places,
+            indexed: Arc::new(alloc, indexed)?,
+            workspace,
         })
     }
 
-    /// An engine on the same tables and in the same state.
+    /// A new engine on the same file, as `start` gives it. The file isn't walked again: both share what is looked up in it.
+    #[tactic(auto, using(crate::proofs::Engines::first_is_at_work, crate::proofs::Engines::first_values))]
+    pub fn fresh(&self, alloc: Global) -> Result<Engine<'a>, Memory>
+        ensures { IfOk result (λ engine. engine ≡ first_engine self.now.tables) }
+    {
+        let workspace = Workspace::new(alloc, self.indexed.file().store_count())?;
+        Ok(Engine {
+            indexed: Arc::try_clone(&self.indexed)?,
+            workspace,
+        })
+    }
+
+    /// An engine on the same file and in the same state. The file isn't walked again.
     pub fn copy(&self, alloc: Global) -> Result<Engine<'a>, Memory>
         ensures { IfOk result (λ engine. engine ≡ self.now) }
     {
-        let options = self.options.copy(alloc)?;
-        let inserted = self.inserted.copy(alloc)?;
-        let places = PlaceMemory::new(alloc, self.indexed.file().store_count() as usize)?;
-        let indexed = IndexedKeyboard::new(alloc, self.indexed.file())?;
+        let stores = self.indexed.file().store_count();
+        let workspace = self.workspace.copy(alloc, stores)?;
         Ok(Engine {
-            indexed,
-            cache: self.cache.copy(),
-            options,
-            inserted,
-            places,
+            indexed: Arc::try_clone(&self.indexed)?,
+            workspace,
         })
     }
 
@@ -102,16 +101,10 @@ impl<'a> Engine<'a> {
         ensures outcome { result ≡ press_outcome left.now press self.old }
         ensures engine { self.new ≡ press_leaves left.now press self.old }
     {
-        let alloc = self.indexed.alloc();
-        let inserted = mem::replace(&mut self.inserted, Inserted::without_room(alloc));
-        let options = mem::replace(&mut self.options, Options::none(alloc));
-        let cache = mem::replace(&mut self.cache, Cache::new());
-        let places = mem::replace(&mut self.places, PlaceMemory::without_room(alloc));
-        let done = pressed(&self.indexed, left, press, cache, options, inserted, places);
-        self.inserted = done.inserted;
-        self.options = done.options;
-        self.cache = done.cache;
-        self.places = done.places;
+        let none = Workspace::without_room(self.indexed.alloc());
+        let workspace = mem::replace(&mut self.workspace, none);
+        let done = pressed(&self.indexed, left, press, workspace);
+        self.workspace = done.workspace;
         done.outcome
     }
 
@@ -120,7 +113,7 @@ impl<'a> Engine<'a> {
         ensures value { result.now ≡ self.now.inserted }
         ensures few { length result.now ≤ EVENT_PUTS }
     {
-        self.inserted.as_slice()
+        self.workspace.inserted.as_slice()
     }
 
     /// The last 64 items before the caret, or all where there are fewer. All marks are among them.
@@ -129,7 +122,7 @@ impl<'a> Engine<'a> {
         ensures value { result.now ≡ self.now.context }
         ensures engine { IsEngine self.now }
     {
-        self.cache.items()
+        self.workspace.cache.items()
     }
 
     /// Reads the text before the caret again. Marks keep their places where the text still stands around them.
@@ -138,7 +131,7 @@ impl<'a> Engine<'a> {
         requires { length left.now < 2 ^ 32 }
         ensures { self.new ≡ synced left.now self.old }
     {
-        self.cache.sync(left);
+        self.workspace.cache.sync(left);
     }
 
     /// The host gives the option of a name a value, as current and as saved one: the first store that has the name, without
@@ -152,7 +145,7 @@ impl<'a> Engine<'a> {
         let Some(store) = named else {
             return Ok(false);
         };
-        self.options.host_set(alloc, store, value)?;
+        self.workspace.options.host_set(alloc, store, value)?;
         Ok(true)
     }
 
@@ -162,7 +155,7 @@ impl<'a> Engine<'a> {
         ensures saved { option_saves (tab self.now.tables).stores result.now ≡ self.now.saved }
         ensures stores { length result.now ≡ length self.now.tables.stores }
     {
-        &self.options
+        &self.workspace.options
     }
 
     /// The tables of the file.
@@ -190,14 +183,14 @@ impl<'a> Engine<'a> {
     pub fn content(&self, store: u32) -> StoreValue<'_>
         ensures { elements_in result ≡ content (tab self.now.tables).stores self.now.current (Numbered store) }
     {
-        rule_matching::content(&self.indexed, &self.options, store)
+        rule_matching::content(&self.indexed, &self.workspace.options, store)
     }
 
     /// The saved value of a store, None where nothing is saved or the store is no option.
     pub fn saved_of(&self, store: u32) -> Option<StoreValue<'_>>
         ensures { option_map elements_in result ≡ saved_of (tab self.now.tables).stores self.now.saved store }
     {
-        rule_matching::saved_of(&self.indexed, &self.options, store)
+        rule_matching::saved_of(&self.indexed, &self.workspace.options, store)
     }
 
     /// What a store has where the stores hold this.
@@ -218,22 +211,15 @@ impl<'a> Engine<'a> {
 }
 
 /// What a press leaves of the text before the caret and of the options.
-fn pressed(
-    indexed: &IndexedKeyboard,
-    left: &[char],
-    key: KeyPress,
-    cache: Cache,
-    options: Options,
-    inserted: Inserted,
-    places: PlaceMemory,
-) -> Pressed
+fn pressed(indexed: &IndexedKeyboard, left: &[char], key: KeyPress, workspace: Workspace) -> Pressed
     requires few { length left.now < 2 ^ 32 }
-    requires work { IsAtWork indexed.now cache options inserted }
-    ensures outcome { result.outcome ≡ press_outcome left.now key (engine_with indexed.now cache options inserted.text) }
-    ensures engine { engine_with indexed.now result.cache result.options result.inserted.text ≡ press_leaves left.now key (engine_with indexed.now cache options inserted.text) }
-    ensures work { IsAtWork indexed.now result.cache result.options result.inserted }
+    requires work { IsAtWork indexed.now workspace.cache workspace.options workspace.inserted }
+    ensures outcome { result.outcome ≡ press_outcome left.now key (engine_with indexed.now workspace.cache workspace.options workspace.inserted.text) }
+    ensures engine { engine_with indexed.now result.workspace.cache result.workspace.options result.workspace.inserted.text
+        ≡ press_leaves left.now key (engine_with indexed.now workspace.cache workspace.options workspace.inserted.text) }
+    ensures work { IsAtWork indexed.now result.workspace.cache result.workspace.options result.workspace.inserted }
 {
-    let mut event = Event::begin(indexed, left, inserted, cache, options, places);
+    let mut event = Event::begin(indexed, left, workspace);
     press(key, &mut event);
     event.finish()
 }

@@ -12,14 +12,15 @@ ghost use Rattle.rule_index.specs.Groups.{IsRuleIndexOf};
 ghost use Rattle.rule_matching.specs.Moment.{AreShort};
 ghost use Rattle.rule_engine.specs.Event.{HasShortContexts, keyboard_of, moment_of};
 
+use crate::workspace::Workspace;
 use context_cache::Cache;
-use event_text::{Inserted, Left};
+use event_text::Left;
 use file_parts::{FileGroup, FileRule};
 use kmn_base::limits::EVENT_PUTS;
 use kmn_base::{Item, KeyPress, Outcome};
 use option_store::Options;
 use rule_index::{IndexedKeyboard, RuleIndex};
-use rule_matching::{Caught, Moment, PlaceMemory, first_held};
+use rule_matching::{Caught, EnteredGroup, Moment, PlaceMemory, first_held};
 use std::marker::Model;
 use virtual_keys::codes::K_BKSP;
 use virtual_keys::is_plain;
@@ -38,14 +39,11 @@ pub struct Event<'a> {
     saves: u32,
 }
 
-/// What a press leaves: what it did, the last items, what it inserted, what the stores hold, and the room for places.
+/// What a press did, and what the next event works on.
 #[derive(Drop)]
 pub struct Pressed {
     pub outcome: Outcome,
-    pub cache: Cache,
-    pub inserted: Inserted,
-    pub options: Options,
-    pub places: PlaceMemory,
+    pub workspace: Workspace,
 }
 
 impl<'a> Model for Event<'a> {
@@ -82,27 +80,24 @@ impl<'a> Event<'a> {
     pub fn begin(
         indexed: &'a IndexedKeyboard<'a>,
         lent: &'a [char],
-        inserted: Inserted,
-        cache: Cache,
-        options: Options,
-        places: PlaceMemory,
+        workspace: Workspace,
     ) -> Event<'a>
         requires few { length lent.now < 2 ^ 32 }
-        requires room { inserted.room ≡ EVENT_PUTS }
-        requires stores { length options ≡ length indexed.now.stores }
+        requires room { workspace.inserted.room ≡ EVENT_PUTS }
+        requires stores { length workspace.options ≡ length indexed.now.stores }
         requires short { HasShortContexts indexed.now }
         ensures { result ≡ record {
           tables = indexed.now;
           lent = lent.now;
-          state = begin_event (read_again cache lent.now)
-              (option_values (tab indexed.now).stores options) (option_saves (tab indexed.now).stores options);
+          state = begin_event (read_again workspace.cache lent.now)
+              (option_values (tab indexed.now).stores workspace.options) (option_saves (tab indexed.now).stores workspace.options);
         } }
     {
         Event {
             indexed,
-            left: Left::begin(lent, inserted, cache),
-            options,
-            places,
+            left: Left::begin(lent, workspace.inserted, workspace.cache),
+            options: workspace.options,
+            places: workspace.places,
             pass: false,
             stopped: false,
             beeps: 0,
@@ -114,13 +109,13 @@ impl<'a> Event<'a> {
     /// Ends the event.
     pub fn finish(self) -> Pressed
         ensures outcome { (before : _) → characters before ≡ self.entry.lent → result.outcome ≡ outcome_of before self.entry.state }
-        ensures inserted { (before : _) → characters before ≡ self.entry.lent → result.inserted.text ≡ inserted before self.entry.state.left }
-        ensures cache { result.cache ≡ window self.entry.state.left }
-        ensures current { option_values (keyboard_of self.entry).stores result.options ≡ self.entry.state.current }
-        ensures saved { option_saves (keyboard_of self.entry).stores result.options ≡ self.entry.state.saved }
-        ensures stores { length result.options ≡ length self.entry.tables.stores }
-        ensures room { result.inserted.room ≡ EVENT_PUTS }
-        ensures few { length result.inserted.text ≤ EVENT_PUTS }
+        ensures inserted { (before : _) → characters before ≡ self.entry.lent → result.workspace.inserted.text ≡ inserted before self.entry.state.left }
+        ensures cache { result.workspace.cache ≡ window self.entry.state.left }
+        ensures current { option_values (keyboard_of self.entry).stores result.workspace.options ≡ self.entry.state.current }
+        ensures saved { option_saves (keyboard_of self.entry).stores result.workspace.options ≡ self.entry.state.saved }
+        ensures stores { length result.workspace.options ≡ length self.entry.tables.stores }
+        ensures room { result.workspace.inserted.room ≡ EVENT_PUTS }
+        ensures few { length result.workspace.inserted.text ≤ EVENT_PUTS }
     {
         let put = self.left.puts();
         let edited = self.left.finish();
@@ -133,10 +128,12 @@ impl<'a> Event<'a> {
                 put,
                 saved: self.saves,
             },
-            cache: edited.cache,
-            inserted: edited.inserted,
-            options: self.options,
-            places: self.places,
+            workspace: Workspace {
+                cache: edited.cache,
+                options: self.options,
+                inserted: edited.inserted,
+                places: self.places,
+            },
         }
     }
 
@@ -219,15 +216,12 @@ impl<'a> Event<'a> {
     {
         let window = self.window();
         let moment = Moment::of(self.indexed, &self.options);
-        first_held(
-            &moment,
+        let entered = EnteredGroup {
             press,
             group,
             records,
-            window.items(),
-            &mut self.places,
-            caught,
-        )
+        };
+        first_held(&moment, &entered, window.items(), &mut self.places, caught)
     }
 
     /// Takes the last items, at most as many as a window has.

@@ -13,14 +13,15 @@ ghost use Rattle.rule_matching.specs.Moment.{content_at, held_record, AreShort};
 use crate::caught::Caught;
 use crate::choice::Choice;
 use crate::elements::{is_element, is_item, is_same};
+use crate::entered_group::EnteredGroup;
 use crate::moment::Moment;
 use crate::place_memory::PlaceMemory;
 use crate::places::{catch_taken, is_in_store, item_before, place_taken};
 use crate::taken::{Taken, item_taken};
 use arrayvec::ArrayVec;
-use file_parts::{ContextItem, FileGroup, FileRule};
-use kmn_base::{Element, Item, KeyPress, RuleKey};
-use rule_index::{RuleIndex, wanted_classes};
+use file_parts::{ContextItem, FileRule};
+use kmn_base::{Element, Item, RuleKey};
+use rule_index::wanted_classes;
 use virtual_keys::Pressed;
 
 /// An item that is taken of no store, where it stands to its pattern as that asks.
@@ -168,26 +169,32 @@ fn key_of(using_keys: bool, rule: &FileRule<'_>) -> RuleKey
 /// fail by their context, so the record's key is read from the file afterwards.
 fn held_record<'g>(
     choice: &Choice<'_>,
-    group: &FileGroup<'g>,
-    records: &RuleIndex,
+    entered: &EnteredGroup<'_, 'g>,
     number: u32,
     places: &mut PlaceMemory,
     taken: &mut ArrayVec<Taken, 60>,
 ) -> Option<FileRule<'g>>
-    requires short { AreShort group.now.rules }
-    requires index { IsRuleIndexOf group.now records.now }
+    requires short { AreShort entered.now.group.now.rules }
+    requires index { IsRuleIndexOf entered.now.group.now entered.now.records.now }
     requires right { RemembersFor choice.now places.old }
-    ensures held { option_map (λ rule. (record_in choice.now group.now rule, all_caught choice.now taken.new.items)) result
-        ≡ held_record (content_of choice.now) choice.now.left.now choice.now.pressed (option_map (record_in choice.now group.now) (slice_get group.now.rules number)) }
+    ensures held { option_map (λ rule. (record_in choice.now entered.now.group.now rule, all_caught choice.now taken.new.items)) result
+        ≡ held_record (content_of choice.now) choice.now.left.now choice.now.pressed (option_map (record_in choice.now entered.now.group.now) (slice_get entered.now.group.now.rules number)) }
     ensures right { RemembersFor choice.now places.new }
 {
-    let count = records.pattern_count(number);
+    let count = entered.records.pattern_count(number);
     if choice.left.len() < count {
         return None;
     }
-    if !takes_context(choice, records.context(number), count, places, taken) {
+    if !takes_context(
+        choice,
+        entered.records.context(number),
+        count,
+        places,
+        taken,
+    ) {
         return None;
     }
+    let group = entered.group;
     let rule = group.rule(number)?;
     if choice.pressed.fits(key_of(group.using_keys(), &rule)) {
         Some(rule)
@@ -196,34 +203,33 @@ fn held_record<'g>(
     }
 }
 
-/// The first record of a group that holds on a list at a moment. Only those are tried that their index names for the press and
-/// the last item: no other can hold. What it catches is written where the caller has room for it, which stays as it was where
-/// none holds. Each place of an item in a store is looked for once.
+/// The first record of an entered group that holds on a list at a moment. Only those are tried that their index names for the
+/// press and the last item: no other can hold. What it catches is written where the caller has room for it, which stays as it was
+/// where none holds. Each place of an item in a store is looked for once.
 pub fn first_held<'g>(
     moment: &Moment<'_>,
-    press: KeyPress,
-    group: &FileGroup<'g>,
-    records: &RuleIndex,
+    entered: &EnteredGroup<'_, 'g>,
     left: &[Item],
     places: &mut PlaceMemory,
     caught: &mut Caught,
 ) -> Option<FileRule<'g>>
-    requires short { AreShort group.now.rules }
-    requires index { IsRuleIndexOf group.now records.now }
-    ensures held { option_map (λ rule. (tab_rule moment.now.tables.stores group.now.using_keys rule, caught.new)) result ≡ first
-        (holds (content_at moment.now) left.now press) (map (tab_rule moment.now.tables.stores group.now.using_keys) group.now.rules) }
+    requires short { AreShort entered.now.group.now.rules }
+    requires index { IsRuleIndexOf entered.now.group.now entered.now.records.now }
+    ensures held { option_map (λ rule. (tab_rule moment.now.tables.stores entered.now.group.now.using_keys rule, caught.new)) result ≡ first
+        (holds (content_at moment.now) left.now entered.now.press) (map (tab_rule moment.now.tables.stores entered.now.group.now.using_keys) entered.now.group.now.rules) }
     ensures none { result ≡ None → caught.new ≡ caught.old }
 {
     places.forget();
     let choice = Choice {
         moment,
-        pressed: Pressed::of(press),
+        pressed: Pressed::of(entered.press),
         left,
     };
     let mut taken = ArrayVec::new();
-    let mut candidates = records.candidates(&wanted_classes(press, left));
+    let wanted = wanted_classes(entered.press, left);
+    let mut candidates = entered.records.candidates(&wanted);
     while let Some(number) = candidates.next() {
-        if let Some(rule) = held_record(&choice, group, records, number, places, &mut taken) {
+        if let Some(rule) = held_record(&choice, entered, number, places, &mut taken) {
             catch_taken(&choice, taken.as_slice(), places, caught);
             return Some(rule);
         }

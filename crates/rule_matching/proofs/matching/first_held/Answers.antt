@@ -15,15 +15,15 @@ use Rattle.rule_matching.proofs.matching.first_held.Goals as goal
 use Rattle.rule_matching.proofs.matching.first_held.Goals.{In-Some}
 
 -- the candidate is the next one that the press and the list want
-next : (c : In-Some) → IsNext (wanted_classes c.args.press c.args.left.now) 6 (classes_of c.args.group.now.using_keys c.args.group.now.rules)
+next : (c : In-Some) → IsNext (wanted_classes c.args.entered.now.press c.args.left.now) 6 (classes_of c.args.entered.now.group.now.using_keys c.args.entered.now.group.now.rules)
     c.loop-number.candidates.from (Some c.in-Some.number)
 next c =
-    walked c.loop-number.candidates c.args.records.now.rows c.args.press c.args.left.now c.args.group.now.using_keys c.args.group.now.rules (Some c.in-Some.number)
+    walked c.loop-number.candidates c.args.entered.now.records.now.rows c.args.entered.now.press c.args.left.now c.args.entered.now.group.now.using_keys c.args.entered.now.group.now.rules (Some c.in-Some.number)
     c.loop-number.invariant.rows c.loop-number.invariant.wanted c.requires.index.records c.in-Some.ensures.next
 
-within : (c : In-Some) → (c.loop-number.candidates.from ≤ c.in-Some.number) × (c.in-Some.number < length c.args.group.now.rules)
+within : (c : In-Some) → (c.loop-number.candidates.from ≤ c.in-Some.number) × (c.in-Some.number < length c.args.entered.now.group.now.rules)
 within c =
-    candidate_within c.args.press c.args.left.now c.args.group.now.using_keys c.args.group.now.rules c.loop-number.candidates.from c.in-Some.number (next c)
+    candidate_within c.args.entered.now.press c.args.left.now c.args.entered.now.group.now.using_keys c.args.entered.now.group.now.rules c.loop-number.candidates.from c.in-Some.number (next c)
 
 -- the walk goes on behind the candidate
 forth : (c : In-Some) → c.next.new.self.from ≡ c.in-Some.number + 1
@@ -32,18 +32,18 @@ forth c = ap (λ (walk : CandidatesValue). walk.from) c.in-Some.ensures.rest
 pub returns-in-Some-held_record-clause-held : goal.returns-in-Some-held_record-clause-held
 returns-in-Some-held_record-clause-held c =
     let content : Content = content_at c.args.moment.now in
-    let whole : Caught → Option Chosen = λ (caught : Caught). Some (tab_rule c.args.moment.now.tables.stores c.args.group.now.using_keys c.in-Some-held_record.rule, caught) in
+    let whole : Caught → Option Chosen = λ (caught : Caught). Some (tab_rule c.args.moment.now.tables.stores c.args.entered.now.group.now.using_keys c.in-Some-held_record.rule, caught) in
     ap whole (c.catch_taken.ensures.caught ∙ ap (caught_by_all content c.args.left.now) c.as_slice.ensures.value)
-    ∙ (sym (candidate_holds content c.args.left.now c.args.press c.args.moment.now.tables.stores c.args.group.now.using_keys c.args.group.now.rules
-    c.loop-number.candidates.from c.in-Some.number (next (goal.at.returns-in-Some-held_record-clause-held c).In-Some) _ (sym (c.in-Some-held_record.ensures.held ∙ ap (λ (press : KeyPress). held_record content c.args.left.now press (option_map (tab_rule c.args.moment.now.tables.stores c.args.group.now.using_keys)
-    (slice_get c.args.group.now.rules c.in-Some.number))) c.of.ensures)))
+    ∙ (sym (candidate_holds content c.args.left.now c.args.entered.now.press c.args.moment.now.tables.stores c.args.entered.now.group.now.using_keys c.args.entered.now.group.now.rules
+    c.loop-number.candidates.from c.in-Some.number (next (goal.at.returns-in-Some-held_record-clause-held c).In-Some) _ (sym (c.in-Some-held_record.ensures.held ∙ ap (λ (press : KeyPress). held_record content c.args.left.now press (option_map (tab_rule c.args.moment.now.tables.stores c.args.entered.now.group.now.using_keys)
+    (slice_get c.args.entered.now.group.now.rules c.in-Some.number))) c.of.ensures)))
     ∙ c.loop-number.invariant.same)
 
 pub loop-number-smaller : goal.loop-number-smaller
 loop-number-smaller c =
     let here = within (goal.at.loop-number-smaller c).In-Some in
     let on : c.next.new.self.from ≡ c.in-Some.number + 1 = forth (goal.at.loop-number-smaller c).In-Some in
-    let less : length c.args.group.now.rules - c.next.new.self.from < length c.args.group.now.rules - c.loop-number.candidates.from
+    let less : length c.args.entered.now.group.now.rules - c.next.new.self.from < length c.args.entered.now.group.now.rules - c.loop-number.candidates.from
     = omega (arith, here.0, here.1, on) in
     less
 
@@ -55,10 +55,10 @@ loop-number-preserved c =
       rows = ap (λ (walk : CandidatesValue). walk.rows) c.in-Some.ensures.rest ∙ c.loop-number.invariant.rows;
       wanted = ap (λ (walk : CandidatesValue). walk.wanted) c.in-Some.ensures.rest ∙ c.loop-number.invariant.wanted;
       within = omega (arith, here.1, on);
-      same = ap (first_from (content_at c.args.moment.now) c.args.left.now c.args.press c.args.moment.now.tables.stores c.args.group.now.using_keys c.args.group.now.rules) on
-          ∙ (sym (candidate_passed (content_at c.args.moment.now) c.args.left.now c.args.press c.args.moment.now.tables.stores c.args.group.now.using_keys c.args.group.now.rules
-          c.loop-number.candidates.from c.in-Some.number (next (goal.at.loop-number-preserved c).In-Some) (sym (c.in_default-held_record.ensures.held ∙ ap (λ (press : KeyPress). held_record (content_at c.args.moment.now) c.args.left.now press (option_map (tab_rule c.args.moment.now.tables.stores c.args.group.now.using_keys)
-          (slice_get c.args.group.now.rules c.in-Some.number))) c.of.ensures)))
+      same = ap (first_from (content_at c.args.moment.now) c.args.left.now c.args.entered.now.press c.args.moment.now.tables.stores c.args.entered.now.group.now.using_keys c.args.entered.now.group.now.rules) on
+          ∙ (sym (candidate_passed (content_at c.args.moment.now) c.args.left.now c.args.entered.now.press c.args.moment.now.tables.stores c.args.entered.now.group.now.using_keys c.args.entered.now.group.now.rules
+          c.loop-number.candidates.from c.in-Some.number (next (goal.at.loop-number-preserved c).In-Some) (sym (c.in_default-held_record.ensures.held ∙ ap (λ (press : KeyPress). held_record (content_at c.args.moment.now) c.args.left.now press (option_map (tab_rule c.args.moment.now.tables.stores c.args.entered.now.group.now.using_keys)
+          (slice_get c.args.entered.now.group.now.rules c.in-Some.number))) c.of.ensures)))
           ∙ c.loop-number.invariant.same);
       right = c.in_default-held_record.ensures.right;
       kept = c.loop-number.invariant.kept;
@@ -66,8 +66,8 @@ loop-number-preserved c =
 
 pub returns-clause-held : goal.returns-clause-held
 returns-clause-held c =
-    let left = walked c.loop-number.candidates c.args.records.now.rows c.args.press c.args.left.now c.args.group.now.using_keys c.args.group.now.rules None
+    let left = walked c.loop-number.candidates c.args.entered.now.records.now.rows c.args.entered.now.press c.args.left.now c.args.entered.now.group.now.using_keys c.args.entered.now.group.now.rules None
     c.loop-number.invariant.rows c.loop-number.invariant.wanted c.requires.index.records c.in_default.ensures.next in
-    sym (none_left (content_at c.args.moment.now) c.args.left.now c.args.press c.args.moment.now.tables.stores c.args.group.now.using_keys c.args.group.now.rules
+    sym (none_left (content_at c.args.moment.now) c.args.left.now c.args.entered.now.press c.args.moment.now.tables.stores c.args.entered.now.group.now.using_keys c.args.entered.now.group.now.rules
     c.loop-number.candidates.from c.loop-number.invariant.within left)
     ∙ c.loop-number.invariant.same

@@ -7,14 +7,14 @@ use Rattle.rule_matching.proofs.matching.first_held.Given as goal
 
 abbrev pub invariant-loop-number : goal.invariant-loop-number
 invariant-loop-number l = record {
-  rows : l.candidates.rows ≡ l.records.rows;
-  wanted : l.candidates.wanted ≡ wanted_classes l.fn.press l.choice.left.now;
-  within : l.candidates.from ≤ length l.group.rules;
-  same : first_from (content_at l.choice.moment.now) l.choice.left.now l.fn.press l.choice.moment.now.tables.stores l.group.using_keys l.group.rules l.candidates.from
-      ≡ first_from (content_at l.choice.moment.now) l.choice.left.now l.fn.press l.choice.moment.now.tables.stores l.group.using_keys l.group.rules 0;
+  rows : l.candidates.rows ≡ l.entered.records.now.rows;
+  wanted : l.candidates.wanted ≡ wanted_classes l.entered.press l.choice.left.now;
+  within : l.candidates.from ≤ length l.entered.group.now.rules;
+  same : first_from (content_at l.choice.moment.now) l.choice.left.now l.entered.press l.choice.moment.now.tables.stores l.entered.group.now.using_keys l.entered.group.now.rules l.candidates.from
+      ≡ first_from (content_at l.choice.moment.now) l.choice.left.now l.entered.press l.choice.moment.now.tables.stores l.entered.group.now.using_keys l.entered.group.now.rules 0;
   right : RemembersRight l.choice.moment.now l.choice.left.now l.places;
   kept : l.caught ≡ l.fn.caught;
 }
 
 abbrev pub decreases-loop-number : goal.decreases-loop-number
-decreases-loop-number l = length l.group.rules - l.candidates.from
+decreases-loop-number l = length l.entered.group.now.rules - l.candidates.from

@@ -11,17 +11,17 @@ use Rattle.rule_matching.proofs.matching.held_record.Goals as goal
 
 pub returns-then-choice-count-clause-held : goal.returns-then-choice-count-clause-held
 returns-then-choice-count-clause-held c =
-    short_not_held (content_at c.args.choice.now.moment.now) c.args.choice.now.pressed c.args.choice.now.moment.now.tables.stores c.args.group.now c.args.records.now c.args.number
+    short_not_held (content_at c.args.choice.now.moment.now) c.args.choice.now.pressed c.args.choice.now.moment.now.tables.stores c.args.entered.now.group.now c.args.entered.now.records.now c.args.number
     c.requires.index c.requires.short c.args.choice.now.left.now c.pattern_count-count.result c.pattern_count-count.ensures (omega (arith, c.if-choice-count.true))
 
 pub takes_context-requires-clause-few : goal.takes_context-requires-clause-few
 takes_context-requires-clause-few c =
-    items_few c.args.group.now c.args.records.now c.args.number c.requires.index c.requires.short c.context.result.now c.context.ensures
+    items_few c.args.entered.now.group.now c.args.entered.now.records.now c.args.number c.requires.index c.requires.short c.context.result.now c.context.ensures
 
 pub returns-then-not-takes_context-clause-held : goal.returns-then-not-takes_context-clause-held
 returns-then-not-takes_context-clause-held c =
     let few : c.pattern_count-count.result ≤ length c.args.choice.now.left.now = omega (arith, c.if-choice-count.false) in
-    uncaught_not_held (content_at c.args.choice.now.moment.now) c.args.choice.now.pressed c.args.choice.now.moment.now.tables.stores c.args.group.now c.args.records.now c.args.number
+    uncaught_not_held (content_at c.args.choice.now.moment.now) c.args.choice.now.pressed c.args.choice.now.moment.now.tables.stores c.args.entered.now.group.now c.args.entered.now.records.now c.args.number
     c.requires.index c.requires.short c.args.choice.now.left.now c.pattern_count-count.result c.pattern_count-count.ensures few c.context.result.now c.context.ensures
     None c.if-not-takes_context.ensures.taken refl
 
@@ -31,7 +31,7 @@ returns-then-fits-clause-held c =
     let fit = ap using (sym c.using_keys.ensures) ∙ ap (λ (wanted : RuleKey). key_fits wanted c.args.choice.now.pressed) (sym c.key_of.ensures) in
     let few : c.pattern_count-count.result ≤ length c.args.choice.now.left.now = omega (arith, c.if-choice-count.false) in
     let catches : List Catch = map (caught_by_taken (content_at c.args.choice.now.moment.now) c.args.choice.now.left.now) c.takes_context.new.taken.items in
-    items_held (content_at c.args.choice.now.moment.now) c.args.choice.now.pressed c.args.choice.now.moment.now.tables.stores c.args.group.now c.args.records.now c.args.number
+    items_held (content_at c.args.choice.now.moment.now) c.args.choice.now.pressed c.args.choice.now.moment.now.tables.stores c.args.entered.now.group.now c.args.entered.now.records.now c.args.number
     c.requires.index c.requires.short c.args.choice.now.left.now c.pattern_count-count.result c.pattern_count-count.ensures few c.context.result.now c.context.ensures
     (Some catches) c.if-not-takes_context.ensures.taken c.in_ok-rule.rule (sym c.in_ok-rule.ensures) (fit ∙ sym c.if-fits.ensures)
 
@@ -39,6 +39,6 @@ pub returns-else-fits-clause-held : goal.returns-else-fits-clause-held
 returns-else-fits-clause-held c =
     let using : Bool → Bool = λ (using : Bool). key_fits (if using then c.in_ok-rule.rule.key else key.Any) c.args.choice.now.pressed in
     let fit = ap using (sym c.using_keys.ensures) ∙ ap (λ (wanted : RuleKey). key_fits wanted c.args.choice.now.pressed) (sym c.key_of.ensures) in
-    unfitting_not_held (content_at c.args.choice.now.moment.now) c.args.choice.now.pressed c.args.choice.now.moment.now.tables.stores c.args.group.now c.args.records.now c.args.number
+    unfitting_not_held (content_at c.args.choice.now.moment.now) c.args.choice.now.pressed c.args.choice.now.moment.now.tables.stores c.args.entered.now.group.now c.args.entered.now.records.now c.args.number
     c.requires.index c.requires.short c.args.choice.now.left.now c.pattern_count-count.result c.pattern_count-count.ensures
     c.in_ok-rule.rule (sym c.in_ok-rule.ensures) (fit ∙ sym c.if-fits.ensures)
