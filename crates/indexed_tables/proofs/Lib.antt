@@ -1,3 +1,4 @@
 pub mod Ends
+pub mod FoldedNames
 pub mod OptionFlags
 pub mod Words

@@ -1,2 +1,3 @@
 pub mod OptionFlags
+pub mod OwnNames
 pub mod Words

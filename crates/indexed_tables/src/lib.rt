@@ -1,10 +1,10 @@
 //! The tables of a compiled file with what is looked up in them again and again.
 //!
-//! It stands on `kmn_base`, `virtual_keys` and `rule_model`. The layer above makes `IndexedTables` of `Tables`: it has once
-//! and for all the option number of each store and the names of own keys, and hands out groups and elements as the tables
-//! have them. A layer that reads a file where it lies counts option numbers the same way: `mark` sets the flag of each store
-//! that an item uses as an option, and `flag_numbers` counts the flags (`specs/OptionFlags`, with the laws of flags in
-//! `proofs/OptionFlags`).
+//! It stands on `kmn_base`, `virtual_keys`, `rule_model` and `indexmap`. The layer above makes `IndexedTables` of `Tables`:
+//! it has once and for all the option number of each store and the names of own keys, and hands out groups and elements as
+//! the tables have them. A layer that reads a file where it lies counts option numbers the same way: `mark` sets the flag of
+//! each store that an item uses as an option, and `flag_numbers` counts the flags (`specs/OptionFlags`, with the laws of
+//! flags in `proofs/OptionFlags`).
 #![tactic(auto)]
 
 mod flags;

@@ -1,13 +1,14 @@
 //! The names of own keys, by the words of the store that has the key dictionary.
 
 ghost use Rattle.std.specs.Prelude.{◌≡◌, ◌+◌, [], ◌∷◌, IfOk, OnOk, find, filter_map, encode_utf8_all, length, option_copied, nat_eq, not, filter, position};
-ghost use Rattle.std.specs.List.{slice_split, list_any};
+ghost use Rattle.std.specs.List.{slice_split};
 ghost use Rattle.std.specs.String.{string_bytes};
 ghost use Rattle.kmn_base.specs.Names.{same_name};
 ghost use Rattle.rule_model.specs.Tab.{store_elements, is_dictionary, element_char, words, distinct_onto, tab_dictionary};
+ghost use Rattle.indexed_tables.specs.OwnNames.{AreFolded};
 ghost use Rattle.indexed_tables.specs.Words.{words_behind, bytes_behind};
 
-use kmn_base::names::same_name;
+use indexmap::IndexSet;
 use kmn_base::{Element, Memory, Seq, Text};
 use rule_model::Store;
 use std::alloc::Global;
@@ -59,35 +60,53 @@ fn first_word(text: &[u8]) -> (&[u8], Option<&[u8]>)
     }
 }
 
-/// Whether a name is among names, without ASCII case.
-fn is_among(names: &[Text], name: &[u8]) -> bool
-    ensures { result ≡ list_any (λ known. same_name known name.now) names.now }
+/// Names, each once without ASCII case, and each in lower case, by which it is found.
+#[derive(Drop)]
+struct Names {
+    written: Vec<Text>,
+    folded: IndexSet<Vec<u8>>,
+}
+
+/// Appends a word that isn't empty, unless it is the same as a name before it.
+fn add_name(alloc: Global, names: &mut Names, word: &[u8]) -> Result<(), Memory>
+    requires { AreFolded names.old }
+    ensures folded { OnOk result (AreFolded names.new) }
+    ensures names { OnOk result (names.new.written.items ≡ distinct_onto same_name names.old.written.items (word.now ∷ [])) }
 {
-    names.iter().any(|known| same_name(known.as_slice(), name))
+    let folded = word.to_ascii_lowercase(alloc)?;
+    if names.folded.insert(folded)? {
+        names.written.push(Seq::from_slice(alloc, word)?)?;
+    }
+    Ok(())
 }
 
 /// Appends a word, unless it is empty or the same as a name before it.
-fn add_word(alloc: Global, names: &mut Vec<Text>, word: &[u8]) -> Result<(), Memory>
-    ensures { OnOk result (names.new.items ≡ distinct_onto same_name names.old.items (filter (λ w. not (nat_eq (length w) 0)) (word.now ∷ []))) }
+fn add_word(alloc: Global, names: &mut Names, word: &[u8]) -> Result<(), Memory>
+    requires { AreFolded names.old }
+    ensures folded { OnOk result (AreFolded names.new) }
+    ensures names { OnOk result (names.new.written.items ≡ distinct_onto same_name names.old.written.items (filter (λ w. not (nat_eq (length w) 0)) (word.now ∷ []))) }
 {
-    if !word.is_empty() && !is_among(names.as_slice(), word) {
-        names.push(Seq::from_slice(alloc, word)?)?;
+    if word.is_empty() {
+        return Ok(());
     }
-    Ok(())
+    add_name(alloc, names, word)
 }
 
 /// The words of a text, each once.
 fn distinct_words(alloc: Global, text: &[u8]) -> Result<Vec<Text>, Memory>
     ensures { IfOk result (λ names. names.items ≡ distinct_onto same_name [] (words text.now)) }
 {
-    let mut names = Vec::new(alloc);
+    let mut names = Names {
+        written: Vec::new(alloc),
+        folded: IndexSet::new(alloc),
+    };
     let mut rest = Some(text);
     while let Some(text) = rest {
         let (word, behind) = first_word(text);
         add_word(alloc, &mut names, word)?;
         rest = behind;
     }
-    Ok(names)
+    Ok(names.written)
 }
 
 /// The names of the key dictionary.
