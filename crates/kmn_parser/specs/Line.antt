@@ -1,6 +1,9 @@
 -- The statement of a logical line's tokens, or the first fault in it.
 use Rattle.std.specs.Prelude.{ℕ, ◌+◌, ◌-◌, ◌==◌, nat_lt, Bool, true, false, not, ◌&&◌, ◌||◌, if◌then◌else◌, List, [], ◌∷◌, length, take, drop, codes, Option, None, Some, is_some, unwrap_or, option_map, Result, Ok, Err}
 use Rattle.std.specs.List.{list_any, position_or_len}
+use Rattle.std.specs.Ordering.{nat_cmp, is_lt}
+use Rattle.std.specs.Cmp.Lexicographic.{slice_cmp}
+use Rattle.kmn_base.specs.CodeTexts.{code_text}
 use Rattle.kmn_base.specs.declared.codes.Code.{Code}
 use Rattle.kmn_base.specs.declared.codes.Code.TheVariants as code
 use Rattle.kmn_lines.specs.Bytes.{or_else}
@@ -205,28 +208,13 @@ rule_body group line last arrow plus tokens =
     and_then (read_items section.Output unseen last 0 (arrow + 1) (drop (arrow + 1) tokens)) (λ output.
     Ok (record { line = line; kind = Plain; context = context; key = key; output = output }))))
 
--- the order of the codes of a source's form
-abbrev pub code_number : Code → ℕ
-code_number code.L02 = 2
-code_number code.L03 = 3
-code_number code.L04 = 4
-code_number code.S01 = 11
-code_number code.S02 = 12
-code_number code.S03 = 13
-code_number code.S04 = 14
-code_number code.S05 = 15
-code_number code.S06 = 16
-code_number code.S07 = 17
-code_number code.S08 = 18
-code_number code.S09 = 19
-code_number code.S10 = 20
-code_number code.S11 = 21
-code_number code.S12 = 22
-code_number other = 1
+-- a code is less than another where its text is
+abbrev pub is_lesser : Code → Code → Bool
+is_lesser code other = is_lt (slice_cmp nat_cmp (code_text code) (code_text other))
 
 -- the earlier of a code at the first token and a fault: at the first token too the lesser code goes first
 abbrev pub earlier : Code → Fault → Fault
-earlier head found = if (found.at == 0) && nat_lt (code_number found.code) (code_number head) then found else fault 0 head
+earlier head found = if (found.at == 0) && is_lesser found.code head then found else fault 0 head
 
 -- what is read, unless a code at the first token comes first
 abbrev pub earliest : Option Code → Result RuleDef Fault → Result Statement Fault

@@ -2,7 +2,7 @@
 
 ghost use Rattle.std.specs.Prelude.{◌≡◌, ◌+◌, ◌<◌, ◌≤◌, ◌^◌, length};
 ghost use Rattle.kmn_items.specs.TokenTexts.{texts, with_text, Reads};
-ghost use Rattle.kmn_parser.specs.Line.{no_group, is_empty_quote, has_items, no_output, match_fault, read_match, begins_rule, uses_keys, rule_head, rule_key, rule_body, code_number, earlier, rule_at, read_rule};
+ghost use Rattle.kmn_parser.specs.Line.{no_group, is_empty_quote, has_items, no_output, match_fault, read_match, begins_rule, uses_keys, rule_head, rule_key, rule_body, is_lesser, earlier, rule_at, read_rule};
 
 use crate::signs::place_of;
 use crate::statement::{LastGroup, Line, Sign, Statement};
@@ -203,35 +203,18 @@ fn rule_body(alloc: Global, line: Line<'_>, signs: Signs) -> Result<RuleDef, Tro
     })
 }
 
-/// The place of a code in the order of the codes of a source's form.
-fn code_number(code: Code) -> u8
-    ensures { result ≡ code_number code }
+/// Whether a code is less than another, as they are printed.
+fn is_lesser(code: Code, other: Code) -> bool
+    ensures { result ≡ is_lesser code other }
 {
-    match code {
-        Code::L02 => 2,
-        Code::L03 => 3,
-        Code::L04 => 4,
-        Code::S01 => 11,
-        Code::S02 => 12,
-        Code::S03 => 13,
-        Code::S04 => 14,
-        Code::S05 => 15,
-        Code::S06 => 16,
-        Code::S07 => 17,
-        Code::S08 => 18,
-        Code::S09 => 19,
-        Code::S10 => 20,
-        Code::S11 => 21,
-        Code::S12 => 22,
-        _ => 1,
-    }
+    code.text() < other.text()
 }
 
 /// The earlier of a code at the first token and a fault.
 fn earlier(head: Code, found: Fault) -> Fault
     ensures { result ≡ earlier head found }
 {
-    if found.at == 0 && code_number(found.code) < code_number(head) {
+    if found.at == 0 && is_lesser(found.code, head) {
         found
     } else {
         Fault { at: 0, code: head }
