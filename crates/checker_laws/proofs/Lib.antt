@@ -13,3 +13,5 @@ pub mod Contexts
 pub mod Outputs
 pub mod Records
 pub mod Written
+pub mod Sources
+pub mod Placeless

@@ -20,14 +20,6 @@ pub All-flat_map : {X Y : Type 0} (P : X → Type 0) (Q : Y → Type 0) (f : X �
 All-flat_map P Q f each [] h = All-nil Q
 All-flat_map P Q f each (x ∷ xs) h = All-append Q (f x) (flat_map f xs) (each x (All-head P x xs h)) (All-flat_map P Q f each xs (All-tail P x xs h))
 
-pub All-filter : {X : Type 0} (P : X → Type 0) (test : X → Bool) (xs : List X) → All P xs → All P (filter test xs)
-All-filter P test [] h = All-nil P
-All-filter P test (x ∷ xs) h = by (test x) (All-filter P test xs (All-tail P x xs h))
-  where
-    by : (b : Bool) → All P (filter test xs) → All P (if b then x ∷ filter test xs else filter test xs)
-    by true rest = All-cons P x (filter test xs) (All-head P x xs h) rest
-    by false rest = rest
-
 -- what isn't the same as something before is one of the list
 pub All-distinct : {X : Type 0} (P : X → Type 0) (same : X → X → Bool) (seen xs : List X) → All P seen → All P xs → All P (distinct_onto same seen xs)
 All-distinct P same seen [] before h = before
@@ -44,9 +36,9 @@ All-append_parts P (x ∷ xs) ys h =
     let rest = All-append_parts P xs ys (All-tail P x (xs ++ ys) h) in
     (All-cons P x xs (All-head P x (xs ++ ys) h) rest.0, rest.1)
 
-pub all_behind : {X : Type 0} (P : X → Type 0) (xs ys : List X) → AllByRecursion P (xs ++ ys) → AllByRecursion P ys
-all_behind P [] ys h = h
-all_behind P (x ∷ xs) ys h = all_behind P xs ys h.1
+pub all_parts : {X : Type 0} (P : X → Type 0) (xs ys : List X) → AllByRecursion P (xs ++ ys) → AllByRecursion P xs × AllByRecursion P ys
+all_parts P [] ys h = (tt, h)
+all_parts P (x ∷ xs) ys h = let rest = all_parts P xs ys h.1 in ((h.0, rest.0), rest.1)
 
 pub all_of : {X : Type 0} (P : X → Type 0) (xs : List X) → AllByRecursion P xs → All P xs
 all_of P [] h = All-nil P

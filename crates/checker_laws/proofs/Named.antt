@@ -35,6 +35,7 @@ use Rattle.checker_laws.proofs.Accepted.{IsUnrefused, unrefused}
 use Rattle.checker_laws.proofs.Stated.{group_there, store_there}
 use Rattle.checker_laws.proofs.Reading.{has_parts, have_parts, all_have_parts, words_read, no_dictionary_read}
 use Rattle.checker_laws.proofs.Options.{fixed}
+use Rattle.checker_laws.proofs.Lists.{all_parts}
 
 -- the start statement: there is one, and its group is stated
 start_names_group : (names : Stated) (start : BeginDef) → Stands (begin_refusal names) start → is_named names.groups start.group ≡ true
@@ -102,6 +103,10 @@ index_fixed program rule store offset at h = chosen (is_some rule.key) (nat_eq o
         (none_broken C08 (not (points_to is_pattern_item rule.context offset)) ((C09, not (points_to is_any_item rule.context offset)) ∷ []) g).0)
     chosen key false e g = absurd (cc)
 
+pub never_both : (a : Bool) → broken ((C08, a) ∷ (C12, true) ∷ []) ≡ None → ⊥
+never_both true h = absurd (cc)
+never_both false h = absurd (cc)
+
 module _ (program : Program) (rule : RuleDef) where
   known_output : (item : SrcItem) → rule_item_code (stated program) item ≡ None → rule_output_code (known program) rule item ≡ None → is_known_output program (length rule.context) item ≡ true
   known_output (source.Index store offset) named h = by (nat_eq offset (length rule.context + 1)) refl
@@ -116,10 +121,6 @@ module _ (program : Program) (rule : RuleDef) where
   known_output (source.Save store) named h = named_there program store (store_is_named program (source.Save store) named)
   known_output (source.Reset store) named h = named_there program store (store_is_named program (source.Reset store) named)
   known_output item named h = refl
-
-  never_both : (a : Bool) → broken ((C08, a) ∷ (C12, true) ∷ []) ≡ None → ⊥
-  never_both true h = absurd (cc)
-  never_both false h = absurd (cc)
 
   known_match_output : (item : SrcItem) → rule_item_code (stated program) item ≡ None → match_output_code (known program) item ≡ None → is_known_output program (length rule.context) item ≡ true
   known_match_output (source.Index store offset) named h = absurd (never_both (nat_eq offset 0) h)
@@ -138,10 +139,6 @@ all_known test P f (x ∷ xs) h = rw (f x h.0) (all_known test P f xs h.1)
 all_known_by_two : {X : Type 0} (test : X → Bool) (P Q : X → Type 0) → ((x : X) → P x → Q x → test x ≡ true) → (xs : List X) → AllByRecursion P xs → AllByRecursion Q xs → list_all test xs ≡ true
 all_known_by_two test P Q f [] h k = refl
 all_known_by_two test P Q f (x ∷ xs) h k = rw (f x h.0 k.0) (all_known_by_two test P Q f xs h.1 k.1)
-
-all_front : {X : Type 0} (P : X → Type 0) (xs ys : List X) → AllByRecursion P (xs ++ ys) → AllByRecursion P xs × AllByRecursion P ys
-all_front P [] ys h = (tt, h)
-all_front P (x ∷ xs) ys h = let rest = all_front P xs ys h.1 in ((h.0, rest.0), rest.1)
 
 -- the key of a rule
 fit_keys : (elements : List Element) → list_any is_unfit_key elements ≡ false → list_all (λ e. is_some (key_of_element e)) elements ≡ true
@@ -190,10 +187,10 @@ module _ (program : Program) (using_keys : Bool) where
   known_rule rule named items parts = by rule.kind refl (none_at_line rule.line (items_rule_code (known program) rule.kind rule) items.1) parts
     where
       context : AllByRecursion IsNamed rule.context
-      context = (all_front IsNamed rule.context (option_to_list rule.key ++ rule.output) (named_items rule named)).0
+      context = (all_parts IsNamed rule.context (option_to_list rule.key ++ rule.output) (named_items rule named)).0
 
       output : AllByRecursion IsNamed rule.output
-      output = (all_front IsNamed (option_to_list rule.key) rule.output (all_front IsNamed rule.context (option_to_list rule.key ++ rule.output) (named_items rule named)).1).1
+      output = (all_parts IsNamed (option_to_list rule.key) rule.output (all_parts IsNamed rule.context (option_to_list rule.key ++ rule.output) (named_items rule named)).1).1
 
       patterns : list_all (is_known_pattern program) rule.context ≡ true
       patterns = all_known (is_known_pattern program) IsNamed (known_pattern program) rule.context context

@@ -41,10 +41,6 @@ any_implies : {X : Type 0} (p q : X → Bool) → ((x : X) → Implies (p x) (q 
 any_implies p q f [] h = h
 any_implies p q f (x ∷ xs) h = or_implies (p x) (list_any p xs) (q x) (list_any q xs) (f x) (any_implies p q f xs) h
 
-or_left : (a b : Bool) → Implies a (a || b)
-or_left true b h = refl
-or_left false b h = absurd (cc)
-
 or_right : (a b : Bool) → Implies b (a || b)
 or_right true b h = refl
 or_right false b h = h

@@ -38,6 +38,7 @@ use Rattle.checker_laws.proofs.Within.{few_groups}
 use Rattle.checker_laws.proofs.Numbers.{group_number}
 use Rattle.checker_laws.proofs.Elements.{IsSoundElement, found_sound, stated_sound, mark_operand}
 use Rattle.checker_laws.proofs.Contexts.{matched, any_there, pointing, pointed, store_fits, value_fits, one_store, two_stores, only_value}
+use Rattle.checker_laws.proofs.Named.{never_both}
 
 module _ (program : Program) (read : IsRead program) (whole : IsUnrefused program) where
   abbrev stores : ℕ
@@ -262,11 +263,7 @@ module _ (program : Program) (read : IsRead program) (whole : IsUnrefused progra
   }
 
   no_offset : (offset : ℕ) → offset_code offset ≡ None → ⊥
-  no_offset offset h = by (nat_eq offset 0) h
-    where
-      by : (a : Bool) → broken ((C08, a) ∷ (C12, true) ∷ []) ≡ None → ⊥
-      by true g = absurd (cc)
-      by false g = absurd (cc)
+  no_offset offset h = never_both (nat_eq offset 0) h
 
   match_item_written : (item : SrcItem) → IsReadItem item → is_known_output program 0 item ≡ true → has_values program item ≡ true → match_output_code (known program) item ≡ None
       → OutsAreWritten NeedsNone (item_size (stores_of program) item) (file_output (numbers_of program) 0 None item)

@@ -8,7 +8,7 @@ use Rattle.std.proofs.lemmas.List.{length-map}
 use Rattle.std.proofs.lemmas.List.Concat.{length-flat_map}
 use Rattle.std.proofs.lemmas.List.Elements.{All-nil, All-cons, All-head, All-tail}
 use Rattle.std.proofs.lemmas.List.Sums.{sum-map}
-use Rattle.std.proofs.lemmas.Bool.{or_parts}
+use Rattle.std.proofs.lemmas.Bool.{or_parts, ltb-false}
 use Rattle.kmn_base.specs.declared.codes.Code.TheVariants.{C16, C17, C18, C19, C20, C21, C22}
 use Rattle.kmn_base.specs.declared.items.Element.TheVariants as element
 use Rattle.kmn_base.specs.declared.limits.TheConstants.{CONTEXT_ITEMS, OUTPUT_ITEMS, STORE_ELEMENTS, ALL_ELEMENTS, STORES, GROUPS, RECORDS, DEADKEYS, KEY_NAMES}
@@ -32,7 +32,7 @@ use Rattle.limit_checker.specs.Limits.{Statement, OfStore, OfRule, in_line_order
 use Rattle.rule_checker.specs.Refused.{IsRead, refused}
 use Rattle.checker_laws.specs.Laws.{statements_of}
 use Rattle.checker_laws.proofs.Unrefused.{none_earlier, none_at_line, none_broken, none_first, Stands}
-use Rattle.checker_laws.proofs.Lists.{All-append_parts, all_behind}
+use Rattle.checker_laws.proofs.Lists.{All-append_parts, all_parts}
 use Rattle.checker_laws.proofs.Accepted.{IsUnrefused, unrefused}
 use Rattle.checker_laws.proofs.Reading.{own_keys_read}
 use Rattle.checker_laws.proofs.Sizes.{element_count, items_in_order, joined_size, sizes_counted}
@@ -44,9 +44,6 @@ holds_of_all refusal P step before [] start h = subst P (sym (append-nil before)
 holds_of_all refusal P step before (x ∷ xs) start h =
     let both : (refusal before x ≡ None) × (first_of refusal (before ++ x ∷ []) xs ≡ None) = none_earlier (refusal before x) (first_of refusal (before ++ x ∷ []) xs) h in
     subst P (append_assoc before (x ∷ []) xs) (holds_of_all refusal P step (before ++ x ∷ []) xs (step before x both.0) both.1)
-
-not_more : (limit n : ℕ) → nat_lt limit n ≡ false → n ≤ limit
-not_more limit n h = grind (arith, nat_tests, h)
 
 -- what the limits at a statement say of all statements up to it
 record Within (facts : Known) (through : List Statement) : Type 0 where
@@ -76,9 +73,9 @@ module _ (facts : Known) (before : List Statement) (statement : Statement) (h : 
         b.0,
         record {
           elements = c.0;
-          stores = not_more STORES (length (sizes facts through)) d.0;
-          marks = not_more DEADKEYS (mark_count through) e.0;
-          records = not_more RECORDS (all_records facts through) f.0;
+          stores = ltb-false STORES (length (sizes facts through)) d.0;
+          marks = ltb-false DEADKEYS (mark_count through) e.0;
+          records = ltb-false RECORDS (all_records facts through) f.0;
         },
       )
 
@@ -99,7 +96,7 @@ all_within program h =
 rules_among : (P : Statement → Type 0) (stores : List StoreDef) (rules : List RuleDef) → AllByRecursion P (in_line_order stores rules) → AllByRecursion (λ (rule : RuleDef). P (OfRule rule)) rules
 rules_among P stores [] h = tt
 rules_among P stores (rule ∷ rules) h =
-    let rest = all_behind P (map OfStore (stores_before rule.line stores)) (OfRule rule ∷ in_line_order (stores_after rule.line stores) rules) h in
+    let rest = (all_parts P (map OfStore (stores_before rule.line stores)) (OfRule rule ∷ in_line_order (stores_after rule.line stores) rules) h).1 in
     (rest.0, rules_among P (stores_after rule.line stores) rules rest.1)
 
 -- no rule has too many items
@@ -112,7 +109,7 @@ short_rules facts [] h = All-nil (IsShortRule facts.stores)
 short_rules facts (rule ∷ rules) h =
     let parts = here facts h.0.0 (OfRule rule) h.0.1 in
     All-cons (IsShortRule facts.stores) rule rules
-    (record { context = not_more CONTEXT_ITEMS (length rule.context) parts.0; output = not_more OUTPUT_ITEMS (output_size facts.stores rule.output) parts.1 })
+    (record { context = ltb-false CONTEXT_ITEMS (length rule.context) parts.0; output = ltb-false OUTPUT_ITEMS (output_size facts.stores rule.output) parts.1 })
     (short_rules facts rules h.1)
 
 pub rules_are_short : (program : Program) → IsUnrefused program → All (IsShortRule (stores_of program)) (all_rules program)
@@ -126,7 +123,7 @@ rules_are_short program whole =
 pub few_groups : (program : Program) → IsUnrefused program → length program.groups ≤ GROUPS
 few_groups program whole =
     holds_of_all group_refusal (λ (groups : List GroupDef). length groups ≤ GROUPS)
-    (λ before group g. not_more GROUPS (length (before ++ group ∷ [])) (none_broken C20 (are_many_groups (before ++ group ∷ [])) [] (none_at_line group.line (broken ((C20, are_many_groups (before ++ group ∷ [])) ∷ [])) g)).0)
+    (λ before group g. ltb-false GROUPS (length (before ++ group ∷ [])) (none_broken C20 (are_many_groups (before ++ group ∷ [])) [] (none_at_line group.line (broken ((C20, are_many_groups (before ++ group ∷ [])) ∷ [])) g)).0)
     [] program.groups (omega arith) (limits_parts program whole.limits).1
 
 -- at most so many deadkeys
@@ -144,7 +141,7 @@ none_large : (sizes : List Store) → list_any (nat_lt STORE_ELEMENTS) (map elem
 none_large [] h = All-nil (λ (s : Store). length s.elements ≤ STORE_ELEMENTS)
 none_large (s ∷ stores) h =
     let both = or_parts (nat_lt STORE_ELEMENTS (length s.elements)) (list_any (nat_lt STORE_ELEMENTS) (map element_count stores)) h in
-    All-cons (λ (t : Store). length t.elements ≤ STORE_ELEMENTS) s stores (not_more STORE_ELEMENTS (length s.elements) both.0) (none_large stores both.1)
+    All-cons (λ (t : Store). length t.elements ≤ STORE_ELEMENTS) s stores (ltb-false STORE_ELEMENTS (length s.elements) both.0) (none_large stores both.1)
 
 module _ (program : Program) (read : IsRead program) (whole : IsUnrefused program) where
   abbrev counted : sizes (known program) (statements_of program) ≡ map element_count (compiled_stores program)
@@ -164,7 +161,7 @@ module _ (program : Program) (read : IsRead program) (whole : IsUnrefused progra
 
   pub few_in_all : length (flat_map (λ (s : Store). s.elements) (compiled_stores program)) ≤ ALL_ELEMENTS
   few_in_all =
-      let all = not_more ALL_ELEMENTS (sum (map element_count (compiled_stores program))) elements_within.1 in
+      let all = ltb-false ALL_ELEMENTS (sum (map element_count (compiled_stores program))) elements_within.1 in
       omega (arith, all, sum-map element_count (compiled_stores program), length-flat_map (λ (s : Store). s.elements) (compiled_stores program))
 
 -- each name has a character, so a dictionary that keeps the limit of a store has few names

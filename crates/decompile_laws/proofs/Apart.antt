@@ -13,7 +13,7 @@ use Rattle.program_text.specs.Names.{is_source_name}
 use Rattle.kmn_items.specs.Words.{is_system_name}
 use Rattle.kmn_items.specs.TokenTexts.{is_wordy}
 use Rattle.kmn_lines.specs.Tokens.{token_size, token_kind, token_fault}
-use Rattle.decompile_laws.proofs.Choosing.{clash}
+use Rattle.kmn_lines.proofs.Sizes.{clash}
 
 -- names of which the one at a place is the first that is the same
 abbrev pub StandsFirst : List ℕ → ℕ → List (Option (List ℕ)) → Type 0

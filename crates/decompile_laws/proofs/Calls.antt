@@ -19,7 +19,7 @@ use Rattle.kmn_items.specs.Words.{is_system_name}
 use Rattle.decompile_laws.proofs.Apart.{AreFree, free-drop, first-free, source-some}
 use Rattle.decompile_laws.proofs.Thin.{KeepsOptions}
 use Rattle.decompile_laws.proofs.Linking.{IsSimple}
-use Rattle.decompile_laws.proofs.Choosing.{clash}
+use Rattle.kmn_lines.proofs.Sizes.{clash}
 
 -- each store has a name where it is written, and an ordinary one a name that isn't empty
 abbrev pub AreCalls : List ℕ → ℕ → List (Option (List ℕ)) → List Store → Type 0
@@ -63,7 +63,7 @@ pub record IsCalled (n : ℕ) (calls : List (Option (List ℕ))) : Type 0 where
   pub at : slice_get calls n ≡ Some (Some name)
   pub some : same_name name [] ≡ false
 
-written-here : (named : List ℕ) (n : ℕ) (store : Store) → nat_eq store.system 0 ≡ true → list_any (nat_eq n) named ≡ true → is_written named n store ≡ true
+pub written-here : (named : List ℕ) (n : ℕ) (store : Store) → nat_eq store.system 0 ≡ true → list_any (nat_eq n) named ≡ true → is_written named n store ≡ true
 written-here named n store o e = (λ i. if o i then list_any (nat_eq n) named else list_any (nat_eq store.system) written_ids) ∙ e
 
 pub called-at : (named : List ℕ) (j n : ℕ) (calls : List (Option (List ℕ))) (stores : List Store) (store : Store) → AreCalls named j calls stores → slice_get stores n ≡ Some store

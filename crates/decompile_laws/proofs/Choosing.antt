@@ -1,10 +1,7 @@
 -- Choices that are known, and what holds of each item of lists.
-use Rattle.std.proofs.Common.{◌≡◌, Bool, true, false, List, [], ◌∷◌, ◌++◌, sym, ◌∙◌}
+use Rattle.std.proofs.Common.{List, [], ◌∷◌, ◌++◌}
 use Rattle.std.specs.Prelude.{flat_map}
 use Rattle.std.specs.List.{AllByRecursion}
-
-pub clash : {X : Type 0} (b : Bool) → b ≡ true → b ≡ false → X
-clash b e f = let h : true ≡ false = sym e ∙ f in absurd cc
 
 module _ {X : Type 0} (P : X → Type 0) where
   pub all_parts : (xs ys : List X) → AllByRecursion P (xs ++ ys) → AllByRecursion P xs × AllByRecursion P ys

@@ -2,7 +2,7 @@
 use Rattle.std.proofs.Common.{◌≡◌, ℕ, zero, suc, ◌+◌, ◌<◌, ◌≤◌, ◌⊎◌, inl, inr, Bool, true, false, ◌&&◌, ◌||◌, List, [], ◌∷◌, ◌++◌, length, drop, map, Option, Some, refl, sym, ◌∙◌, ap, subst, arith, length-drop}
 use Rattle.std.specs.Prelude.{slice_get, position, option_map, unwrap_or, nat_eq, nat_lt, nat_le, filter, find}
 use Rattle.std.specs.List.{AllByRecursion, AllZip}
-use Rattle.std.proofs.lemmas.Bool.{ltb-true, leb-true, false_from_ne_true, not-true, and_parts, cond_both}
+use Rattle.std.proofs.lemmas.Bool.{ltb-true, leb-true, false_from_ne_true, not-true, and_parts, cond_both, and_right}
 use Rattle.std.proofs.lemmas.List.{length-map}
 use Rattle.std.proofs.lemmas.Option.{none-some, same_Some}
 use Rattle.kmn_base.specs.Names.{same_name}
@@ -132,11 +132,7 @@ good-at P (y ∷ xs) (suc k) x h at = good-at P xs k x h.1 at
 before-false : (a b l m : ℕ) → a ≤ b → m < l → (nat_lt b a || (nat_eq a b && nat_lt l m)) ≡ false
 before-false a b l m less rising =
     (λ i. false_from_ne_true (nat_lt b a) (λ e. let h = ltb-true b a e in absurd (omega (arith, h))) i || (nat_eq a b && false_from_ne_true (nat_lt l m) (λ e. let h = ltb-true l m e in absurd (omega (arith, h))) i))
-    ∙ and-none (nat_eq a b)
-  where
-    and-none : (c : Bool) → (c && false) ≡ false
-    and-none true = refl
-    and-none false = refl
+    ∙ and_right (nat_eq a b) false refl
 
 module _ (n : SourceNames) (names : Names) where
   context-length : (line : ℕ) (r : Rule) → length (src_rule n (back_rule names line r)).context ≡ length r.context

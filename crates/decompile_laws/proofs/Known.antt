@@ -33,7 +33,8 @@ use Rattle.decompile_laws.specs.Back.{back_rule, back_rules, back_statement, mat
 use Rattle.decompile_laws.specs.WrittenOut.{key_codes_of}
 use Rattle.decompile_laws.proofs.Good.{IsMark, IsKey, GoodPattern, GoodOutput, GoodElement, GoodRule, GoodGroup}
 use Rattle.decompile_laws.proofs.Distinct.{Among, at-among, range-at}
-use Rattle.decompile_laws.proofs.Choosing.{clash, all_join}
+use Rattle.decompile_laws.proofs.Choosing.{all_join}
+use Rattle.kmn_lines.proofs.Sizes.{clash}
 
 abbrev pub mark_list : Tables → List (List ℕ)
 mark_list t = map decimal (range_with_len 1 (greatest_mark t))
@@ -57,7 +58,7 @@ pub record IsNamedCode (t : Tables) (code : ℕ) : Type 0 where
   pub name : List ℕ
   pub at : slice_get (key_list t) (code - 256) ≡ Some name
 
-no-zero : is_some (key_name 0) ≡ false
+pub no-zero : is_some (key_name 0) ≡ false
 unfolding key_codes
 no-zero = refl
 

@@ -5,6 +5,7 @@ pub mod Choosing
 pub mod Distinct
 pub mod Free
 pub mod FreshNames
+pub mod FrontCounts
 pub mod FrontStores
 pub mod Good
 pub mod Groups

@@ -83,10 +83,6 @@ front-keys t =
     ∙ marks-unkeyed (unwrap_or (slice_get (free_stores t) 0) []) (greatest_mark t) 2 (key_stores t) (key_list t)
     (keys-named (unwrap_or (slice_get (free_stores t) (length (mark_stores t))) []) (tab_dictionary t.stores))
 
--- all items of the text, in order
-front-items : Tables → List SrcItem
-front-items t = store_items (numbered 1 (front_stores t))
-
 abbrev later_items : Tables → List SrcItem
 later_items t =
     store_items (back_stores (names_for t) (1 + length (front_stores t)) (names_for t).stores t.stores)

@@ -39,6 +39,7 @@ use Rattle.kmn_base.specs.declared.limits.TheConstants.{EVENT_ENTRIES}
 use Rattle.decompile_laws.specs.WrittenOut.{key_codes_of}
 use Rattle.decompile_laws.proofs.Good.{IsNamed, IsOption, IsValue, IsMark, IsKey, IsGroup, GoodPattern, GoodOutput, GoodRule}
 use Rattle.decompile_laws.proofs.Alike.{SameEntry, SameOutputs, SameRule}
+use Rattle.program_text.proofs.Rows.{if-same}
 
 -- an element, without what a virtual key is
 abbrev pub plain : Element → Element
@@ -120,9 +121,6 @@ module _ (ca cb : Content) (a b : Ref) (e : ca a ≡ cb b) where
   unequal-same : (v w : List Element) → v ≡ w → SamePattern ca cb (IfUnequal a v) (IfUnequal b w)
   unequal-same v w f = record { takes = refl; fits = λ seen x. refl; place = λ x. refl; holds = λ i. not (same_value (e i) (f i)); start = refl }
 
-itself : (ca cb : Content) (a : Pattern) → SamePattern ca ca a a
-itself ca cb a = record { takes = refl; fits = λ seen x. refl; place = λ x. refl; holds = refl; start = refl }
-
 -- a key as a text spells it
 abbrev spelled_key : RuleKey → RuleKey
 spelled_key (key.Virtual flags code) = key.Virtual (bit_or flags 0x4000) code
@@ -182,12 +180,8 @@ module _ (p : Program) (t : Tables) (names : Names) (r : Renamed p t names) wher
         ap (act (src p) e c (map (src_output (names_of p)) (map (back_output names) xs))) (λ i. if s.stopped then s else one-same x ok.0 s i)
         ∙ acts-same xs ok.1 (if s.stopped then s else act_one (tab t) f c (tab_output t.stores x) s)
 
-    nothing-done : (b : Bool) (s : EventState) → (if b then s else s) ≡ s
-    nothing-done true s = refl
-    nothing-done false s = refl
-
     output-same : (xs : List Out) → AllByRecursion (GoodOutput t) xs → (s : EventState) → act (src p) e c (map (src_output (names_of p)) (some_items (map (back_output names) xs))) s ≡ act (tab t) f c (map (tab_output t.stores) xs) s
-    output-same [] ok s = nothing-done s.stopped s
+    output-same [] ok s = if-same s.stopped s
     output-same (x ∷ xs) ok s = acts-same (x ∷ xs) ok s
 
   pub outputs-same : (xs : List Out) → AllByRecursion (GoodOutput t) xs → SameOutputs (src p) (tab t) (Called t names) (map (src_output (names_of p)) (map (back_output names) xs)) (map (tab_output t.stores) xs)

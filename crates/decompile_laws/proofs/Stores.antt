@@ -1,8 +1,8 @@
 -- The stores of a text correspond to those of the file.
-use Rattle.std.proofs.Common.{◌≡◌, ℕ, ◌+◌, ◌^◌, ◌<◌, ◌≤◌, inr, true, false, List, [], ◌∷◌, ◌++◌, length, drop, map, Option, None, Some, is_some, refl, sym, ◌∙◌, ap, subst, arith, length-drop, if◌then◌else◌}
-use Rattle.std.specs.Prelude.{slice_get, position, unwrap_or, nat_eq, flat_map, bit_or, codes}
+use Rattle.std.proofs.Common.{◌≡◌, ℕ, ◌+◌, ◌<◌, inr, true, false, List, [], ◌∷◌, ◌++◌, length, drop, map, Option, None, Some, is_some, refl, sym, ◌∙◌, ap, subst, arith, if◌then◌else◌}
+use Rattle.std.specs.Prelude.{slice_get, position, unwrap_or, nat_eq, flat_map, bit_or}
 use Rattle.std.specs.List.{list_any, list_all, AllByRecursion}
-use Rattle.std.proofs.lemmas.List.{length-append, length-map, map-append}
+use Rattle.std.proofs.lemmas.List.{map-append}
 use Rattle.std.proofs.lemmas.List.Elements.{recursion_from_All}
 use Rattle.std.proofs.lemmas.Option.{same_Some}
 use Rattle.kmn_base.specs.declared.items.Element.{Element}
@@ -23,7 +23,6 @@ use Rattle.decompile_laws.specs.Items.{store_called}
 use Rattle.decompile_laws.specs.Back.{back_stores, numbered, mark_store, key_store, stated_marks, mark_stores, key_stores, front_stores, free_stores, names_for, written_stores, written_begins, back}
 use Rattle.decompile_laws.specs.WrittenOut.{is_ordinary, has_characters, KeepsName, CanBeWrittenOut}
 use Rattle.decompile_laws.proofs.Apart.{StandsFirst, AreFree, own_name, later, each-at, free-differs, names_apart, stands_first, same-turned}
-use Rattle.decompile_laws.proofs.Free.{free_names-free, free_names-count}
 use Rattle.decompile_laws.proofs.Good.{IsNamed, IsOption, GoodElement, members, stores_good}
 use Rattle.decompile_laws.proofs.Thin.{thin, KeepsOptions, Stands, stands, behind}
 use Rattle.decompile_laws.proofs.Linking.{thin_stores, IsSimple, stores-mapped, GoesBack, stores-back, written_before, Written, first-written, meanings-thin, options-placed, flags_agree, found-behind, options-append, front-fixed, front-other}
@@ -35,6 +34,7 @@ use Rattle.decompile_laws.proofs.Choosing.{all_join, all_weaker}
 use Rattle.decompile_laws.proofs.OptionNames.{member-has, option-named}
 use Rattle.decompile_laws.proofs.FreshNames.{IsFresh, fresh-at, drop-free, all-taken}
 use Rattle.decompile_laws.proofs.FrontStores.{front-simple, numbered-simple}
+use Rattle.decompile_laws.proofs.FrontCounts.{marks-few, front-size, free-all, free-size, behind-size}
 
 -- an element as a text spells it
 abbrev pub spelled : Element → Element
@@ -55,39 +55,11 @@ module _ (t : Tables) (p : IsPlayable t) (c : CanBeWrittenOut t) where
   abbrev pub calls : List (Option (List ℕ))
   calls = (names_for t).stores
 
-  small : 1 + (length t.stores + 2 + length taken) < 2 ^ 64
-  small = let most = p.store_count in let same = length-map t.stores own_name in omega (arith, most, same)
-
-  free-all : AreFree taken (free_stores t)
-  free-all = free_names-free 115 [] taken (length t.stores + 2) small
-
-  free-size : length (free_stores t) ≡ length t.stores + 2
-  free-size = free_names-count (codes "s") taken (length t.stores + 2) small
-
-  mark-size : (name : List ℕ) (count : ℕ) → length (mark_store name count) ≤ 1
-  mark-size name count = elim (nat_eq count 0) as (λ b. length (if b then [] else stated_marks name count ∷ []) ≤ 1) [ true ↦ omega arith | false ↦ omega arith ]
-
-  key-size : (name : List ℕ) (keys : List (List ℕ)) → length (key_store name keys) ≤ 1
-  key-size name [] = omega arith
-  key-size name (k ∷ keys) = omega arith
-
-  front-size : front_count ≡ length (mark_stores t) + length (key_stores t)
-  front-size = length-append (mark_stores t) (key_stores t)
-
-  front-few : front_count ≤ 2
-  front-few =
-      let size = front-size in
-      let one = mark-size (unwrap_or (slice_get (free_stores t) 0) []) (greatest_mark t) in
-      let two = key-size (unwrap_or (slice_get (free_stores t) (length (mark_stores t))) []) (tab_dictionary t.stores) in omega (arith, size, one, two)
-
   behind-free : AreFree taken free_behind
-  behind-free = drop-free taken front_count (free_stores t) free-all
-
-  behind-size : length t.stores ≤ length free_behind
-  behind-size = let size = free-size in let few = front-few in let l = length-drop front_count (free_stores t) in omega (arith, size, few, l)
+  behind-free = drop-free taken front_count (free_stores t) (free-all t p)
 
   pub the-calls : AreCalls (named_stores t) 0 calls t.stores
-  the-calls = are_calls (named_stores t) taken free_behind [] 0 t.stores behind-free behind-size
+  the-calls = are_calls (named_stores t) taken free_behind [] 0 t.stores behind-free (behind-size t p)
 
   pub along : length calls ≡ length t.stores
   along = calls-along (named_stores t) 0 calls t.stores the-calls
@@ -113,7 +85,7 @@ module _ (t : Tables) (p : IsPlayable t) (c : CanBeWrittenOut t) where
         name = called.name;
         at = called.at;
         some = called.some;
-        first = stands_first called.name n calls called.some (names_apart (named_stores t) taken free_behind [] 0 t.stores behind-free behind-size (all-taken t.stores)) called.at;
+        first = stands_first called.name n calls called.some (names_apart (named_stores t) taken free_behind [] 0 t.stores behind-free (behind-size t p) (all-taken t.stores)) called.at;
         called = ap (λ (o : Option (Option (List ℕ))). unwrap_or (unwrap_or o None) []) called.at;
       }
 
@@ -138,16 +110,16 @@ module _ (t : Tables) (p : IsPlayable t) (c : CanBeWrittenOut t) where
 
   front-others : (n : ℕ) (r : Ready n) → AllByRecursion (Other r.name) (front_stores t)
   front-others n r =
-      let size = front-size in
-      let all = free-size in
-      let one = mark-size (unwrap_or (slice_get (free_stores t) 0) []) (greatest_mark t) in (
+      let size = front-size t in
+      let all = free-size t p in
+      let one = marks-few t in (
         λ k. same-turned r.name [] r.some,
         all_join (Other r.name) (mark_stores t) (key_stores t)
             (mark-other r.name (unwrap_or (slice_get (free_stores t) 0) []) (greatest_mark t)
-            (λ some. fresh-other (unwrap_or (slice_get (free_stores t) 0) []) r.name n (fresh-at taken 0 front_count (free_stores t) free-all (omega (arith, all)) (omega (arith, size, some))) r.at))
+            (λ some. fresh-other (unwrap_or (slice_get (free_stores t) 0) []) r.name n (fresh-at taken 0 front_count (free_stores t) (free-all t p) (omega (arith, all)) (omega (arith, size, some))) r.at))
             (key-other r.name (unwrap_or (slice_get (free_stores t) (length (mark_stores t))) []) (tab_dictionary t.stores)
             (λ some. fresh-other (unwrap_or (slice_get (free_stores t) (length (mark_stores t))) []) r.name n
-            (fresh-at taken (length (mark_stores t)) front_count (free_stores t) free-all (omega (arith, all, one)) (omega (arith, size, some))) r.at)),
+            (fresh-at taken (length (mark_stores t)) front_count (free_stores t) (free-all t p) (omega (arith, all, one)) (omega (arith, size, some))) r.at)),
       )
 
   -- the stores of the text

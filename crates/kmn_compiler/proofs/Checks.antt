@@ -1,5 +1,5 @@
 -- What holds of a source that is accepted, and of the program that it has.
-use Rattle.std.proofs.Common.{◌≡◌, ℕ, List, Option, Some, None, Result, Ok, Err, refl, ap, sym, subst}
+use Rattle.std.proofs.Common.{◌≡◌, ℕ, List, None, Result, Ok, Err, ap, sym, subst}
 use Rattle.kmn_base.specs.Answers.{Answers, and_then}
 use Rattle.kmn_base.specs.declared.refusals.CompileError.{CompileError}
 use Rattle.kmn_base.specs.declared.refusals.CompileError.TheVariants as error
@@ -16,36 +16,21 @@ use Rattle.kmx_writer.specs.Excess.{excess}
 use Rattle.compile_laws.specs.Means.{Means}
 use Rattle.compile_laws.specs.Ordered.{compiled_tables}
 use Rattle.kmn_parser.specs.Source.{parsed}
-use Rattle.kmn_parser.proofs.ReadPrograms.{programs_are_read}
-use Rattle.kmn_parser.proofs.SourceLines.{statements_in_order}
 use Rattle.store_table.specs.First.{or_refusal}
 use Rattle.rule_checker.specs.Refused.{IsRead, refused, checked}
 use Rattle.compile_laws.proofs.Ordered.{program_compiles}
 use Rattle.checker_laws.proofs.Named.{well_named}
 use Rattle.checker_laws.proofs.Written.{tables_written}
+use Rattle.checker_laws.proofs.Sources.{source_read, accepted_parts}
 use Rattle.kmn_compiler.proofs.Accepted.{IsAccepted, accepted_means, accepted_steps, accepted_prints}
 
 -- a program that was read and isn't refused is accepted
 pub is_accepted : (program : Program) → IsRead program → refused program ≡ None → IsAccepted program
 is_accepted program read kept = record { named = well_named program read kept; writable = tables_written program (compiled_tables program) read kept (program_compiles program) }
 
--- what a program has that a source is read as
-pub is_read : (source : List ℕ) (program : Program) → parsed source ≡ Ok program → IsRead program
-is_read source program is = record { statements = programs_are_read source program is; order = statements_in_order source program is }
-
-accepted_unless : (found : Program) (refusal : Option Refusal) (program : Program) → IsRead found → refused found ≡ refusal → or_refusal found refusal ≡ Ok program → IsAccepted program
-accepted_unless found None program read kept is =
-    let e : found ≡ program = cc in
-    subst IsAccepted e (is_accepted found read kept)
-accepted_unless found (Some refusal) program read kept is = absurd (cc)
-
-accepted_result : (source : List ℕ) (read : Result Program Refusal) (program : Program) → parsed source ≡ read → and_then read (λ p. or_refusal p (refused p)) ≡ Ok program → IsAccepted program
-accepted_result source (Err refusal) program at is = absurd (cc)
-accepted_result source (Ok found) program at is = accepted_unless found (refused found) program (is_read source found at) refl is
-
 -- the program of a source that is accepted
 pub checked_accepted : (source : List ℕ) (program : Program) → checked source ≡ Ok program → IsAccepted program
-checked_accepted source program is = accepted_result source (parsed source) program refl is
+checked_accepted source program is = let parts = accepted_parts source program is in is_accepted program (source_read source program parts.0) parts.1
 
 -- what the check of a program answers that was read
 pub checked_read : (source : List ℕ) (program : Program) (result : Result Program CompileError) → parsed source ≡ Ok program → Answers (or_refusal program (refused program)) result → Answers (checked source) result

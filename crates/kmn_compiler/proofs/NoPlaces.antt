@@ -1,13 +1,13 @@
 -- The meaning of tables does not look at the places of keys in key stores.
-use Rattle.std.proofs.Common.{◌≡◌, Bool, List, [], ◌∷◌, ◌++◌, map, refl, ap}
-use Rattle.std.specs.Prelude.{flat_map}
+use Rattle.std.proofs.Common.{◌≡◌, Bool, List, [], ◌∷◌, map, refl, ap}
 use Rattle.rule_model.specs.declared.tables.Rule.{Rule}
 use Rattle.rule_model.specs.declared.tables.Store.{Store}
 use Rattle.rule_model.specs.declared.tables.Group.{Group}
 use Rattle.rule_model.specs.declared.tables.Tables.{Tables}
 use Rattle.rule_model.specs.Keyboard.{RuleMeaning}
-use Rattle.rule_model.specs.Tab.{tab, tab_rule, tab_group, tab_options, rule_options, group_options, with_options}
+use Rattle.rule_model.specs.Tab.{tab, tab_rule, tab_group, tab_options, with_options}
 use Rattle.kmx_format.specs.TablesOf.{rule_without_place, group_without_places, no_places}
+use Rattle.checker_laws.proofs.Placeless.{placeless_options}
 
 rules_mean : (stores : List Store) (using_keys : Bool) (rules : List Rule) → map (tab_rule stores using_keys) (map rule_without_place rules) ≡ map (tab_rule stores using_keys) rules
 rules_mean stores using_keys [] = refl
@@ -18,15 +18,7 @@ groups_mean stores [] = refl
 groups_mean stores (group ∷ groups) =
     λ i. record (tab_group stores group) { rules = rules_mean stores group.using_keys group.rules i } ∷ groups_mean stores groups i
 
-rules_use : (rules : List Rule) → flat_map rule_options (map rule_without_place rules) ≡ flat_map rule_options rules
-rules_use [] = refl
-rules_use (rule ∷ rules) = ap (λ rest. rule_options rule ++ rest) (rules_use rules)
-
-groups_use : (groups : List Group) → flat_map group_options (map group_without_places groups) ≡ flat_map group_options groups
-groups_use [] = refl
-groups_use (group ∷ groups) = rw (rules_use group.rules) (ap (λ rest. group_options group ++ rest) (groups_use groups))
-
 pub same_meaning : (tables : Tables) → tab (no_places tables) ≡ tab tables
 unfolding tab tab_options
 same_meaning tables =
-    λ i. record (tab tables) { stores = with_options (groups_use tables.groups i) 0 tables.stores; groups = groups_mean tables.stores tables.groups i }
+    λ i. record (tab tables) { stores = with_options (placeless_options tables i) 0 tables.stores; groups = groups_mean tables.stores tables.groups i }

@@ -1,8 +1,8 @@
 -- The tokens of a line cover its parts.
-use Rattle.std.proofs.Common.{◌≡◌, ℕ, zero, suc, ◌+◌, ◌-◌, ◌<◌, ◌≤◌, Bool, true, false, if◌then◌else◌, List, [], ◌∷◌, length, take, drop, refl, sym, ◌∙◌, ap, subst, arith}
+use Rattle.std.proofs.Common.{◌≡◌, ℕ, zero, suc, ◌+◌, ◌-◌, ◌<◌, ◌≤◌, true, false, List, [], ◌∷◌, length, take, drop, refl, sym, ◌∙◌, ap, subst, arith}
 use Rattle.std.specs.Prelude.{All}
 use Rattle.std.specs.List.{list_all}
-use Rattle.std.proofs.lemmas.Bool.{and_from}
+use Rattle.std.proofs.lemmas.Bool.{and_from, cond_both}
 use Rattle.std.proofs.lemmas.List.{length-take}
 use Rattle.std.proofs.lemmas.List.Elements.{All-cons, All-nil}
 use Rattle.kmn_base.specs.Bytes.{is_blank}
@@ -13,7 +13,7 @@ use Rattle.kmn_lines.specs.Laws.{IsBlankText, IsPlain, Covers, CoversParts, Toke
 use Rattle.kmn_lines.specs.declared.logical.Part.{Part}
 use Rattle.kmn_lines.specs.declared.token.Token.{Token}
 use Rattle.kmn_lines.specs.declared.token.TokenKind.TheVariants.{Word}
-use Rattle.kmn_lines.proofs.Sizes.{token_size-within, token_size-some, words_plain}
+use Rattle.kmn_lines.proofs.Sizes.{token_size-within, token_size-some, words_plain, all-if}
 
 -- a blank before a text that is covered
 covers-blank : (holds : Token → List ℕ → Type 0) (at byte : ℕ) (text : List ℕ) (ts : List Token) → is_blank byte ≡ true → Covers holds (at + 1) text ts → Covers holds at (byte ∷ text) ts
@@ -43,10 +43,6 @@ covers-token holds at text size t ts e f some within h c =
       subst (λ (k : ℕ). Covers holds k (drop (t.to - at) text) ts) (sym f) (subst (λ (k : ℕ). Covers holds (at + size) (drop k text) ts) three c),
     )
 
-covers-if : (holds : Token → List ℕ → Type 0) (at : ℕ) (text : List ℕ) (b : Bool) (ts us : List Token) → (b ≡ true → Covers holds at text ts) → (b ≡ false → Covers holds at text us) → Covers holds at text (if b then ts else us)
-covers-if holds at text true ts us g h = g refl
-covers-if holds at text false ts us g h = h refl
-
 -- what holds of each token that a text begins with
 abbrev HoldsAtEach : ℕ → (Token → List ℕ → Type 0) → Type 0
 HoldsAtEach line holds = (at : ℕ) (text : List ℕ) → 0 < length text → is_blank (first_or_end text) ≡ false → holds (token_at line at (token_text text)) (token_text text)
@@ -63,7 +59,7 @@ scanned-covers holds line each zero at (byte ∷ bytes) h =
     let within : size ≤ suc (length bytes) = token_size-within text (omega arith) in
     let e : at ≡ at + 0 = omega arith in
     subst (λ (k : ℕ). Covers holds k text (scanned line zero at text)) e
-    (covers-if holds at text (is_blank byte) _ _
+    (cond_both (is_blank byte) _ _ (Covers holds at text)
     (λ blank. covers-blank holds at byte bytes _ blank
     (let f : at + 1 + 0 ≡ at + 1 = omega arith in
     subst (λ (k : ℕ). Covers holds k bytes (scanned line zero (at + 1) bytes)) f (scanned-covers holds line each zero (at + 1) bytes (omega arith))))
@@ -77,10 +73,6 @@ scanned-covers holds line each zero at (byte ∷ bytes) h =
     (subst (λ (k : ℕ). Covers holds (at + size) (drop k text) (scanned line (size - 1) (at + 1) bytes)) g
     (subst (λ (k : ℕ). Covers holds k (drop (size - 1) bytes) (scanned line (size - 1) (at + 1) bytes)) f
     (scanned-covers holds line each (size - 1) (at + 1) bytes (omega arith))))))
-
-all-if : (P : Token → Type 0) (b : Bool) (ts us : List Token) → All P ts → All P us → All P (if b then ts else us)
-all-if P true ts us g h = g
-all-if P false ts us g h = h
 
 scanned-numbered : (line n at : ℕ) (text : List ℕ) → All (λ (t : Token). t.line ≡ line) (scanned line n at text)
 scanned-numbered line n at [] = All-nil (λ (t : Token). t.line ≡ line)

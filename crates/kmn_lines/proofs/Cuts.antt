@@ -3,27 +3,22 @@ use Rattle.std.proofs.Common.{◌≡◌, ℕ, ◌+◌, ◌<◌, ◌≤◌, ◌�
 use Rattle.std.specs.Prelude.{All, unwrap_or}
 use Rattle.std.specs.List.{list_all}
 use Rattle.std.proofs.Math.Seq.{take-append_seam, drop-append_seam}
-use Rattle.std.proofs.lemmas.Bool.{eqb-true, and_from, and_left, and_right}
+use Rattle.std.proofs.lemmas.Bool.{eqb-true, and_from, and_left, and_right, and_parts, or_parts, or_cases, cond_both, cond-false, cond-true}
 use Rattle.std.proofs.lemmas.List.{append-nil, take-append-le, drop-append-le}
 use Rattle.std.proofs.lemmas.List.Elements.{All-head, All-tail}
 use Rattle.kmn_base.specs.Bytes.{is_blank, is_quote}
 use Rattle.kmn_lines.specs.declared.line_state.LineState.{LineState}
 use Rattle.kmn_lines.specs.Lines.{starts_comment, line_start, outside, in_line, after_byte}
 use Rattle.kmn_lines.specs.Laws.{quote_behind, open_quote, first_or, last_or, is_outside, is_lone_c, comment_at, is_lone_backslash, joint_at, IsInLine, IsCut}
-use Rattle.kmn_lines.proofs.Sizes.{or-false, and-true}
 
 -- tests that are put together
 and-still : (a b c : Bool) → (a && b) ≡ false → (b ≡ false → c ≡ false) → (a && c) ≡ false
 and-still true b c h f = f h
 and-still false b c h f = refl
 
-pub or-cases : (a b : Bool) → (a || b) ≡ true → (a ≡ true) ⊎ (b ≡ true)
-or-cases true b h = inl refl
-or-cases false b h = inr h
-
 -- a blank is no c, backslash or quote
 blank-is : (byte : ℕ) → is_blank byte ≡ true → (byte ≡ 32) ⊎ (byte ≡ 9)
-blank-is byte h = elim (or-cases (byte == 32) (byte == 9) h) [ inl e ↦ inl (eqb-true byte 32 e) | inr e ↦ inr (eqb-true byte 9 e) ]
+blank-is byte h = elim (or_cases (byte == 32) (byte == 9) h) [ inl e ↦ inl (eqb-true byte 32 e) | inr e ↦ inr (eqb-true byte 9 e) ]
 
 blank-no_c : (byte : ℕ) → is_blank byte ≡ true → ((byte == 99) || (byte == 67)) ≡ false
 blank-no_c byte h =
@@ -43,7 +38,7 @@ blank-no_quote byte h =
 quote-no_blank : (byte : ℕ) → is_quote byte ≡ true → is_blank byte ≡ false
 quote-no_blank byte h =
     let none : ℕ → Type 0 = λ b. is_blank b ≡ false in
-    elim (or-cases (byte == 34) (byte == 39) h) [ inl e ↦ subst none (sym (eqb-true byte 34 e)) refl | inr e ↦ subst none (sym (eqb-true byte 39 e)) refl ]
+    elim (or_cases (byte == 34) (byte == 39) h) [ inl e ↦ subst none (sym (eqb-true byte 34 e)) refl | inr e ↦ subst none (sym (eqb-true byte 39 e)) refl ]
 
 -- what is known of a text with one byte more
 open_quote-more : (quote : Option ℕ) (text : List ℕ) (byte : ℕ) → open_quote quote (text ++ byte ∷ []) ≡ quote_behind (open_quote quote text) byte
@@ -60,7 +55,7 @@ all-blank_less (x ∷ xs) byte h = and-still (is_blank x) (list_all is_blank xs)
 
 all-blank_more : (text : List ℕ) (byte : ℕ) → list_all is_blank text ≡ true → is_blank byte ≡ true → list_all is_blank (text ++ byte ∷ []) ≡ true
 all-blank_more [] byte h b = and_from (is_blank byte) true b refl
-all-blank_more (x ∷ xs) byte h b = let both = and-true (is_blank x) (list_all is_blank xs) h in and_from (is_blank x) _ both.0 (all-blank_more xs byte both.1 b)
+all-blank_more (x ∷ xs) byte h b = let both = and_parts (is_blank x) (list_all is_blank xs) h in and_from (is_blank x) _ both.0 (all-blank_more xs byte both.1 b)
 
 all-blank_not : (text : List ℕ) (byte : ℕ) (bytes : List ℕ) → is_blank byte ≡ false → list_all is_blank (text ++ byte ∷ bytes) ≡ false
 all-blank_not [] byte bytes b = and_left (is_blank byte) _ b
@@ -72,7 +67,7 @@ lone-less (x ∷ xs) byte l h = and-still (x == 92) (list_all is_blank xs) _ h (
 
 lone-more : (text : List ℕ) (byte : ℕ) → is_lone_backslash text ≡ true → is_blank byte ≡ true → is_lone_backslash (text ++ byte ∷ []) ≡ true
 lone-more [] byte h b = absurd cc
-lone-more (x ∷ xs) byte h b = let both = and-true (x == 92) (list_all is_blank xs) h in and_from (x == 92) _ both.0 (all-blank_more xs byte both.1 b)
+lone-more (x ∷ xs) byte h b = let both = and_parts (x == 92) (list_all is_blank xs) h in and_from (x == 92) _ both.0 (all-blank_more xs byte both.1 b)
 
 lone-not : (text : List ℕ) (byte : ℕ) (bytes : List ℕ) → 0 < length text → is_blank byte ≡ false → is_lone_backslash (text ++ byte ∷ bytes) ≡ false
 lone-not [] byte bytes l b = absurd (omega arith)
@@ -110,7 +105,7 @@ joint-less text byte k l h =
 
 joint-more : (text : List ℕ) (byte k : ℕ) → k < length text → joint_at text k ≡ true → is_blank byte ≡ true → joint_at (text ++ byte ∷ []) k ≡ true
 joint-more text byte k l h b =
-    let both = and-true (is_outside text k) (is_lone_backslash (drop k text)) h in
+    let both = and_parts (is_outside text k) (is_lone_backslash (drop k text)) h in
     joint-within text (byte ∷ []) k l ∙ and_from (is_outside text k) _ both.0 (lone-more (drop k text) byte both.1 b)
 
 joint-not : (text : List ℕ) (byte : ℕ) (bytes : List ℕ) (k : ℕ) → k < length text → is_blank byte ≡ false → joint_at (text ++ byte ∷ bytes) k ≡ false
@@ -159,16 +154,8 @@ abbrev pub after_bytes : LineState → ℕ → List ℕ → ℕ → LineState
 after_bytes r at [] next = r
 after_bytes r at (byte ∷ bytes) next = after_bytes (after_byte r at byte (first_or next bytes)) (at + 1) bytes next
 
-unless : (b : Bool) (r s : LineState) → b ≡ false → (if b then r else s) ≡ s
-unless true r s h = absurd cc
-unless false r s h = refl
-
-chosen : (P : LineState → Type 0) (b : Bool) (r s : LineState) → (b ≡ true → P r) → (b ≡ false → P s) → P (if b then r else s)
-chosen P true r s g h = g refl
-chosen P false r s g h = h refl
-
 after-in_line : (quote : Option ℕ) (blank : Bool) (slash : Option ℕ) (at byte next : ℕ) → IsInLine byte → after_byte (state quote blank slash) at byte next ≡ in_line quote (state quote blank slash) at byte next
-after-in_line quote blank slash at byte next h = unless (byte == 13) _ _ (or-false (byte == 10) (byte == 13) h).1
+after-in_line quote blank slash at byte next h = cond-false (byte == 13) _ _ (or_parts (byte == 10) (byte == 13) h).1
 
 frozen : (quote : Option ℕ) (blank : Bool) (slash : Option ℕ) (stop at : ℕ) (bytes : List ℕ) (next : ℕ) → after_bytes (record { quote = quote; after_blank = blank; slash = slash; stop = Some stop }) at bytes next ≡ record { quote = quote; after_blank = blank; slash = slash; stop = Some stop }
 frozen quote blank slash stop at [] next = refl
@@ -215,21 +202,9 @@ knows-inside text line bytes from quote byte blank slash open_then e k g b = rec
       (comment-seam text (byte ∷ bytes) ∙ ap (λ (q : Option ℕ). not (is_some q) && (is_blank (last_or 32 text) && is_lone_c (byte ∷ bytes))) k.quoted));
 }
 
-option-none : (b : Bool) (n : ℕ) → b ≡ false → (if b then Some n else None) ≡ None
-option-none true n h = absurd cc
-option-none false n h = refl
-
-option-then : (b : Bool) (n m : ℕ) → b ≡ true → (if b then None else Some n) ≡ None
-option-then true n m h = refl
-option-then false n m h = absurd cc
-
-option-else : (b : Bool) (n : ℕ) → b ≡ false → (if b then None else Some n) ≡ Some n
-option-else true n h = absurd cc
-option-else false n h = refl
-
 -- a byte outside quotes
 quoted-more : (text : List ℕ) (byte : ℕ) → open_quote None text ≡ None → is_quote byte ≡ false → open_quote None (text ++ byte ∷ []) ≡ None
-quoted-more text byte e h = open_quote-more None text byte ∙ ap (λ (q : Option ℕ). quote_behind q byte) e ∙ option-none (is_quote byte) byte h
+quoted-more text byte e h = open_quote-more None text byte ∙ ap (λ (q : Option ℕ). quote_behind q byte) e ∙ cond-false (is_quote byte) _ _ h
 
 last-more : (text : List ℕ) (byte : ℕ) (b : Bool) → is_blank byte ≡ b → b ≡ is_blank (last_or 32 (text ++ byte ∷ []))
 last-more text byte b h = sym (ap is_blank (last_or-more 32 text byte) ∙ h)
@@ -340,13 +315,13 @@ cut (byte ∷ bytes) text line from at (Some q) blank slash next e f n p k =
     let place : at + 1 ≡ from + length (text ++ byte ∷ []) = omega (arith, length-append text (byte ∷ [])) in
     let known = k.behind_blank in
     subst P (sym (after-in_line (Some q) blank slash at byte (first_or next bytes) (All-head IsInLine byte bytes p)))
-    (chosen P (byte == q) _ _
+    (cond_both (byte == q) _ _ P
     (λ same.
     let quote : is_quote byte ≡ true = subst (λ (b : ℕ). is_quote b ≡ true) (sym (eqb-true byte q same)) known.1 in
     cut bytes (text ++ byte ∷ []) line from (at + 1) None blank slash next longer place n rest
-    (knows-inside text line bytes from q byte blank slash None e k (option-then (byte == q) q q same) (known.0 ∙ last-more text byte false (quote-no_blank byte quote))))
+    (knows-inside text line bytes from q byte blank slash None e k (cond-true (byte == q) _ _ same) (known.0 ∙ last-more text byte false (quote-no_blank byte quote))))
     (λ other. cut bytes (text ++ byte ∷ []) line from (at + 1) (Some q) blank slash next longer place n rest
-    (knows-inside text line bytes from q byte blank slash (Some q) e k (option-else (byte == q) q other) known)))
+    (knows-inside text line bytes from q byte blank slash (Some q) e k (cond-false (byte == q) _ _ other) known)))
 cut (byte ∷ bytes) text line from at None blank slash next e f n p k =
     let P : LineState → Type 0 = λ r. Cut line from (after_bytes r (at + 1) bytes next) in
     let rest = All-tail IsInLine byte bytes p in
@@ -354,12 +329,12 @@ cut (byte ∷ bytes) text line from at None blank slash next e f n p k =
     let place : at + 1 ≡ from + length (text ++ byte ∷ []) = omega (arith, length-append text (byte ∷ [])) in
     let comment : comment_at line (length text) ≡ starts_comment blank byte (first_or next bytes) = subst (λ (t : List ℕ). comment_at t (length text) ≡ starts_comment blank byte (first_or next bytes)) (sym e) (comment-is text bytes blank byte next k.quoted k.behind_blank rest n) in
     subst P (sym (after-in_line None blank slash at byte (first_or next bytes) (All-head IsInLine byte bytes p)))
-    (chosen P (is_blank byte) _ _
+    (cond_both (is_blank byte) _ _ P
     (λ b. cut bytes (text ++ byte ∷ []) line from (at + 1) None true slash next longer place n rest
     (knows-blank text line from byte blank slash k b (comment ∙ and_left (blank && ((byte == 99) || (byte == 67))) _ (and_right blank _ (blank-no_c byte b)))))
-    (λ b. chosen P (starts_comment blank byte (first_or next bytes)) _ _
+    (λ b. cond_both (starts_comment blank byte (first_or next bytes)) _ _ P
     (λ c. subst (Cut line from) (sym (frozen None blank None at (at + 1) bytes next)) (cut-comment text line bytes from at byte blank slash e f k b (comment ∙ c)))
-    (λ c. chosen P (byte == 92) _ _
+    (λ c. cond_both (byte == 92) _ _ P
     (λ s. cut bytes (text ++ byte ∷ []) line from (at + 1) None false (Some at) next longer place n rest
     (knows-backslash text line from at byte blank slash f k (eqb-true byte 92 s) (comment ∙ c)))
     (λ s. cut bytes (text ++ byte ∷ []) line from (at + 1) (if is_quote byte then Some byte else None) false None next longer place n rest

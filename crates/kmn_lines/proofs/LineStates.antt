@@ -1,8 +1,8 @@
 -- The places that a state knows stay between the line's start and the place read.
-use Rattle.std.proofs.Common.{◌≡◌, ℕ, ◌+◌, ◌<◌, ◌≤◌, Bool, true, false, if◌then◌else◌, ◌==◌, List, ◌∷◌, length, drop, get_or, Option, None, Some, is_some, refl, arith, add-one, drop-cons, subst, sym}
+use Rattle.std.proofs.Common.{◌≡◌, ℕ, ◌+◌, ◌<◌, ◌≤◌, Bool, true, false, if◌then◌else◌, ◌==◌, List, ◌∷◌, length, drop, get_or, Option, None, Some, is_some, arith, add-one, drop-cons, subst, sym}
+use Rattle.std.proofs.lemmas.Bool.{cond-false}
 use Rattle.std.specs.Prelude.{IfSome}
 use Rattle.kmn_lines.specs.declared.line_state.LineState.{LineState}
-use Rattle.kmn_lines.specs.declared.line_state.PhysicalLine.{PhysicalLine}
 use Rattle.kmn_base.specs.Bytes.{is_blank}
 use Rattle.kmn_lines.specs.Bytes.{first_or_end}
 use Rattle.kmn_lines.specs.Lines.{starts_comment, outside, in_line, after_byte, ends_line, physical_lines}
@@ -37,15 +37,11 @@ between_after_byte from at r byte next g h =
     (between-if from (at + 1) (byte == 13) _ _ (record { slash = k.slash; stop = (g, omega arith) })
     (between-in_line from at r.quote r byte next g k))
 
-physical_lines-unless : (b : Bool) (ps qs rs : List PhysicalLine) → b ≡ false → qs ≡ rs → qs ≡ (if b then ps else rs)
-physical_lines-unless true ps qs rs h e = cc
-physical_lines-unless false ps qs rs h e = e
-
 physical_lines-step_head : (line from : ℕ) (r : LineState) (at byte : ℕ) (bytes : List ℕ) (next : ℕ) → next ≡ first_or_end bytes → ends_line byte next ≡ false → physical_lines line from (after_byte r at byte next) (at + 1) bytes ≡ physical_lines line from r at (byte ∷ bytes)
 physical_lines-step_head line from r at byte bytes next e f =
     let g : ends_line byte (first_or_end bytes) ≡ false = subst (λ (n : ℕ). ends_line byte n ≡ false) e f in
     subst (λ (n : ℕ). physical_lines line from (after_byte r at byte n) (at + 1) bytes ≡ physical_lines line from r at (byte ∷ bytes)) (sym e)
-    (physical_lines-unless (ends_line byte (first_or_end bytes)) _ _ _ g refl)
+    (sym (cond-false (ends_line byte (first_or_end bytes)) _ _ g))
 
 -- the rest of a physical line after a byte that does not end it
 pub physical_lines_step : (line from : ℕ) (r : LineState) (at : ℕ) (bytes : List ℕ) (next : ℕ) → at < length bytes → next ≡ first_or_end (drop (at + 1) bytes) → ends_line (get_or bytes at 0) next ≡ false → physical_lines line from (after_byte r at (get_or bytes at 0) next) (at + 1) (drop (at + 1) bytes) ≡ physical_lines line from r at (drop at bytes)

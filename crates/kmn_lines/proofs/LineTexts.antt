@@ -3,7 +3,7 @@ use Rattle.std.proofs.Common.{◌≡◌, ℕ, zero, suc, ◌+◌, ◌-◌, ◌<�
 use Rattle.std.specs.Prelude.{All}
 use Rattle.std.specs.List.{list_all}
 use Rattle.std.proofs.Math.Seq.{take-append-add, take-append_seam, drop-append_seam}
-use Rattle.std.proofs.lemmas.Bool.{eq-eqb, eqb-true, ne_eqb}
+use Rattle.std.proofs.lemmas.Bool.{eq-eqb, eqb-true, ne_eqb, or_from, cond-true, cond-false, cond_both}
 use Rattle.std.proofs.lemmas.List.{drop-drop, drop-take, take-take, length-take}
 use Rattle.std.proofs.lemmas.List.Elements.{All-cons, All-nil, All-head, All-tail}
 use Rattle.kmn_base.specs.Bytes.{is_blank}
@@ -14,9 +14,9 @@ use Rattle.kmn_lines.specs.declared.logical.Part.{Part}
 use Rattle.kmn_lines.specs.Bytes.{first_or_end}
 use Rattle.kmn_lines.specs.Lines.{ends_line, line_start, after_byte, physical_line, physical_lines, physical_lines_at, extended, gather, mark_size, logicals, is_skipped, dropped, physical_text, part_behind, opening_parts, parts_in}
 use Rattle.kmn_lines.specs.Laws.{first_or, IsInLine, IsLineEnd, IsCut, IsPhysicalLine, IsJoined, AreJoined, PartsAreTexts}
-use Rattle.kmn_lines.proofs.Sizes.{or-both}
 use Rattle.kmn_lines.proofs.Whole.{mark-within}
 use Rattle.kmn_lines.proofs.Cuts.{after_bytes, Cut, line_cut}
+use Rattle.kmn_lines.proofs.Sizes.{clash}
 
 -- a text as a line, the line's end, and what stands behind it
 record Split (text : List ℕ) : Type 0 where
@@ -76,7 +76,7 @@ split-first false false byte bytes e f s = record {
   end = s.end;
   behind = s.behind;
   whole = ap (λ (xs : List ℕ). byte ∷ xs) s.whole;
-  in_line = All-cons IsInLine byte s.line (or-both (byte == 10) (byte == 13) e f) s.in_line;
+  in_line = All-cons IsInLine byte s.line (or_from (byte == 10) (byte == 13) e f) s.in_line;
   ended = s.ended;
   shorter = λ h. omega (arith, ap length s.whole, length-append s.line (s.end ++ s.behind), length-append s.end s.behind);
 }
@@ -90,15 +90,7 @@ first-append : (bytes behind : List ℕ) → first_or_end (bytes ++ behind) ≡ 
 first-append [] behind = refl
 first-append (byte ∷ bytes) behind = refl
 
-lines-unless : (b : Bool) (ps qs : List PhysicalLine) → b ≡ false → (if b then ps else qs) ≡ qs
-lines-unless true ps qs h = absurd cc
-lines-unless false ps qs h = refl
-
-lines-when : (b : Bool) (ps qs : List PhysicalLine) → b ≡ true → (if b then ps else qs) ≡ ps
-lines-when true ps qs h = refl
-lines-when false ps qs h = absurd cc
-
-no-end : (a b c : Bool) → (a || b) ≡ false → (a || (b && c)) ≡ false
+pub no-end : (a b c : Bool) → (a || b) ≡ false → (a || (b && c)) ≡ false
 no-end true b c h = absurd cc
 no-end false true c h = absurd cc
 no-end false false c h = refl
@@ -108,13 +100,13 @@ lines-in_line line from r at [] behind p = let e : at ≡ at + 0 = omega arith i
 lines-in_line line from r at (byte ∷ bytes) behind p =
     let n : ℕ = first_or_end (bytes ++ behind) in
     let one : at + 1 + length bytes ≡ at + suc (length bytes) = omega arith in
-    lines-unless (ends_line byte n) _ _ (no-end (byte == 10) (byte == 13) (not (n == 10)) (All-head IsInLine byte bytes p))
+    cond-false (ends_line byte n) _ _ (no-end (byte == 10) (byte == 13) (not (n == 10)) (All-head IsInLine byte bytes p))
     ∙ ap (λ (k : ℕ). physical_lines line from (after_byte r at byte k) (at + 1) (bytes ++ behind)) (first-append bytes behind)
     ∙ lines-in_line line from (after_byte r at byte (first_or (first_or_end behind) bytes)) (at + 1) bytes behind (All-tail IsInLine byte bytes p)
     ∙ ap (λ (k : ℕ). physical_lines line from (after_bytes r at (byte ∷ bytes) (first_or_end behind)) k behind) one
 
-lines-none : (line at : ℕ) → physical_lines line at line_start at [] ≡ []
-lines-none line at = lines-when (at == at) _ _ (eq-eqb at at refl)
+pub lines-none : (line at : ℕ) → physical_lines line at line_start at [] ≡ []
+lines-none line at = cond-true (at == at) _ _ (eq-eqb at at refl)
 
 -- the CR before an LF, or at the end, changes nothing
 cr-same : (line from at next : ℕ) (quote : Option ℕ) (blank : Bool) (slash stop : Option ℕ) → physical_line line from (at + 1) next (after_byte (record { quote = quote; after_blank = blank; slash = slash; stop = stop }) at 13 10) ≡ physical_line line from at next (record { quote = quote; after_blank = blank; slash = slash; stop = stop })
@@ -136,15 +128,15 @@ ends-cr_lf line from r at behind =
 
 ends-cr : (line from : ℕ) (r : LineState) (at : ℕ) (behind : List ℕ) → from ≤ at → (first_or 32 behind == 10) ≡ false → Ends line from r at (13 ∷ []) behind
 ends-cr line from r at [] l f =
-    lines-unless (from == at + 1) _ _ (ne_eqb from (at + 1) (λ e. absurd (omega arith)))
+    cond-false (from == at + 1) _ _ (ne_eqb from (at + 1) (λ e. absurd (omega arith)))
     ∙ ap (λ (p : PhysicalLine). p ∷ []) (cr-same line from at (at + 1) r.quote r.after_blank r.slash r.stop)
     ∙ ap (λ (ps : List PhysicalLine). physical_line line from at (at + 1) r ∷ ps) (sym (lines-none (line + 1) (at + 1)))
-ends-cr line from r at (next ∷ behind) l f = lines-when (not (next == 10)) _ _ (ap not f)
+ends-cr line from r at (next ∷ behind) l f = cond-true (not (next == 10)) _ _ (ap not f)
 
 ends-last : (line from : ℕ) (r : LineState) (at : ℕ) → from < at → Ends line from r at [] []
 ends-last line from r at l =
     let zero_more : at ≡ at + 0 = omega arith in
-    lines-unless (from == at) _ _ (ne_eqb from at (λ e. absurd (omega arith)))
+    cond-false (from == at) _ _ (ne_eqb from at (λ e. absurd (omega arith)))
     ∙ ap (λ (ps : List PhysicalLine). physical_line line from at at r ∷ ps) (sym (lines-none (line + 1) at))
     ∙ ap (λ (k : ℕ). physical_line line from at k r ∷ physical_lines (line + 1) k line_start k []) zero_more
 
@@ -377,31 +369,24 @@ abbrev HasBegun : List ℕ → ℕ → ℕ → Option Logical → Type 0
 HasBegun source line at None = Unit {0}
 HasBegun source line at (Some l) = (qs : List PhysicalLine) × Begun source l.first_line l.from at qs × (line ≡ l.first_line + length qs) × (l.to ≡ at)
 
-texts-if : (source : List ℕ) (b : Bool) (ls ms : List Logical) → (b ≡ true → All (HasTexts source) ls) → (b ≡ false → All (HasTexts source) ms) → All (HasTexts source) (if b then ls else ms)
-texts-if source true ls ms g h = g refl
-texts-if source false ls ms g h = h refl
-
-never : {X : Type 0} (b : Bool) → b ≡ false → b ≡ true → X
-never b e f = let h : true ≡ false = sym f ∙ e in absurd cc
-
 gather-texts : (source : List ℕ) (begun : Option Logical) (line at : ℕ) (ps : List PhysicalLine) → HasBegun source line at begun → Chain source line at ps → All (HasTexts source) (gather begun ps)
 gather-texts source None line at [] b chain = All-nil (HasTexts source)
 gather-texts source (Some l) line at [] (qs, b, n, t) chain =
     let group : Group source l.first_line l.from l.to qs = subst (λ (k : ℕ). Group source l.first_line l.from k qs) (sym t) (begun-all source l.first_line l.from at qs b chain) in
     All-cons (HasTexts source) l [] (has_texts source l qs (omega arith) group) (All-nil (HasTexts source))
 gather-texts source None line at (p ∷ ps) b (e, f, s, rest) =
-    texts-if source p.joined _ _
+    cond_both p.joined _ _ (All (HasTexts source))
     (λ j. gather-texts source (Some (extended None p)) (line + 1) p.next ps
     (p ∷ [], begun-more source p.line p.from p.from [] p refl (omega arith) refl s j, omega arith, refl) rest)
     (λ j. All-cons (HasTexts source) (extended None p) _
-    (has_texts source (extended None p) (p ∷ []) s.within (begun-last source p.line p.from p.from [] p refl (omega arith) refl s (never p.joined j)))
+    (has_texts source (extended None p) (p ∷ []) s.within (begun-last source p.line p.from p.from [] p refl (omega arith) refl s (λ e. clash p.joined e j)))
     (gather-texts source None (line + 1) p.next ps tt rest))
 gather-texts source (Some l) line at (p ∷ ps) (qs, b, n, t) (e, f, s, rest) =
-    texts-if source p.joined _ _
+    cond_both p.joined _ _ (All (HasTexts source))
     (λ j. gather-texts source (Some (extended (Some l) p)) (line + 1) p.next ps
     (qs ++ p ∷ [], begun-more source l.first_line l.from at qs p b (e ∙ n) f s j, omega (arith, length-append qs (p ∷ [])), refl) rest)
     (λ j. All-cons (HasTexts source) (extended (Some l) p) _
-    (has_texts source (extended (Some l) p) (qs ++ p ∷ []) s.within (begun-last source l.first_line l.from at qs p b (e ∙ n) f s (never p.joined j)))
+    (has_texts source (extended (Some l) p) (qs ++ p ∷ []) s.within (begun-last source l.first_line l.from at qs p b (e ∙ n) f s (λ e. clash p.joined e j)))
     (gather-texts source None (line + 1) p.next ps tt rest))
 
 pub parts_are_texts : PartsAreTexts

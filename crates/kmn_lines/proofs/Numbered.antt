@@ -3,6 +3,7 @@ use Rattle.std.proofs.Common.{◌≡◌, ℕ, zero, suc, ◌+◌, ◌<◌, Bool,
 use Rattle.std.specs.Prelude.{All}
 use Rattle.std.specs.List.{starts_with}
 use Rattle.std.proofs.lemmas.List.Elements.{All-cons, All-nil, All-head, All-tail}
+use Rattle.std.proofs.lemmas.Bool.{cond_both}
 use Rattle.kmn_lines.specs.declared.line_state.LineState.{LineState}
 use Rattle.kmn_lines.specs.declared.line_state.PhysicalLine.{PhysicalLine}
 use Rattle.kmn_lines.specs.declared.logical.Logical.{Logical}
@@ -10,11 +11,15 @@ use Rattle.kmn_lines.specs.Bytes.{first_or_end}
 use Rattle.kmn_lines.specs.Lines.{ends_line, line_start, after_byte, physical_line, physical_lines, physical_lines_at, extended, gather, mark_size, logicals}
 use Rattle.kmn_lines.specs.Laws.{is_line_end, line_ends, LinesAreNumbered}
 use Rattle.kmn_lines.proofs.Whole.{mark-is}
+use Rattle.kmn_lines.proofs.Sizes.{all-if}
 
-pub drop-next : (at : ℕ) (text : List ℕ) (byte : ℕ) (bytes : List ℕ) → drop at text ≡ byte ∷ bytes → drop (suc at) text ≡ bytes
-drop-next zero text byte bytes e = subst (λ (xs : List ℕ). drop 1 xs ≡ bytes) (sym e) refl
-drop-next (suc n) [] byte bytes e = absurd cc
-drop-next (suc n) (x ∷ xs) byte bytes e = drop-next n xs byte bytes e
+drop-suc : (at : ℕ) (text : List ℕ) (byte : ℕ) (bytes : List ℕ) → drop at text ≡ byte ∷ bytes → drop (suc at) text ≡ bytes
+drop-suc zero text byte bytes e = subst (λ (xs : List ℕ). drop 1 xs ≡ bytes) (sym e) refl
+drop-suc (suc n) [] byte bytes e = absurd cc
+drop-suc (suc n) (x ∷ xs) byte bytes e = drop-suc n xs byte bytes e
+
+pub drop-next : (at : ℕ) (text : List ℕ) (byte : ℕ) (bytes : List ℕ) → drop at text ≡ byte ∷ bytes → drop (at + 1) text ≡ bytes
+drop-next at text byte bytes e = ap (λ (n : ℕ). drop n text) (add-one at) ∙ drop-suc at text byte bytes e
 
 abbrev one_if : Bool → ℕ
 one_if b = if b then 1 else 0
@@ -40,18 +45,14 @@ ends-not byte (next ∷ bytes) l e = e
 abbrev IsNumbered : List ℕ → PhysicalLine → Type 0
 IsNumbered text p = p.line ≡ 1 + line_ends p.from text
 
-numbered-if : (text : List ℕ) (b : Bool) (ps qs : List PhysicalLine) → (b ≡ true → All (IsNumbered text) ps) → (b ≡ false → All (IsNumbered text) qs) → All (IsNumbered text) (if b then ps else qs)
-numbered-if text true ps qs g h = g refl
-numbered-if text false ps qs g h = h refl
-
 physical_lines-numbered : (text : List ℕ) (line from : ℕ) (r : LineState) (at : ℕ) (bytes : List ℕ) → drop at text ≡ bytes → line ≡ 1 + line_ends from text → (0 < length bytes → line_ends at text ≡ line_ends from text) → All (IsNumbered text) (physical_lines line from r at bytes)
 physical_lines-numbered text line from r at [] e f g =
-    numbered-if text (from == at) [] _ (λ same. All-nil (IsNumbered text)) (λ other. All-cons (IsNumbered text) (physical_line line from at at r) [] f (All-nil (IsNumbered text)))
+    cond_both (from == at) [] _ (All (IsNumbered text)) (λ same. All-nil (IsNumbered text)) (λ other. All-cons (IsNumbered text) (physical_line line from at at r) [] f (All-nil (IsNumbered text)))
 physical_lines-numbered text line from r at (byte ∷ bytes) e f g =
-    let next : drop (at + 1) text ≡ bytes = ap (λ (k : ℕ). drop k text) (add-one at) ∙ drop-next at text byte bytes e in
+    let next : drop (at + 1) text ≡ bytes = drop-next at text byte bytes e in
     let count : line_ends (at + 1) text ≡ line_ends at text + one_if (is_line_end byte bytes) = ap (λ (k : ℕ). line_ends k text) (add-one at) ∙ line_ends-next at text byte bytes e in
     let same : line_ends at text ≡ line_ends from text = g (omega arith) in
-    numbered-if text (ends_line byte (first_or_end bytes)) _ _
+    cond_both (ends_line byte (first_or_end bytes)) _ _ (All (IsNumbered text))
     (λ ends.
     let one : one_if (is_line_end byte bytes) ≡ 1 = ap one_if (ends-is byte bytes ends) in
     All-cons (IsNumbered text) (physical_line line from at (at + 1) r) _ f
@@ -67,21 +68,17 @@ abbrev HasBegun : List ℕ → Option Logical → Type 0
 HasBegun text None = Unit {0}
 HasBegun text (Some l) = HasNumber text l
 
-lines-if : (text : List ℕ) (b : Bool) (ls ms : List Logical) → All (HasNumber text) ls → All (HasNumber text) ms → All (HasNumber text) (if b then ls else ms)
-lines-if text true ls ms g h = g
-lines-if text false ls ms g h = h
-
 gather-numbered : (text : List ℕ) (begun : Option Logical) (ps : List PhysicalLine) → HasBegun text begun → All (IsNumbered text) ps → All (HasNumber text) (gather begun ps)
 gather-numbered text None [] b h = All-nil (HasNumber text)
 gather-numbered text (Some l) [] b h = All-cons (HasNumber text) l [] b (All-nil (HasNumber text))
 gather-numbered text None (p ∷ ps) b h =
     let here : IsNumbered text p = All-head (IsNumbered text) p ps h in
     let rest = All-tail (IsNumbered text) p ps h in
-    lines-if text p.joined _ _ (gather-numbered text (Some (extended None p)) ps here rest)
+    all-if (HasNumber text) p.joined _ _ (gather-numbered text (Some (extended None p)) ps here rest)
     (All-cons (HasNumber text) (extended None p) _ here (gather-numbered text None ps tt rest))
 gather-numbered text (Some l) (p ∷ ps) b h =
     let rest = All-tail (IsNumbered text) p ps h in
-    lines-if text p.joined _ _ (gather-numbered text (Some (extended (Some l) p)) ps b rest)
+    all-if (HasNumber text) p.joined _ _ (gather-numbered text (Some (extended (Some l) p)) ps b rest)
     (All-cons (HasNumber text) (extended (Some l) p) _ b (gather-numbered text None ps tt rest))
 
 mark-line : (rest : List ℕ) → line_ends 3 (0xEF ∷ 0xBB ∷ 0xBF ∷ rest) ≡ 0

@@ -10,15 +10,12 @@ use Rattle.kmn_lines.specs.Bytes.{first_or_end}
 use Rattle.kmn_lines.specs.Lines.{ends_line, line_start, after_byte, physical_lines, physical_lines_at, extended, gather}
 use Rattle.kmn_lines.specs.Places.{IsBetween, IsPlaced}
 use Rattle.kmn_lines.proofs.LineStates.{between_after_byte}
+use Rattle.kmn_lines.proofs.Sizes.{all-if}
 
 -- physical lines stand one behind the other from a place up to a size, and each one's number fits its place
 abbrev pub InRow : ℕ → ℕ → List PhysicalLine → Type 0
 InRow at size [] = at ≡ size
 InRow at size (p ∷ ps) = (p.from ≡ at) × (at ≤ p.to) × (p.to ≤ p.next) × (p.next ≤ size) × (p.line ≤ at + 1) × InRow p.next size ps
-
-pub in_row-le : (at size : ℕ) (ps : List PhysicalLine) → InRow at size ps → at ≤ size
-in_row-le at size [] row = omega arith
-in_row-le at size (p ∷ ps) (e, f, g, h, i, row) = omega arith
 
 in_row-if : (at size : ℕ) (b : Bool) (ps qs : List PhysicalLine) → (b ≡ true → InRow at size ps) → InRow at size qs → InRow at size (if b then ps else qs)
 in_row-if at size true ps qs g h = g refl
@@ -60,21 +57,17 @@ extended-placed : (source : List ℕ) (begun : Option Logical) (at : ℕ) (p : P
 extended-placed source None at p b e f g h = record { forward = omega arith; within = g; counted = omega arith }
 extended-placed source (Some l) at p (b, c) e f g h = record { forward = omega (arith, b.forward); within = g; counted = b.counted }
 
-placed-if : (source : List ℕ) (b : Bool) (ls ms : List Logical) → All (IsPlaced source) ls → All (IsPlaced source) ms → All (IsPlaced source) (if b then ls else ms)
-placed-if source true ls ms g h = g
-placed-if source false ls ms g h = h
-
 pub gather-placed : (source : List ℕ) (begun : Option Logical) (at : ℕ) (ps : List PhysicalLine) → IsBegun source at begun → InRow at (length source) ps → All (IsPlaced source) (gather begun ps)
 gather-placed source None at [] b row = All-nil (IsPlaced source)
 gather-placed source (Some l) at [] b row = All-cons (IsPlaced source) l [] b.0 (All-nil (IsPlaced source))
 gather-placed source None at (p ∷ ps) b (e, f, g, h, i, row) =
     let here = extended-placed source None at p b e (omega arith) h i in
-    placed-if source p.joined _ _
+    all-if (IsPlaced source) p.joined _ _
     (gather-placed source (Some (extended None p)) p.next ps (here, refl) row)
     (All-cons (IsPlaced source) _ _ here (gather-placed source None p.next ps tt row))
 gather-placed source (Some l) at (p ∷ ps) b (e, f, g, h, i, row) =
     let here = extended-placed source (Some l) at p b e (omega arith) h i in
-    placed-if source p.joined _ _
+    all-if (IsPlaced source) p.joined _ _
     (gather-placed source (Some (extended (Some l) p)) p.next ps (here, refl) row)
     (All-cons (IsPlaced source) _ _ here (gather-placed source None p.next ps tt row))
 

@@ -1,10 +1,10 @@
 -- The tokens of the lines of a UTF-8 source are UTF-8.
-use Rattle.std.proofs.Common.{◌≡◌, ℕ, zero, suc, ◌+◌, ◌-◌, ◌<◌, ◌≤◌, inl, inr, Bool, true, false, ◌&&◌, ◌||◌, not, if◌then◌else◌, ◌==◌, List, [], ◌∷◌, length, take, drop, map, get_or, Option, None, Some, is_some, refl, sym, ◌∙◌, ap, subst, arith, length-drop, add-one}
+use Rattle.std.proofs.Common.{◌≡◌, ℕ, zero, suc, ◌+◌, ◌-◌, ◌<◌, ◌≤◌, inl, inr, Bool, true, false, ◌&&◌, ◌||◌, not, if◌then◌else◌, ◌==◌, List, [], ◌∷◌, length, take, drop, map, get_or, Option, None, Some, is_some, refl, sym, ◌∙◌, ap, subst, arith, length-drop}
 use Rattle.std.specs.Prelude.{nat_lt, All, IfSome, IsUtf8, IsCharBoundary, codes, unwrap_or}
 use Rattle.std.specs.List.{list_all, starts_with}
 use Rattle.std.specs.Char.{to_ascii_lowercase}
 use Rattle.std.specs.Str.{str_to_ascii_lowercase}
-use Rattle.std.proofs.lemmas.Bool.{ne_eqb, eqb-true, cases_lt}
+use Rattle.std.proofs.lemmas.Bool.{ne_eqb, eqb-true, cases_lt, and_parts, or_from, and_left, cond_both}
 use Rattle.std.proofs.lemmas.List.{length-take, take-take, drop-drop, get_or-drop, get_or-take, get_or-map}
 use Rattle.std.proofs.lemmas.List.Elements.{All-cons, All-nil, All-head, All-tail}
 use Rattle.std.proofs.lemmas.Slice.Eq.{bytes_eq-Decides}
@@ -13,7 +13,6 @@ use Rattle.kmn_lines.specs.declared.line_state.LineState.{LineState}
 use Rattle.kmn_base.specs.Names.{same_name}
 use Rattle.kmn_lines.specs.declared.line_state.PhysicalLine.{PhysicalLine}
 use Rattle.kmn_lines.specs.declared.logical.Logical.{Logical}
-use Rattle.kmn_lines.specs.declared.logical.Part.{Part}
 use Rattle.kmn_base.specs.Bytes.{is_blank}
 use Rattle.kmn_lines.specs.Bytes.{first_or_end}
 use Rattle.kmn_lines.specs.Lines.{ends_line, starts_comment, line_start, outside, in_line, after_byte, physical_line, physical_lines, physical_lines_at, extended, gather, mark_size, logicals, blanks, begins_with, is_skipped, dropped, physical_text, part_behind, opening_parts, parts_in}
@@ -23,9 +22,9 @@ use Rattle.kmn_lines.specs.Laws.{bytes_between, TokensAreText}
 use Rattle.kmn_lines.specs.declared.token.Token.{Token}
 use Rattle.kmn_lines.proofs.Placed.{InRow, physical_lines_at-in_row, lines_placed}
 use Rattle.kmn_lines.proofs.Whole.{begins-long, mark-is, mark-within}
+use Rattle.kmn_lines.proofs.TextTokens.{boundary-before, IsPartText, parts-text}
+use Rattle.kmn_lines.proofs.Sizes.{clash, all-if}
 use Rattle.kmn_lines.proofs.Numbered.{drop-next}
-use Rattle.kmn_lines.proofs.Sizes.{and-true, or-both, and-first}
-use Rattle.kmn_lines.proofs.TextTokens.{clash, boundary-before, IsPartText, parts-text}
 
 -- the byte at a place, where the bytes from there on are known
 byte-at : (at : ℕ) (text : List ℕ) (byte : ℕ) (bytes : List ℕ) → drop at text ≡ byte ∷ bytes → (get_or text at 0 ≡ byte) × (at < length text)
@@ -38,30 +37,26 @@ record KnowsBoundaries (text : List ℕ) (r : LineState) : Type 0 where
   slash : IfSome r.slash (λ k. IsCharBoundary text k)
   stop : IfSome r.stop (λ k. IsCharBoundary text k)
 
-knows-if : (text : List ℕ) (b : Bool) (r s : LineState) → (b ≡ true → KnowsBoundaries text r) → (b ≡ false → KnowsBoundaries text s) → KnowsBoundaries text (if b then r else s)
-knows-if text true r s g h = g refl
-knows-if text false r s g h = h refl
-
 or-small : (a b byte : ℕ) → a < 128 → b < 128 → ((byte == a) || (byte == b)) ≡ true → byte < 128
-or-small a b byte g h e = elim (cases_lt byte 128) [ inl l ↦ l | inr k ↦ clash ((byte == a) || (byte == b)) e (or-both (byte == a) (byte == b) (ne_eqb byte a (omega arith)) (ne_eqb byte b (omega arith))) ]
+or-small a b byte g h e = elim (cases_lt byte 128) [ inl l ↦ l | inr k ↦ clash ((byte == a) || (byte == b)) e (or_from (byte == a) (byte == b) (ne_eqb byte a (omega arith)) (ne_eqb byte b (omega arith))) ]
 
 knows-outside : (text : List ℕ) (r : LineState) (at byte next : ℕ) → (byte < 128 → IsCharBoundary text at) → KnowsBoundaries text r → KnowsBoundaries text (outside r at byte next)
 knows-outside text r at byte next place h =
-    knows-if text (is_blank byte) _ _ (λ e. record { slash = h.slash; stop = h.stop })
-    (λ e. knows-if text (starts_comment r.after_blank byte next) _ _
-    (λ c. record { slash = tt; stop = place (or-small 99 67 byte (omega arith) (omega arith) (and-true r.after_blank _ (and-true (r.after_blank && ((byte == 99) || (byte == 67))) _ c).0).1) })
-    (λ e. knows-if text (byte == 92) _ _
+    cond_both (is_blank byte) _ _ (KnowsBoundaries text) (λ e. record { slash = h.slash; stop = h.stop })
+    (λ e. cond_both (starts_comment r.after_blank byte next) _ _ (KnowsBoundaries text)
+    (λ c. record { slash = tt; stop = place (or-small 99 67 byte (omega arith) (omega arith) (and_parts r.after_blank _ (and_parts (r.after_blank && ((byte == 99) || (byte == 67))) _ c).0).1) })
+    (λ e. cond_both (byte == 92) _ _ (KnowsBoundaries text)
     (λ b. let small : byte ≡ 92 = eqb-true byte 92 b in record { slash = place (omega arith); stop = h.stop })
     (λ e. record { slash = tt; stop = h.stop })))
 
 knows-in_line : (text : List ℕ) (quote : Option ℕ) (r : LineState) (at byte next : ℕ) → (byte < 128 → IsCharBoundary text at) → KnowsBoundaries text r → KnowsBoundaries text (in_line quote r at byte next)
 knows-in_line text None r at byte next place h = knows-outside text r at byte next place h
-knows-in_line text (Some quote) r at byte next place h = knows-if text (byte == quote) _ _ (λ e. record { slash = h.slash; stop = h.stop }) (λ e. h)
+knows-in_line text (Some quote) r at byte next place h = cond_both (byte == quote) _ _ (KnowsBoundaries text) (λ e. record { slash = h.slash; stop = h.stop }) (λ e. h)
 
 knows-after_byte : (text : List ℕ) (r : LineState) (at byte next : ℕ) → (byte < 128 → IsCharBoundary text at) → KnowsBoundaries text r → KnowsBoundaries text (after_byte r at byte next)
 knows-after_byte text r at byte next place h =
-    knows-if text (is_some r.stop) _ _ (λ e. h)
-    (λ e. knows-if text (byte == 13) _ _
+    cond_both (is_some r.stop) _ _ (KnowsBoundaries text) (λ e. h)
+    (λ e. cond_both (byte == 13) _ _ (KnowsBoundaries text)
     (λ b. let small : byte ≡ 13 = eqb-true byte 13 b in record { slash = h.slash; stop = place (omega arith) })
     (λ e. knows-in_line text r.quote r at byte next place h))
 
@@ -71,10 +66,6 @@ record IsPhysicalText (text : List ℕ) (p : PhysicalLine) : Type 0 where
   to : IsCharBoundary text p.to
   next : IsCharBoundary text p.next
 
-physical_lines-if : (text : List ℕ) (b : Bool) (ps qs : List PhysicalLine) → (b ≡ true → All (IsPhysicalText text) ps) → (b ≡ false → All (IsPhysicalText text) qs) → All (IsPhysicalText text) (if b then ps else qs)
-physical_lines-if text true ps qs g h = g refl
-physical_lines-if text false ps qs g h = h refl
-
 known-place : (text : List ℕ) (o : Option ℕ) (n : ℕ) → IfSome o (λ k. IsCharBoundary text k) → IsCharBoundary text n → IsCharBoundary text (unwrap_or o n)
 known-place text None n h g = g
 known-place text (Some k) n h g = h
@@ -83,22 +74,22 @@ line-end-small : (byte next : ℕ) → ends_line byte next ≡ true → byte < 1
 line-end-small byte next e =
     elim (cases_lt byte 128) [
       | inl l ↦ l
-      | inr k ↦ clash (ends_line byte next) e (or-both (byte == 10) ((byte == 13) && not (next == 10)) (ne_eqb byte 10 (omega arith)) (and-first (byte == 13) (not (next == 10)) (ne_eqb byte 13 (omega arith))))
+      | inr k ↦ clash (ends_line byte next) e (or_from (byte == 10) ((byte == 13) && not (next == 10)) (ne_eqb byte 10 (omega arith)) (and_left (byte == 13) (not (next == 10)) (ne_eqb byte 13 (omega arith))))
     ]
 
 physical_lines-text : (text : List ℕ) → IsUtf8 text → (line from : ℕ) (r : LineState) (at : ℕ) (bytes : List ℕ) → drop at text ≡ bytes → at ≤ length text → IsCharBoundary text from → KnowsBoundaries text r → All (IsPhysicalText text) (physical_lines line from r at bytes)
 physical_lines-text text utf line from r at [] e l start h =
     let left : 0 ≡ length text - at = ap length (sym e) ∙ length-drop at text in
     let end : IsCharBoundary text at = boundary-before text at l (inl (omega arith)) in
-    physical_lines-if text (from == at) [] _ (λ s. All-nil (IsPhysicalText text))
+    cond_both (from == at) [] _ (All (IsPhysicalText text)) (λ s. All-nil (IsPhysicalText text))
     (λ s. All-cons (IsPhysicalText text) (physical_line line from at at r) []
     (record { from = start; to = known-place text r.slash _ h.slash (known-place text r.stop at h.stop end); next = end })
     (All-nil (IsPhysicalText text)))
 physical_lines-text text utf line from r at (byte ∷ bytes) e l start h =
     let here = byte-at at text byte bytes e in
     let place : byte < 128 → IsCharBoundary text at = λ (small : byte < 128). IsCharBoundary-before_ascii text at here.1 (omega (arith, here.0)) in
-    let next : drop (at + 1) text ≡ bytes = ap (λ (k : ℕ). drop k text) (add-one at) ∙ drop-next at text byte bytes e in
-    physical_lines-if text (ends_line byte (first_or_end bytes)) _ _
+    let next : drop (at + 1) text ≡ bytes = drop-next at text byte bytes e in
+    cond_both (ends_line byte (first_or_end bytes)) _ _ (All (IsPhysicalText text))
     (λ ends.
     let small : byte < 128 = line-end-small byte (first_or_end bytes) ends in
     let behind : IsCharBoundary text (at + 1) = IsCharBoundary-after_ascii text at utf here.1 (omega (arith, here.0)) in
@@ -118,10 +109,6 @@ abbrev IsBegunText : List ℕ → Option Logical → Type 0
 IsBegunText text None = Unit {0}
 IsBegunText text (Some l) = IsLineText text l
 
-lines-if : (text : List ℕ) (b : Bool) (ls ms : List Logical) → All (IsLineText text) ls → All (IsLineText text) ms → All (IsLineText text) (if b then ls else ms)
-lines-if text true ls ms g h = g
-lines-if text false ls ms g h = h
-
 gather-text : (text : List ℕ) (begun : Option Logical) (ps : List PhysicalLine) → IsBegunText text begun → All (IsPhysicalText text) ps → All (IsLineText text) (gather begun ps)
 gather-text text None [] b h = All-nil (IsLineText text)
 gather-text text (Some l) [] b h = All-cons (IsLineText text) l [] b (All-nil (IsLineText text))
@@ -129,13 +116,13 @@ gather-text text None (p ∷ ps) b h =
     let here : IsPhysicalText text p = All-head (IsPhysicalText text) p ps h in
     let rest = All-tail (IsPhysicalText text) p ps h in
     let now : IsLineText text (extended None p) = record { from = here.from; to = here.next } in
-    lines-if text p.joined _ _ (gather-text text (Some (extended None p)) ps now rest)
+    all-if (IsLineText text) p.joined _ _ (gather-text text (Some (extended None p)) ps now rest)
     (All-cons (IsLineText text) (extended None p) _ now (gather-text text None ps tt rest))
 gather-text text (Some l) (p ∷ ps) b h =
     let here : IsPhysicalText text p = All-head (IsPhysicalText text) p ps h in
     let rest = All-tail (IsPhysicalText text) p ps h in
     let now : IsLineText text (extended (Some l) p) = record { from = b.from; to = here.next } in
-    lines-if text p.joined _ _ (gather-text text (Some (extended (Some l) p)) ps now rest)
+    all-if (IsLineText text) p.joined _ _ (gather-text text (Some (extended (Some l) p)) ps now rest)
     (All-cons (IsLineText text) (extended (Some l) p) _ now (gather-text text None ps tt rest))
 
 -- a place between characters is one in the text up to a later place
@@ -171,19 +158,15 @@ prefix-boundary text word m utf long colon h =
     let turn : blanks text + m + 1 ≡ blanks text + suc m = omega arith in
     subst (IsCharBoundary text) turn (IsCharBoundary-after_ascii text (blanks text + m) utf (omega arith) here)
 
-choose : (P : ℕ → Type 0) (b : Bool) (n m : ℕ) → (b ≡ true → P n) → P m → P (if b then n else m)
-choose P true n m g h = g refl
-choose P false n m g h = h
-
 dropped-boundary : (text : List ℕ) → IsUtf8 text → IsCharBoundary text (dropped text)
 unfolding dropped
 dropped-boundary text utf =
     let words : List ℕ = drop (blanks text) text in
-    choose (IsCharBoundary text) (begins_with words (codes "$keyman:")) (blanks text + 8) _
+    cond_both (begins_with words (codes "$keyman:")) (blanks text + 8) _ (IsCharBoundary text)
     (λ e. prefix-boundary text (codes "$keyman:") 7 utf refl refl e)
-    (choose (IsCharBoundary text) (begins_with words (codes "$keymanonly:")) (blanks text + 12) 0
+    (λ _. cond_both (begins_with words (codes "$keymanonly:")) (blanks text + 12) 0 (IsCharBoundary text)
     (λ e. prefix-boundary text (codes "$keymanonly:") 11 utf refl refl e)
-    (IsCharBoundary-start text utf))
+    (λ _. IsCharBoundary-start text utf))
 
 -- the text of a physical line of a text is UTF-8
 physical-utf : (text : List ℕ) (p : PhysicalLine) → IsUtf8 text → IsPhysicalText text p → p.from ≤ p.to → IsUtf8 (physical_text text p)
@@ -195,10 +178,6 @@ part-text source end p n l h utf place =
     let same : drop n (physical_text (take end source) p) ≡ drop (p.from + n) (take p.to source) =
     drop-drop n p.from (take p.to (take end source)) ∙ ap (λ (xs : List ℕ). drop (p.from + n) xs) (take-take p.to end source h) in
     record { within = omega arith; utf = subst IsUtf8 same (IsUtf8-drop (physical_text (take end source) p) n utf place) }
-
-parts-if : (source : List ℕ) (b : Bool) (ps qs : List Part) → All (IsPartText source) ps → All (IsPartText source) qs → All (IsPartText source) (if b then ps else qs)
-parts-if source true ps qs g h = g
-parts-if source false ps qs g h = h
 
 mapped-text : (source : List ℕ) (end at : ℕ) (ps : List PhysicalLine) → end ≤ length source → IsUtf8 (take end source) → InRow at end ps → All (IsPhysicalText (take end source)) ps → All (IsPartText source) (map (part_behind 0) ps)
 mapped-text source end at [] l utf row h = All-nil (IsPartText source)
@@ -215,9 +194,9 @@ opening-text source end at (p ∷ ps) l utf (e, f, g, k, i, row) h =
     let here : IsPhysicalText text p = All-head (IsPhysicalText text) p ps h in
     let rest = All-tail (IsPhysicalText text) p ps h in
     let whole = physical-utf text p utf here (omega arith) in
-    parts-if source (is_skipped (physical_text text p)) [] _ (All-nil (IsPartText source))
+    all-if (IsPartText source) (is_skipped (physical_text text p)) [] _ (All-nil (IsPartText source))
     (All-cons (IsPartText source) _ _ (part-text source end p (dropped (physical_text text p)) l (omega arith) whole (dropped-boundary _ whole))
-    (parts-if source (list_all is_blank (physical_text text p)) _ _ (opening-text source end p.next ps l utf row rest) (mapped-text source end p.next ps l utf row rest)))
+    (all-if (IsPartText source) (list_all is_blank (physical_text text p)) _ _ (opening-text source end p.next ps l utf row rest) (mapped-text source end p.next ps l utf row rest)))
 
 line-text : (source : List ℕ) (l : Logical) → IsUtf8 source → IsPlaced source l → IsLineText source l → All (λ (t : Token). IsUtf8 (bytes_between source t.from t.to)) (line_tokens source l)
 unfolding line_tokens parts_in
@@ -235,13 +214,13 @@ line-text source l utf placed h =
 mark-boundary : (source : List ℕ) → IsUtf8 source → IsCharBoundary source (mark_size source)
 unfolding lib.Utf8.encode
 mark-boundary source utf =
-    choose (IsCharBoundary source) (starts_with (λ a b. a == b) source (0xEF ∷ 0xBB ∷ 0xBF ∷ [])) 3 0
+    cond_both (starts_with (λ a b. a == b) source (0xEF ∷ 0xBB ∷ 0xBF ∷ [])) 3 0 (IsCharBoundary source)
     (λ e.
     let mark = mark-is source e in
     let long : 3 ≡ length (take 3 source) = ap length mark in
     let known : IsUtf8 (0xEF ∷ 0xBB ∷ 0xBF ∷ []) = (0xFEFF ∷ [], (refl, refl)) in
     IsCharBoundary-from_take source 3 utf (omega (arith, length-take 3 source)) (subst IsUtf8 mark known))
-    (IsCharBoundary-start source utf)
+    (λ _. IsCharBoundary-start source utf)
 
 pub tokens_are_text : TokensAreText
 unfolding logicals

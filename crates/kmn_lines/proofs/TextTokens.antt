@@ -1,7 +1,7 @@
 -- The tokens of a UTF-8 text are UTF-8.
-use Rattle.std.proofs.Common.{◌≡◌, ℕ, zero, suc, ◌+◌, ◌-◌, ◌<◌, ◌≤◌, ◌⊎◌, inl, inr, Bool, true, false, if◌then◌else◌, ◌==◌, List, [], ◌∷◌, length, take, drop, get_or, is_some, refl, sym, ◌∙◌, ap, subst, arith, length-drop, add-one}
+use Rattle.std.proofs.Common.{◌≡◌, ℕ, zero, suc, ◌+◌, ◌-◌, ◌<◌, ◌≤◌, ◌⊎◌, inl, inr, true, false, ◌==◌, List, [], ◌∷◌, length, take, drop, get_or, is_some, refl, sym, ◌∙◌, ap, subst, arith, length-drop}
 use Rattle.std.specs.Prelude.{All, IsUtf8, IsCharBoundary}
-use Rattle.std.proofs.lemmas.Bool.{eqb-true, cases_lt}
+use Rattle.std.proofs.lemmas.Bool.{eqb-true, cases_lt, and_parts, cond_both}
 use Rattle.std.proofs.lemmas.List.{length-take, drop-take, take-take, get_or-drop}
 use Rattle.std.proofs.lemmas.List.Elements.{All-cons, All-nil, All-append, All-weaker, All-head, All-tail}
 use Rattle.std.proofs.lemmas.Str.{IsUtf8-take, IsUtf8-drop, IsCharBoundary-end, IsCharBoundary-before_ascii, IsCharBoundary-after_ascii}
@@ -11,11 +11,8 @@ use Rattle.kmn_lines.specs.Tokens.{single, is_unequal, in_word, word_size, quote
 use Rattle.kmn_lines.specs.Laws.{IsPlain, bytes_between}
 use Rattle.kmn_lines.specs.declared.logical.Part.{Part}
 use Rattle.kmn_lines.specs.declared.token.Token.{Token}
-use Rattle.kmn_lines.proofs.Sizes.{both, and-true, in_word-plain, in_word-far, word_size-within, quoted_size-within, number-long, unequal-long, token_size-within, token_size-some}
+use Rattle.kmn_lines.proofs.Sizes.{in_word-plain, in_word-far, word_size-within, quoted_size-within, number-long, unequal-long, token_size-within, token_size-some, clash}
 use Rattle.kmn_lines.proofs.Numbered.{drop-next}
-
-pub clash : {X : Type 0} (b : Bool) → b ≡ true → b ≡ false → X
-clash b e f = let h : true ≡ false = sym e ∙ f in absurd cc
 
 -- a byte past 127 belongs to a word
 wide-in_word : (byte next : ℕ) → 128 ≤ byte → in_word byte next ≡ true
@@ -30,7 +27,7 @@ unless-wide byte h = elim (cases_lt byte 128) [ inl l ↦ l | inr g ↦ absurd (
 pub blank-ascii : (byte : ℕ) → is_blank byte ≡ true → byte < 128
 blank-ascii byte e = unless-wide byte (λ h. clash (is_blank byte) e (wide-plain byte h).blank)
 
-quote-ascii : (byte : ℕ) → is_quote byte ≡ true → byte < 128
+pub quote-ascii : (byte : ℕ) → is_quote byte ≡ true → byte < 128
 quote-ascii byte e = unless-wide byte (λ h. clash (is_quote byte) e (wide-plain byte h).quote)
 
 single-ascii : (byte : ℕ) → is_some (single byte) ≡ true → byte < 128
@@ -49,7 +46,7 @@ word_end : (text : List ℕ) → (word_size text ≡ length text) ⊎ (get_or te
 word_end [] = inl refl
 word_end (byte ∷ bytes) =
     let rest = word_end bytes in
-    both (λ n. (n ≡ suc (length bytes)) ⊎ (get_or (byte ∷ bytes) n 0 < 128)) (in_word byte (first_or_end bytes)) (1 + word_size bytes) 0
+    cond_both (in_word byte (first_or_end bytes)) (1 + word_size bytes) 0 (λ n. (n ≡ suc (length bytes)) ⊎ (get_or (byte ∷ bytes) n 0 < 128))
     (λ e. ends-later byte bytes (word_size bytes) rest)
     (λ e. inr (outside-ascii byte (first_or_end bytes) e))
 
@@ -58,7 +55,7 @@ quoted_end : (quote : ℕ) (text : List ℕ) → (quoted_size quote text ≡ len
 quoted_end quote [] = inl refl
 quoted_end quote (byte ∷ bytes) =
     let rest = quoted_end quote bytes in
-    both (λ n. (n ≡ suc (length bytes)) ⊎ ((0 < n) × (get_or (byte ∷ bytes) (n - 1) 0 ≡ quote))) (byte == quote) 1 (1 + quoted_size quote bytes)
+    cond_both (byte == quote) 1 (1 + quoted_size quote bytes) (λ n. (n ≡ suc (length bytes)) ⊎ ((0 < n) × (get_or (byte ∷ bytes) (n - 1) 0 ≡ quote)))
     (λ e. inr (omega arith, eqb-true byte quote e))
     (λ e. elim rest [
       | inl l ↦ inl (omega arith)
@@ -98,7 +95,7 @@ quote-boundary byte bytes utf q =
 unequal-boundary : (byte : ℕ) (bytes : List ℕ) → IsUtf8 (byte ∷ bytes) → is_unequal byte (first_or_end bytes) ≡ true → IsCharBoundary (byte ∷ bytes) 2
 unequal-boundary byte [] utf u = let long = unequal-long byte [] u in absurd (omega arith)
 unequal-boundary byte (next ∷ bytes) utf u =
-    let e : next ≡ 61 = eqb-true next 61 (and-true (byte == 33) (next == 61) u).1 in
+    let e : next ≡ 61 = eqb-true next 61 (and_parts (byte == 33) (next == 61) u).1 in
     IsCharBoundary-after_ascii (byte ∷ next ∷ bytes) 1 utf (omega arith) (omega arith)
 
 -- a token ends between characters
@@ -108,20 +105,16 @@ token-boundary [] utf h = absurd (omega arith)
 token-boundary (byte ∷ bytes) utf h =
     let text : List ℕ = byte ∷ bytes in
     let place : ℕ → Type 0 = λ n. IsCharBoundary text n in
-    both place (starts_number text) (2 + word_size (drop 2 text)) _ (number-boundary text)
-    (λ e. both place (is_quote byte) (1 + quoted_size byte bytes) _ (quote-boundary byte bytes utf)
-    (λ e. both place (is_unequal byte (first_or_end bytes)) 2 _ (unequal-boundary byte bytes utf)
-    (λ e. both place (is_some (single byte)) 1 (word_size text)
+    cond_both (starts_number text) (2 + word_size (drop 2 text)) _ place (number-boundary text)
+    (λ e. cond_both (is_quote byte) (1 + quoted_size byte bytes) _ place (quote-boundary byte bytes utf)
+    (λ e. cond_both (is_unequal byte (first_or_end bytes)) 2 _ place (unequal-boundary byte bytes utf)
+    (λ e. cond_both (is_some (single byte)) 1 (word_size text) place
     (λ s. IsCharBoundary-after_ascii text 0 utf h (single-ascii byte s))
     (λ e. boundary-before text (word_size text) (word_size-within text) (word_end text)))))
 
 -- a token lies in a text and is UTF-8
 abbrev pub IsText : List ℕ → Token → Type 0
 IsText text t = (t.to ≤ length text) × IsUtf8 (bytes_between text t.from t.to)
-
-texts-if : (text : List ℕ) (b : Bool) (ts us : List Token) → (b ≡ true → All (IsText text) ts) → (b ≡ false → All (IsText text) us) → All (IsText text) (if b then ts else us)
-texts-if text true ts us g h = g refl
-texts-if text false ts us g h = h refl
 
 -- the token at a place of a text
 token-text : (text : List ℕ) (line at : ℕ) (bytes : List ℕ) (size : ℕ) → drop at text ≡ bytes → size ≤ length bytes → 0 < size → IsUtf8 (take size bytes) → IsText text (token_at line at (take size bytes))
@@ -135,15 +128,15 @@ token-text text line at bytes size e within some utf =
 scanned-text : (text : List ℕ) (line n at : ℕ) (bytes : List ℕ) → drop at text ≡ bytes → n ≤ length bytes → IsUtf8 (drop n bytes) → All (IsText text) (scanned line n at bytes)
 scanned-text text line n at [] e h utf = All-nil (IsText text)
 scanned-text text line (suc n) at (byte ∷ bytes) e h utf =
-    let next : drop (at + 1) text ≡ bytes = ap (λ (k : ℕ). drop k text) (add-one at) ∙ drop-next at text byte bytes e in
+    let next : drop (at + 1) text ≡ bytes = drop-next at text byte bytes e in
     scanned-text text line n (at + 1) bytes next (omega arith) utf
 scanned-text text line zero at (byte ∷ bytes) e h utf =
-    let next : drop (at + 1) text ≡ bytes = ap (λ (k : ℕ). drop k text) (add-one at) ∙ drop-next at text byte bytes e in
+    let next : drop (at + 1) text ≡ bytes = drop-next at text byte bytes e in
     let whole : List ℕ = byte ∷ bytes in
     let size : ℕ = token_size whole in
     let within : size ≤ suc (length bytes) = token_size-within whole (omega arith) in
     let place : IsCharBoundary whole size = token-boundary whole utf (omega arith) in
-    texts-if text (is_blank byte) _ _
+    cond_both (is_blank byte) _ _ (All (IsText text))
     (λ blank. scanned-text text line zero (at + 1) bytes next (omega arith) (IsUtf8-drop whole 1 utf (IsCharBoundary-after_ascii whole 0 utf (omega arith) (blank-ascii byte blank))))
     (λ solid.
     let some : 0 < size = token_size-some whole (omega arith) solid in

@@ -6,6 +6,7 @@ use Rattle.std.specs.Char.{to_ascii_lowercase}
 use Rattle.std.specs.Str.{str_to_ascii_lowercase}
 use Rattle.std.proofs.lemmas.List.{append-nil, length-take, length-map, drop-append-le, take-append-drop}
 use Rattle.std.proofs.lemmas.Slice.Eq.{bytes_eq-Decides}
+use Rattle.std.proofs.lemmas.Bool.{cond_both}
 use Rattle.kmn_base.specs.Names.{same_name}
 use Rattle.kmn_lines.specs.declared.line_state.PhysicalLine.{PhysicalLine}
 use Rattle.kmn_lines.specs.declared.logical.Logical.{Logical}
@@ -100,20 +101,16 @@ begins-long words word h =
     sym (length-map (take (length word) words) to_ascii_lowercase) ∙ ap length e ∙ length-map word to_ascii_lowercase in
     omega (arith, length-take (length word) words)
 
-choose : (P : ℕ → Type 0) (b : Bool) (n m : ℕ) → (b ≡ true → P n) → P m → P (if b then n else m)
-choose P true n m g h = g refl
-choose P false n m g h = h
-
 dropped-within : (text : List ℕ) → dropped text ≤ length text
 unfolding dropped
 dropped-within text =
     let words : List ℕ = drop (blanks text) text in
     let fits : ℕ → Type 0 = λ n. n ≤ length text in
-    choose fits (begins_with words (codes "$keyman:")) (blanks text + 8) _
+    cond_both (begins_with words (codes "$keyman:")) (blanks text + 8) _ fits
     (λ e. let l : 8 ≤ length words = begins-long words (codes "$keyman:") e in omega (arith, length-drop (blanks text) text))
-    (choose fits (begins_with words (codes "$keymanonly:")) (blanks text + 12) 0
+    (λ _. cond_both (begins_with words (codes "$keymanonly:")) (blanks text + 12) 0 fits
     (λ e. let l : 12 ≤ length words = begins-long words (codes "$keymanonly:") e in omega (arith, length-drop (blanks text) text))
-    (omega arith))
+    (λ _. omega arith))
 
 in_order-if : (at end : ℕ) (b : Bool) (ps qs : List Part) → InOrder at end ps → InOrder at end qs → InOrder at end (if b then ps else qs)
 in_order-if at end true ps qs g h = g

@@ -11,6 +11,7 @@ use Rattle.kmn_base.specs.declared.limits.TheConstants.{TEXT_BYTES}
 use Rattle.kmn_lines.specs.Tokens.{refusal}
 use Rattle.std.specs.List.{All, AllByRecursion, position_or_len}
 use Rattle.std.proofs.lemmas.List.Elements.{All-head, All-tail}
+use Rattle.std.proofs.lemmas.Bool.{le-ltb}
 use Rattle.kmn_lines.specs.declared.token.Token.{Token}
 use Rattle.rule_model.specs.declared.program.RuleDef.{RuleDef}
 use Rattle.rule_model.specs.declared.program.GroupDef.{GroupDef}
@@ -66,15 +67,12 @@ second_fails true text a b c e f = cc
 second_fails false true a b c e f = absurd (f refl)
 second_fails false false a b c e f = refl
 
-not_less : (m n : ℕ) → n ≤ m → nat_lt m n ≡ false
-not_less m n le = grind (arith, nat_tests)
-
 -- a source that is short enough and in UTF-8 is read as text
 pub parsed_text : (source text : List ℕ) → length source ≤ TEXT_BYTES → text ≡ source → IsUtf8 source → parsed source ≡ read_text text
 unfolding parsed
 parsed_text source text short same utf8 =
     two_tests (nat_lt TEXT_BYTES (length source)) (is_utf8 source) (Err (refusal 1 L05)) (Err (refusal 1 L01)) (read_text source)
-    (not_less TEXT_BYTES (length source) short) (is_utf8-from_IsUtf8 source utf8)
+    (le-ltb TEXT_BYTES (length source) short) (is_utf8-from_IsUtf8 source utf8)
     ∙ ap read_text (sym same)
 
 -- one that is short enough and not in UTF-8 is refused as such
@@ -82,4 +80,4 @@ pub parsed_other : (source : List ℕ) → length source ≤ TEXT_BYTES → ¬ (
 unfolding parsed
 parsed_other source short other =
     second_fails (nat_lt TEXT_BYTES (length source)) (is_utf8 source) (Err (refusal 1 L05)) (Err (refusal 1 L01)) (read_text source)
-    (not_less TEXT_BYTES (length source) short) (λ e. other (IsUtf8-from_is_utf8 source e))
+    (le-ltb TEXT_BYTES (length source) short) (λ e. other (IsUtf8-from_is_utf8 source e))

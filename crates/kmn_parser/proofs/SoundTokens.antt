@@ -18,6 +18,7 @@ use Rattle.kmn_lines.specs.Lines.{parts_in}
 use Rattle.kmn_lines.specs.Tokens.{single, is_unequal, starts_number, hex_value, plain_kind, has_forbidden, is_closed, is_scalar, value_fault, digits_fault, token_size, token_text, token_kind, token_at, token_fault, scanned, first_fault, part_text, parts_tokens, parts_fault, line_tokens, line_refusal, tokens_refusal, refusal}
 use Rattle.kmn_lines.specs.Laws.{IsPlain, bytes_between}
 use Rattle.kmn_lines.proofs.Sizes.{words_plain}
+use Rattle.kmn_lines.proofs.Numbered.{drop-next}
 use Rattle.kmn_items.specs.TokenTexts.{LineToken, text_of, with_text, with_texts}
 use Rattle.kmn_parser.specs.ProgramLaws.{IsCharacter}
 
@@ -33,14 +34,6 @@ IsFaultlessIn source t = IsFaultless t.kind (text_of source t)
 pub either-none : {A : Type 0} (first second : Option A) → or_else first second ≡ None → (first ≡ None) × (second ≡ None)
 either-none None second e = (refl, e)
 either-none (Some x) second e = cc
-
-drop-suc : (at : ℕ) (text : List ℕ) (byte : ℕ) (bytes : List ℕ) → drop at text ≡ byte ∷ bytes → drop (suc at) text ≡ bytes
-drop-suc zero text byte bytes e = ap (drop 1) e
-drop-suc (suc n) [] byte bytes e = cc
-drop-suc (suc n) (x ∷ xs) byte bytes e = drop-suc n xs byte bytes e
-
-pub drop-next : (at : ℕ) (text : List ℕ) (byte : ℕ) (bytes : List ℕ) → drop at text ≡ byte ∷ bytes → drop (at + 1) text ≡ bytes
-drop-next at text byte bytes e = ap (λ (n : ℕ). drop n text) (add-one at) ∙ drop-suc at text byte bytes e
 
 taken-length : (n : ℕ) (bytes : List ℕ) → take (length (take n bytes)) bytes ≡ take n bytes
 taken-length zero bytes = refl

@@ -1,19 +1,13 @@
 -- One step of a scan: the token that the bytes begin with, and what is left behind it.
-use Rattle.std.proofs.Common.{◌≡◌, ℕ, zero, suc, ◌+◌, ◌-◌, ◌<◌, ◌≤◌, Bool, true, false, ◌||◌, not, if◌then◌else◌, List, [], ◌∷◌, ◌++◌, length, take, drop, get_or, Option, None, is_some, Ok, refl, sym, ◌∙◌, ap, subst, arith, append_assoc, add-one, drop-cons}
+use Rattle.std.proofs.Common.{◌≡◌, ℕ, zero, suc, ◌+◌, ◌-◌, ◌<◌, ◌≤◌, Bool, true, false, ◌||◌, if◌then◌else◌, List, [], ◌∷◌, ◌++◌, length, take, drop, get_or, Option, None, is_some, Ok, refl, sym, ◌∙◌, ap, subst, arith, append_assoc, add-one, drop-cons}
 use Rattle.std.proofs.lemmas.Bool.{cond-false, or_left}
 use Rattle.kmn_base.specs.declared.codes.Code.{Code}
 use Rattle.kmn_base.specs.Bytes.{is_blank, is_quote}
 use Rattle.kmn_lines.specs.Bytes.{first_or_end, or_else}
 use Rattle.kmn_lines.specs.Tokens.{single, is_unequal, in_word, word_size, token_size, token_fault, token_at, scanned, first_fault, begins_forbidden, has_forbidden}
 use Rattle.kmn_lines.specs.declared.token.Token.{Token}
+use Rattle.kmn_lines.proofs.Sizes.{none_of}
 use Rattle.kmn_tokens.specs.Scanning.{Steps}
-
-none_of : (a b c d : Bool) → a ≡ false → b ≡ false → c ≡ false → d ≡ false → not (a || b || c || d) ≡ true
-none_of true b c d e f g h = cc
-none_of false true c d e f g h = cc
-none_of false false true d e f g h = cc
-none_of false false false true e f g h = cc
-none_of false false false false e f g h = refl
 
 some-if : (b : Bool) (n m : ℕ) → b ≡ true → 0 < n → 0 < (if b then n else m)
 some-if true n m e h = h

@@ -1,12 +1,13 @@
 -- The walk over the statements finds the first refusal that is said of all statements up to each.
 use Rattle.std.proofs.Common.{◌≡◌, ℕ, ◌+◌, ◌-◌, ◌<◌, min, Bool, true, false, List, [], ◌∷◌, ◌++◌, length, map, Option, Some, None, refl, sym, ap, ◌∙◌, arith, if◌then◌else◌, append-nil, length-append}
-use Rattle.std.specs.Prelude.{nat_lt, flat_map, sum, fold, ◌||◌}
+use Rattle.std.specs.Prelude.{nat_lt, flat_map, sum, ◌||◌}
 use Rattle.std.specs.List.{list_any}
 use Rattle.std.specs.Str.{bytes_eq}
 use Rattle.std.proofs.lemmas.Bool.Decides.{nat_tests}
 use Rattle.std.proofs.lemmas.List.{map-append, length-map}
 use Rattle.std.proofs.lemmas.List.Concat.{flat_map-append}
 use Rattle.std.proofs.lemmas.List.Folds.{list_any-append}
+use Rattle.std.proofs.lemmas.List.Sums.{sum_by-append}
 use Rattle.kmn_base.specs.declared.codes.Code.{Code}
 use Rattle.kmn_base.specs.declared.codes.Code.TheVariants.{C16, C17, C18, C19, C21, C22}
 use Rattle.kmn_base.specs.declared.limits.TheConstants.{CONTEXT_ITEMS, OUTPUT_ITEMS, STORE_ELEMENTS, ALL_ELEMENTS, STORES, RECORDS, DEADKEYS}
@@ -52,17 +53,8 @@ module _ (counted : StoreCounts) (told : List Statement → Totals → Type 0) (
       ∙ ap (λ first. earlier first (first_of (λ b t. at_line (line_of t) (code (b ++ t ∷ []) t)) (before ++ s ∷ []) statements)) next.1
       ∙ earlier_later walk.first (at_line (line_of s) (code (before ++ s ∷ []) s)) (first_of (λ b t. at_line (line_of t) (code (b ++ t ∷ []) t)) (before ++ s ∷ []) statements)
 
-fold_from : (start : ℕ) (xs : List ℕ) → fold ◌+◌ start xs ≡ start + fold ◌+◌ 0 xs
-fold_from start [] = omega arith
-fold_from start (x ∷ xs) =
-    let zero : 0 + x ≡ x = omega arith in
-    fold_from (start + x) xs ∙ omega (arith, ap (λ n. fold ◌+◌ n xs) zero ∙ fold_from x xs)
-
-sum_append : (xs ys : List ℕ) → sum (xs ++ ys) ≡ sum xs + sum ys
-sum_append [] ys = omega arith
-sum_append (x ∷ xs) ys =
-    let zero : 0 + x ≡ x = omega arith in
-    omega (arith, ap (λ n. fold ◌+◌ n (xs ++ ys)) zero ∙ fold_from x (xs ++ ys), ap (λ n. fold ◌+◌ n xs) zero ∙ fold_from x xs, sum_append xs ys)
+pub sum_append : (xs ys : List ℕ) → sum (xs ++ ys) ≡ sum xs + sum ys
+sum_append xs ys = sum_by-append (λ x. x) xs ys
 
 -- what is counted is said of the statements so far
 pub record AreTotals (known : Known) (before : List Statement) (totals : Totals) : Type 0 where

@@ -6,14 +6,13 @@ use Rattle.rule_model.specs.Tab.{tab}
 use Rattle.rule_model.specs.Trace.{Trace, trace}
 use Rattle.rule_model.specs.declared.program.Program.{Program}
 use Rattle.rule_model.specs.declared.tables.Tables.{Tables}
-use Rattle.kmn_parser.proofs.ReadPrograms.{programs_are_read}
-use Rattle.kmn_parser.proofs.SourceLines.{statements_in_order}
 use Rattle.program_text.specs.Programs.{program_text}
 use Rattle.compile_laws.specs.Ordered.{compiled_tables}
 use Rattle.compile_laws.proofs.Ordered.{program_compiles}
 use Rattle.compile_laws.proofs.Whole.{meaning_kept}
 use Rattle.rule_checker.specs.Refused.{IsRead}
 use Rattle.checker_laws.proofs.Named.{well_named}
+use Rattle.checker_laws.proofs.Sources.{source_read}
 use Rattle.load_laws.specs.Files.{FilesPlay}
 use Rattle.load_laws.specs.Keyboards.{load_events, load_keyboard}
 use Rattle.load_laws.specs.Plays.{Plays}
@@ -26,10 +25,7 @@ pub files_play : FilesPlay
 files_play n within =
     let program : Program = load_program n in
     let tables : Tables = compiled_tables program in
-    let read : IsRead program = record {
-      statements = programs_are_read (program_text program) program (program_parsed n within);
-      order = statements_in_order (program_text program) program (program_parsed n within);
-    } in
+    let read : IsRead program = source_read (program_text program) program (program_parsed n within) in
     let kept : trace (src program) (load_events n) ≡ trace (tab tables) (load_events n) =
     meaning_kept program tables (well_named program read (nothing_refused n within)) (program_compiles program) (load_events n) in
     let same : trace (load_keyboard n) (load_events n) ≡ trace (tab tables) (load_events n) =

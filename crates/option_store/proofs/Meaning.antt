@@ -195,10 +195,6 @@ first_values elements k (value ∷ rest) at =
     behind : (i : ℕ) → i < length rest → slice_get elements (k + 1 + i) ≡ slice_get rest i
     behind i less = let next : k + 1 + i ≡ k + suc i = omega arith in ap (slice_get elements) next ∙ at (suc i) (omega arith)
 
-first_saves : (elements : List (List Element)) (k n : ℕ) → saved_values elements (first_cells k n) ≡ map (λ c. None) (first_cells k n)
-first_saves elements k zero = refl
-first_saves elements k (suc n) = ap (λ saves. None ∷ saves) (first_saves elements (k + 1) n)
-
 options_stated : (stores : List StoreMeaning) → of_options stores (stated stores) ≡ map (λ (store : StoreMeaning). store.elements) (options_of stores)
 options_stated [] = refl
 options_stated (s ∷ ss) = elim (s.is_option) as (λ b. (if b then s.elements ∷ of_options ss (stated ss) else of_options ss (stated ss)) ≡ map (λ (store : StoreMeaning). store.elements) (if b then s ∷ options_of ss else options_of ss)) [

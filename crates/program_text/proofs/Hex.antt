@@ -1,15 +1,15 @@
 -- Numbers in hexadecimal digits are read back.
-use Rattle.std.proofs.Common.{◌≡◌, ℕ, zero, suc, ◌+◌, ◌-◌, ◌*◌, ◌/◌, ◌%◌, ◌<◌, ◌≤◌, inl, inr, Bool, true, false, not, ◌&&◌, ◌||◌, if◌then◌else◌, ◌==◌, List, [], ◌∷◌, ◌++◌, length, Option, None, Some, is_some, refl, sym, ◌∙◌, ap, subst, arith, length-append}
+use Rattle.std.proofs.Common.{◌≡◌, ℕ, zero, suc, ◌+◌, ◌-◌, ◌*◌, ◌/◌, ◌%◌, ◌<◌, ◌≤◌, inl, inr, Bool, true, false, not, ◌&&◌, ◌||◌, if◌then◌else◌, ◌==◌, List, [], ◌∷◌, ◌++◌, length, None, Some, is_some, refl, sym, ◌∙◌, ap, subst, arith, length-append}
 use Rattle.std.specs.Prelude.{◌≢◌, unwrap_or, min, nat_le, nat_lt}
 use Rattle.std.specs.List.{list_all}
-use Rattle.std.proofs.lemmas.Bool.{and_from, ne_eqb, or_left, or_right, leb-true, le-leb, lt-leb, lt-ltb, cases_lt, ltb-true, cond-true, cond-false, and_left, and_right}
+use Rattle.std.proofs.lemmas.Bool.{and_from, ne_eqb, or_left, or_right, le-leb, lt-leb, lt-ltb, cases_lt, ltb-true, cond-true, cond-false, and_left, and_right, and_parts, or_from}
 use Rattle.std.proofs.Math.Nat.{mod-lt, min-eq_left}
 use Rattle.std.proofs.lemmas.Nat.{div-add-mod'}
 use lib.Utf8.{scalar, scalar_cases}
 use Rattle.kmn_base.specs.Bytes.{is_blank, hex_digit}
 use Rattle.kmn_lines.specs.Tokens.{starts_number, token_size, token_kind, hex_value, begins_forbidden, has_forbidden, is_closed, all_digits, value_fault, token_fault, is_scalar}
 use Rattle.kmn_lines.specs.declared.token.TokenKind.TheVariants as kind
-use Rattle.kmn_lines.proofs.Sizes.{and-true, or-both, in_word-plain, in_word-far}
+use Rattle.kmn_lines.proofs.Sizes.{in_word-plain, in_word-far, in-range, some-both}
 use Rattle.kmn_parser.specs.ProgramLaws.{IsCharacter}
 use Rattle.program_text.specs.Texts.{hex_glyph, hex_text, hex_count, char_text}
 use Rattle.program_text.specs.Names.{is_inner}
@@ -32,17 +32,10 @@ digit-byte : (byte : ℕ) → 48 ≤ byte → byte < 103 → byte ≢ 61 → byt
 digit-byte byte low high e f g h k =
     let plain = in_word-plain byte 0 (in_word-far byte 0 low e f g k) in
     record {
-      safe = and_from _ _ (and_from _ _ (ap not (or-both _ _ (or-both _ _ plain.blank plain.quote) plain.alone))
-          (ap not (or-both _ _ (ne_eqb byte 10 (omega arith)) (ne_eqb byte 13 (omega arith))))) (ap not (ne_eqb byte 92 h));
+      safe = and_from _ _ (and_from _ _ (ap not (or_from _ _ (or_from _ _ plain.blank plain.quote) plain.alone))
+          (ap not (or_from _ _ (ne_eqb byte 10 (omega arith)) (ne_eqb byte 13 (omega arith))))) (ap not (ne_eqb byte 92 h));
       ascii = and_from _ _ (lt-ltb 0 byte (omega arith)) (lt-ltb byte 128 (omega arith));
     }
-
-in-range : (low high byte : ℕ) → (nat_le low byte && nat_le byte high) ≡ true → (low ≤ byte) × (byte ≤ high)
-in-range low high byte h = let both = and-true (nat_le low byte) (nat_le byte high) h in (leb-true low byte both.0, leb-true byte high both.1)
-
-some-both : {G : Type 0} (b : Bool) (x : ℕ) (y : Option ℕ) → (b ≡ true → G) → (is_some y ≡ true → G) → is_some (if b then Some x else y) ≡ true → G
-some-both true x y g h e = g refl
-some-both false x y g h e = h e
 
 hex-byte : (byte : ℕ) → is_some (hex_digit byte) ≡ true → IsDigitByte byte
 hex-byte byte =
@@ -53,18 +46,18 @@ hex-byte byte =
 
 pub digits-safe : (digits : List ℕ) → all_digits digits ≡ true → list_all is_safe_byte digits ≡ true
 digits-safe [] e = refl
-digits-safe (d ∷ digits) e = let two = and-true (is_some (hex_digit d)) (all_digits digits) e in and_from _ _ (hex-byte d two.0).safe (digits-safe digits two.1)
+digits-safe (d ∷ digits) e = let two = and_parts (is_some (hex_digit d)) (all_digits digits) e in and_from _ _ (hex-byte d two.0).safe (digits-safe digits two.1)
 
 digits-plain : (digits : List ℕ) → all_digits digits ≡ true → list_all is_plain_byte digits ≡ true
 digits-plain [] e = refl
 digits-plain (d ∷ digits) e =
-    let two = and-true (is_some (hex_digit d)) (all_digits digits) e in
-    let safe = and-true (is_still_byte d) (not (d == 92)) (hex-byte d two.0).safe in
-    and_from _ _ (and-true (is_plain_byte d) (is_inner d) safe.0).0 (digits-plain digits two.1)
+    let two = and_parts (is_some (hex_digit d)) (all_digits digits) e in
+    let safe = and_parts (is_still_byte d) (not (d == 92)) (hex-byte d two.0).safe in
+    and_from _ _ (and_parts (is_plain_byte d) (is_inner d) safe.0).0 (digits-plain digits two.1)
 
 pub digits-ascii : (digits : List ℕ) → all_digits digits ≡ true → list_all is_ascii_byte digits ≡ true
 digits-ascii [] e = refl
-digits-ascii (d ∷ digits) e = let two = and-true (is_some (hex_digit d)) (all_digits digits) e in and_from _ _ (hex-byte d two.0).ascii (digits-ascii digits two.1)
+digits-ascii (d ∷ digits) e = let two = and_parts (is_some (hex_digit d)) (all_digits digits) e in and_from _ _ (hex-byte d two.0).ascii (digits-ascii digits two.1)
 
 -- a digit that is written has its value
 glyph-digit : (n : ℕ) → n < 16 → hex_digit (hex_glyph n) ≡ Some n
@@ -94,7 +87,7 @@ length-hex (suc count) n = length-append (hex_text count (n / 16)) _ ∙ (let mo
 
 digits-append : (xs ys : List ℕ) → all_digits xs ≡ true → all_digits ys ≡ true → all_digits (xs ++ ys) ≡ true
 digits-append [] ys e f = f
-digits-append (x ∷ xs) ys e f = let two = and-true _ _ e in and_from _ _ two.0 (digits-append xs ys two.1 f)
+digits-append (x ∷ xs) ys e f = let two = and_parts _ _ e in and_from _ _ two.0 (digits-append xs ys two.1 f)
 
 pub digits-hex : (count n : ℕ) → all_digits (hex_text count n) ≡ true
 digits-hex zero n = refl
@@ -104,14 +97,14 @@ digits-hex (suc count) n =
 forbidden-not : (byte : ℕ) (bytes : List ℕ) → is_ascii_byte byte ≡ true → begins_forbidden (byte ∷ bytes) ≡ false
 unfolding begins_forbidden
 forbidden-not byte bytes e =
-    let two = and-true (nat_lt 0 byte) (nat_lt byte 128) e in
+    let two = and_parts (nat_lt 0 byte) (nat_lt byte 128) e in
     let low : 0 < byte = ltb-true 0 byte two.0 in
     let high : byte < 128 = ltb-true byte 128 two.1 in
-    or-both _ _ (ne_eqb byte 0 (omega arith)) (and_left _ _ (ne_eqb 239 byte (omega arith)))
+    or_from _ _ (ne_eqb byte 0 (omega arith)) (and_left _ _ (ne_eqb 239 byte (omega arith)))
 
 pub ascii-allowed : (bytes : List ℕ) → list_all is_ascii_byte bytes ≡ true → has_forbidden bytes ≡ false
 ascii-allowed [] e = refl
-ascii-allowed (byte ∷ bytes) e = let two = and-true (is_ascii_byte byte) (list_all is_ascii_byte bytes) e in or-both _ _ (forbidden-not byte bytes two.0) (ascii-allowed bytes two.1)
+ascii-allowed (byte ∷ bytes) e = let two = and_parts (is_ascii_byte byte) (list_all is_ascii_byte bytes) e in or_from _ _ (forbidden-not byte bytes two.0) (ascii-allowed bytes two.1)
 
 value-push : (a : ℕ) (digits : List ℕ) (d : ℕ) → hex_value a (digits ++ d ∷ []) ≡ min (hex_value a digits * 16 + unwrap_or (hex_digit d) 0) 0x11_0000
 value-push a [] d = refl
@@ -130,7 +123,7 @@ value-hex (suc count) n h small =
 
 number-starts : (first : ℕ) (digits rest : List ℕ) → ((first == 85) || (first == 117)) ≡ true → 0 < length digits → all_digits digits ≡ true → starts_number (first ∷ 43 ∷ (digits ++ rest)) ≡ true
 number-starts first [] rest u h e = absurd (omega arith)
-number-starts first (d ∷ digits) rest u h e = and_from _ _ (and_from _ _ u refl) (and-true (is_some (hex_digit d)) (all_digits digits) e).0
+number-starts first (d ∷ digits) rest u h e = and_from _ _ (and_from _ _ u refl) (and_parts (is_some (hex_digit d)) (all_digits digits) e).0
 
 -- a character is U+ and its digits
 pub record HasDigits (c count : ℕ) : Type 0 where
@@ -163,7 +156,7 @@ valid-scalar c e = elim (scalar_cases c e) [
 
 sound-value : (c : ℕ) → IsCharacter c → value_fault c ≡ None
 sound-value c ok =
-    cond-false ((c == 0) || (c == 0xFFFF)) _ _ (or-both _ _ (ne_eqb c 0 ok.not_first) (ne_eqb c 0xFFFF ok.not_last))
+    cond-false ((c == 0) || (c == 0xFFFF)) _ _ (or_from _ _ (ne_eqb c 0 ok.not_first) (ne_eqb c 0xFFFF ok.not_last))
     ∙ cond-true (is_scalar c) _ _ (valid-scalar c ok.valid)
 
 -- a number before what ends a word

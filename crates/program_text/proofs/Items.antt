@@ -4,12 +4,11 @@ use Rattle.std.specs.Prelude.{Ok, Err, codes}
 use Rattle.std.specs.Prelude.{not, nat_eq, bit_and, filter, map}
 use Rattle.std.specs.List.{list_all}
 use Rattle.std.specs.Fmt.{decimal}
-use Rattle.std.proofs.lemmas.Bool.{cond-true, cond-false, and_from}
+use Rattle.std.proofs.lemmas.Bool.{cond-true, cond-false, and_from, and_parts}
 use Rattle.virtual_keys.specs.Keys.{shift_flags}
 use Rattle.rule_model.specs.declared.program.KeyName.{KeyName}
 use Rattle.kmn_items.specs.Brackets.{flags_of, named_key, key_item, modifier_count}
 use Rattle.kmn_items.proofs.ItemLemmas.{items_skip}
-use Rattle.kmn_lines.proofs.Sizes.{and-true}
 use Rattle.kmn_base.specs.Names.{same_name}
 use Rattle.rule_model.specs.declared.program.SrcItem.{SrcItem}
 use Rattle.rule_model.specs.declared.program.SrcItem.TheVariants as source
@@ -120,7 +119,7 @@ modifiers-counted : (texts : List (List ℕ)) (name : List ℕ) (rest : List Lin
     → modifier_count (map word texts ++ word name ∷ rest) ≡ length texts
 modifiers-counted [] name rest e f = cond-false (is_modifier name) _ _ f
 modifiers-counted (text ∷ texts) name rest e f =
-    let two = and-true (is_modifier text) (list_all is_modifier texts) e in
+    let two = and_parts (is_modifier text) (list_all is_modifier texts) e in
     cond-true (is_modifier text) _ _ two.0 ∙ (let more = modifiers-counted texts name rest two.1 f in omega (arith, more))
 
 drop-bracket : (texts : List (List ℕ)) (more : List LineToken) → drop (length texts) (map word texts ++ more) ≡ more
@@ -177,7 +176,7 @@ all-mapped : (flags : ℕ) (rows : List (List ℕ × ℕ)) → list_all (λ row.
     → list_all is_modifier (map (λ row. row.0) (filter (λ row. not (nat_eq (bit_and flags row.1) 0)) rows)) ≡ true
 all-mapped flags [] e = refl
 all-mapped flags (row ∷ rows) e =
-    let two = and-true (is_modifier row.0) _ e in
+    let two = and_parts (is_modifier row.0) _ e in
     elim (not (nat_eq (bit_and flags row.1) 0)) as (λ b. list_all is_modifier (map (λ row. row.0) (if b then row ∷ filter (λ row. not (nat_eq (bit_and flags row.1) 0)) rows else filter (λ row. not (nat_eq (bit_and flags row.1) 0)) rows)) ≡ true) [
       | true ↦ and_from _ _ two.0 (all-mapped flags rows two.1)
       | false ↦ all-mapped flags rows two.1

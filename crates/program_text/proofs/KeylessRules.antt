@@ -3,10 +3,9 @@ use Rattle.std.proofs.Common.{◌≡◌, ℕ, ◌+◌, ◌-◌, ◌<◌, true, f
 use Rattle.std.specs.Prelude.{Ok, nat_lt}
 use Rattle.std.specs.List.{list_all}
 use Rattle.std.proofs.Math.Seq.{take-append_seam, drop-append-add}
-use Rattle.std.proofs.lemmas.Bool.{lt-ltb, cond-true}
+use Rattle.std.proofs.lemmas.Bool.{lt-ltb, cond-true, and_parts}
 use Rattle.kmn_base.specs.declared.codes.Code.TheVariants.{S01, S04, S06}
 use Rattle.kmn_lines.specs.Bytes.{or_else}
-use Rattle.kmn_lines.proofs.Sizes.{and-true}
 use Rattle.kmn_items.specs.Slots.{unless}
 use Rattle.rule_model.specs.declared.program.SrcItem.{SrcItem}
 use Rattle.rule_model.specs.declared.program.RuleKind.TheVariants.{Plain}
@@ -31,7 +30,7 @@ use Rattle.program_text.proofs.Rules.{Without, place-found, items-arrow, items-p
 place-none : (wanted : Sign) (tokens : List LineToken) → Without wanted tokens → place_of wanted tokens ≡ length tokens
 place-none wanted [] none = refl
 place-none wanted (first ∷ tokens) none =
-    let two = and-true (not (is_sign wanted first.kind)) (list_all (λ (t : LineToken). not (is_sign wanted t.kind)) tokens) none in
+    let two = and_parts (not (is_sign wanted first.kind)) (list_all (λ (t : LineToken). not (is_sign wanted t.kind)) tokens) none in
     cond-true (not (is_sign wanted first.kind)) _ _ two.0 ∙ (let more = place-none wanted tokens two.1 in omega (arith, more))
 
 free-head : (arrow place : ℕ) (tokens : List LineToken) → nat_lt arrow (length tokens) ≡ true → has_items (drop (arrow + 1) tokens) ≡ true → rule_head WithoutKeys arrow place tokens ≡ None

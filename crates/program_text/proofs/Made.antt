@@ -9,7 +9,8 @@ use Rattle.rule_model.specs.declared.program.BeginDef.{BeginDef}
 use Rattle.rule_model.specs.declared.program.Program.{Program}
 use Rattle.kmn_parser.specs.declared.statement.Statement.{Statement}
 use Rattle.kmn_parser.specs.declared.statement.Statement.TheVariants as statement
-use Rattle.kmn_parser.specs.Source.{with_statement, with_rule, no_program}
+use Rattle.kmn_parser.specs.Source.{with_statement, no_program}
+use Rattle.kmn_parser.proofs.LineLemmas.{rule_goes_last}
 
 abbrev pub group_statements : List GroupDef → List Statement
 group_statements groups = flat_map (λ (group : GroupDef). statement.Group (record group { rules = [] }) ∷ map statement.Rule group.rules) groups
@@ -33,15 +34,10 @@ fold-begins : (p : Program) (begins : List BeginDef) → fold with_statement p (
 fold-begins p [] = ap (λ (s : List BeginDef). record p { begins = s }) (sym (append-nil p.begins))
 fold-begins p (s ∷ begins) = fold-begins (record p { begins = p.begins ++ s ∷ [] }) begins ∙ ap (λ (k : List BeginDef). record p { begins = k }) (append-one p.begins s begins)
 
-rule-last : (groups : List GroupDef) (g : GroupDef) (rule : RuleDef) → with_rule (groups ++ g ∷ []) rule ≡ groups ++ record g { rules = g.rules ++ rule ∷ [] } ∷ []
-rule-last [] g rule = refl
-rule-last (x ∷ []) g rule = refl
-rule-last (x ∷ y ∷ groups) g rule = ap (λ (gs : List GroupDef). x ∷ gs) (rule-last (y ∷ groups) g rule)
-
 fold-rules : (p : Program) (before : List GroupDef) (g : GroupDef) (rules : List RuleDef) → fold with_statement (record p { groups = before ++ g ∷ [] }) (map statement.Rule rules) ≡ record p { groups = before ++ record g { rules = g.rules ++ rules } ∷ [] }
 fold-rules p before g [] = ap (λ (k : List RuleDef). record p { groups = before ++ record g { rules = k } ∷ [] }) (sym (append-nil g.rules))
 fold-rules p before g (rule ∷ rules) =
-    ap (λ (gs : List GroupDef). fold with_statement (record p { groups = gs }) (map statement.Rule rules)) (rule-last before g rule)
+    ap (λ (gs : List GroupDef). fold with_statement (record p { groups = gs }) (map statement.Rule rules)) (rule_goes_last before g rule)
     ∙ fold-rules p before (record g { rules = g.rules ++ rule ∷ [] }) rules
     ∙ ap (λ (k : List RuleDef). record p { groups = before ++ record g { rules = k } ∷ [] }) (append-one g.rules rule rules)
 

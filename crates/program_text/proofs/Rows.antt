@@ -1,11 +1,11 @@
 -- A text made of whole lines has these logical lines, each of one part.
-use Rattle.std.proofs.Common.{◌≡◌, ℕ, suc, ◌+◌, inl, inr, Bool, true, false, ◌&&◌, ◌||◌, if◌then◌else◌, ◌==◌, List, [], ◌∷◌, ◌++◌, length, take, drop, Option, None, is_some, refl, sym, ◌∙◌, ap, arith, append_assoc, length-append}
+use Rattle.std.proofs.Common.{◌≡◌, ℕ, suc, ◌+◌, inl, inr, Bool, true, false, if◌then◌else◌, ◌==◌, List, [], ◌∷◌, ◌++◌, length, take, drop, Option, None, is_some, refl, sym, ◌∙◌, ap, arith, append_assoc, length-append}
 use Rattle.std.specs.Prelude.{All, unwrap_or, codes}
 use Rattle.std.specs.List.{list_all, starts_with}
 use Rattle.std.specs.Prelude.{nat_lt}
 use Rattle.std.specs.Char.{to_ascii_lowercase}
 use Rattle.std.proofs.lemmas.List.{drop-take}
-use Rattle.std.proofs.lemmas.Bool.{eq-eqb, ne_eqb, cases_lt, lt-ltb, cond-true, cond-false, not-true, and_left}
+use Rattle.std.proofs.lemmas.Bool.{ne_eqb, cases_lt, lt-ltb, cond-true, cond-false, not-true, and_left, and_parts, or_parts, or_from}
 use Rattle.std.proofs.lemmas.List.Elements.{All-head, All-tail}
 use Rattle.std.proofs.Math.Seq.{take-append_seam}
 use Rattle.kmn_base.specs.Bytes.{is_blank}
@@ -16,7 +16,7 @@ use Rattle.kmn_lines.specs.declared.line_state.LineState.{LineState}
 use Rattle.kmn_lines.specs.declared.line_state.PhysicalLine.{PhysicalLine}
 use Rattle.kmn_lines.specs.declared.logical.Logical.{Logical}
 use Rattle.kmn_lines.specs.declared.logical.Part.{Part}
-use Rattle.kmn_lines.proofs.Sizes.{and-true, or-false, or-both}
+use Rattle.kmn_lines.proofs.LineTexts.{no-end, lines-none}
 use Rattle.program_text.specs.Names.{is_inner}
 use Rattle.program_text.specs.Printed.{rows}
 use Rattle.program_text.proofs.LineForms.{IsWholeLine, begins_plainly, read_on, row_lines}
@@ -24,11 +24,6 @@ use Rattle.program_text.proofs.LineForms.{IsWholeLine, begins_plainly, read_on, 
 next-same : (bytes rest : List ℕ) → first_or_end (bytes ++ 10 ∷ rest) ≡ first_or_end bytes
 next-same [] rest = refl
 next-same (byte ∷ bytes) rest = refl
-
-goes-on : (a b c : Bool) → (a || b) ≡ false → (a || (b && c)) ≡ false
-goes-on true b c e = e
-goes-on false true c e = absurd cc
-goes-on false false c e = refl
 
 -- the physical line that a line and its LF make
 line-physical : (line number from : ℕ) (r : LineState) (at : ℕ) (bytes rest : List ℕ) → list_all is_inner bytes ≡ true
@@ -38,10 +33,10 @@ line-physical line number from r at [] rest e =
     let same : at ≡ at + 0 = omega arith in
     ap (λ (k : ℕ). physical_line number from k (k + 1) r ∷ physical_lines (number + 1) (k + 1) line_start (k + 1) rest) same
 line-physical line number from r at (byte ∷ bytes) rest e =
-    let two = and-true (is_inner byte) (list_all is_inner bytes) e in
+    let two = and_parts (is_inner byte) (list_all is_inner bytes) e in
     let none = not-true _ two.0 in
     let same : at + 1 + length bytes ≡ at + suc (length bytes) = omega arith in
-    cond-false (ends_line byte (first_or_end (bytes ++ 10 ∷ rest))) _ _ (goes-on (byte == 10) (byte == 13) _ none)
+    cond-false (ends_line byte (first_or_end (bytes ++ 10 ∷ rest))) _ _ (no-end (byte == 10) (byte == 13) _ none)
     ∙ ap (λ (n : ℕ). physical_lines number from (after_byte r at byte n) (at + 1) (bytes ++ 10 ∷ rest)) (next-same bytes rest)
     ∙ line-physical line number from (after_byte r at byte (first_or_end bytes)) (at + 1) bytes rest two.1
     ∙ ap (λ (k : ℕ). physical_line number from k (k + 1) (read_on r at (byte ∷ bytes)) ∷ physical_lines (number + 1) (k + 1) line_start (k + 1) rest) same
@@ -62,11 +57,8 @@ line-whole number at line rest ok =
     ∙ ap (λ (p : PhysicalLine). p ∷ physical_lines (number + 1) (at + length line + 1) line_start (at + length line + 1) rest)
     (whole-physical number at (at + length line) (at + length line + 1) (read_on line_start at line) (ok.stop at) (ok.slash at))
 
-none-left : (number at : ℕ) → physical_lines number at line_start at [] ≡ []
-none-left number at = cond-true (at == at) _ _ (eq-eqb at at refl)
-
 rows_gathered : (number at : ℕ) (lines : List (List ℕ)) → All IsWholeLine lines → gather None (physical_lines number at line_start at (rows lines)) ≡ row_lines number at lines
-rows_gathered number at [] ok = ap (gather None) (none-left number at)
+rows_gathered number at [] ok = ap (gather None) (lines-none number at)
 rows_gathered number at (line ∷ lines) ok =
     ap (gather None) (line-whole number at line (rows lines) (All-head IsWholeLine line lines ok))
     ∙ ap (λ (ls : List Logical). record { first_line = number; from = at; to = at + length line + 1 } ∷ ls) (rows_gathered (number + 1) (at + length line + 1) lines (All-tail IsWholeLine line lines ok))
@@ -102,19 +94,19 @@ not-skipped : (text : List ℕ) → begins_plainly text ≡ true → is_skipped 
 unfolding is_skipped
 not-skipped [] e = absurd cc
 not-skipped (byte ∷ bytes) e =
-    let two = or-false (is_blank byte) (byte == 36) (not-true _ e) in
+    let two = or_parts (is_blank byte) (byte == 36) (not-true _ e) in
     ap begins_other (no-blanks byte bytes two.0)
-    ∙ or-both _ _ (not-prefix byte bytes (drop 1 (codes "$keymanweb:")) two.1) (not-prefix byte bytes (drop 1 (codes "$kmfl:")) two.1)
+    ∙ or_from _ _ (not-prefix byte bytes (drop 1 (codes "$keymanweb:")) two.1) (not-prefix byte bytes (drop 1 (codes "$kmfl:")) two.1)
 
 none-dropped : (text : List ℕ) → begins_plainly text ≡ true → dropped text ≡ 0
 unfolding dropped
 none-dropped [] e = absurd cc
 none-dropped (byte ∷ bytes) e =
-    let two = or-false (is_blank byte) (byte == 36) (not-true _ e) in
+    let two = or_parts (is_blank byte) (byte == 36) (not-true _ e) in
     cond-false _ _ _ (ap (λ (words : List ℕ). begins_with words (codes "$keyman:")) (no-blanks byte bytes two.0) ∙ not-prefix byte bytes (drop 1 (codes "$keyman:")) two.1)
     ∙ cond-false _ _ _ (ap (λ (words : List ℕ). begins_with words (codes "$keymanonly:")) (no-blanks byte bytes two.0) ∙ not-prefix byte bytes (drop 1 (codes "$keymanonly:")) two.1)
 
-if-same : {A : Type 0} (b : Bool) (x : A) → (if b then x else x) ≡ x
+pub if-same : {A : Type 0} (b : Bool) (x : A) → (if b then x else x) ≡ x
 if-same true x = refl
 if-same false x = refl
 
@@ -147,5 +139,5 @@ row_parts source number at line rest e ok =
     let here : drop at text ≡ line ++ 10 ∷ [] = ended source at line rest e in
     ap (λ (xs : List ℕ). opening_parts text (physical_lines number at line_start at xs)) here
     ∙ ap (opening_parts text) (line-whole number at line [] ok)
-    ∙ ap (λ (ps : List PhysicalLine). opening_parts text (whole number at line ∷ ps)) (none-left (number + 1) (at + length line + 1))
+    ∙ ap (λ (ps : List PhysicalLine). opening_parts text (whole number at line ∷ ps)) (lines-none (number + 1) (at + length line + 1))
     ∙ one-part text number at line here ok.start

@@ -5,13 +5,12 @@ use Rattle.std.specs.List.{list_all}
 use Rattle.std.proofs.Math.Seq.{take-append_seam, drop-append-add}
 use Rattle.std.proofs.lemmas.List.Folds.{list_all-append}
 use Rattle.std.specs.Fmt.{decimal}
-use Rattle.std.proofs.lemmas.Bool.{and_from, lt-ltb, ne_eqb, cond_both, cond-true, cond-false}
+use Rattle.std.proofs.lemmas.Bool.{and_from, lt-ltb, ne_eqb, cond_both, cond-true, cond-false, and_parts}
 use Rattle.kmn_base.specs.Names.{same_name}
 use Rattle.kmn_base.specs.declared.codes.Code.TheVariants.{S01, S04, S06, S08}
 use Rattle.kmn_lines.specs.Bytes.{or_else}
 use Rattle.kmn_lines.specs.Tokens.{starts_number, hex_value}
 use Rattle.kmn_lines.specs.declared.token.TokenKind.TheVariants as kind
-use Rattle.kmn_lines.proofs.Sizes.{and-true}
 use Rattle.kmn_items.specs.Slots.{unless}
 use Rattle.rule_model.specs.declared.program.SrcItem.{SrcItem}
 use Rattle.rule_model.specs.declared.program.SrcItem.TheVariants as source
@@ -99,7 +98,7 @@ items-plus (i ∷ items) = without-append sign.Plus (tokens_in (item_pieces i)) 
 pub place-found : (wanted : Sign) (before : List LineToken) (token : LineToken) (behind : List LineToken) → Without wanted before → is_sign wanted token.kind ≡ true → place_of wanted (before ++ token ∷ behind) ≡ length before
 place-found wanted [] token behind none is = cond-false (not (is_sign wanted token.kind)) _ _ (ap not is)
 place-found wanted (first ∷ before) token behind none is =
-    let two = and-true (not (is_sign wanted first.kind)) (list_all (λ (t : LineToken). not (is_sign wanted t.kind)) before) none in
+    let two = and_parts (not (is_sign wanted first.kind)) (list_all (λ (t : LineToken). not (is_sign wanted t.kind)) before) none in
     cond-true (not (is_sign wanted first.kind)) _ _ two.0 ∙ (let more = place-found wanted before token behind two.1 is in omega (arith, more))
 
 -- an output has an item

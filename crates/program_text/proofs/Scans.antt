@@ -1,5 +1,5 @@
 -- Printed lines are tokenised back.
-use Rattle.std.proofs.Common.{◌≡◌, ℕ, zero, suc, ◌+◌, ◌-◌, ◌≤◌, Bool, true, false, if◌then◌else◌, List, [], ◌∷◌, ◌++◌, length, take, drop, Option, None, Some, refl, sym, ◌∙◌, ap, arith, add-one}
+use Rattle.std.proofs.Common.{◌≡◌, ℕ, zero, suc, ◌+◌, ◌-◌, ◌≤◌, Bool, true, false, if◌then◌else◌, List, [], ◌∷◌, ◌++◌, length, take, drop, Option, None, Some, refl, sym, ◌∙◌, ap, arith}
 use Rattle.std.proofs.lemmas.List.{drop-take}
 use Rattle.std.proofs.Math.Seq.{take-append_seam, drop-append_seam}
 use Rattle.std.proofs.lemmas.Bool.{cond-false}
@@ -12,6 +12,7 @@ use Rattle.kmn_lines.proofs.Numbered.{drop-next}
 use Rattle.kmn_items.specs.TokenTexts.{LineToken, with_texts, with_text, text_of}
 use Rattle.program_text.specs.Printed.{printed}
 use Rattle.program_text.proofs.LineForms.{AreReadBack, IsReadBack, tokens_in}
+use Rattle.kmn_tokens.proofs.Scans.{first_fault_skip}
 
 -- a token by its text
 abbrev token_of : List ℕ → LineToken
@@ -44,9 +45,9 @@ take-split (suc n) (byte ∷ bytes) rest h = ap (λ (xs : List ℕ). byte ∷ xs
 with_texts-lexed : (source : List ℕ) (line n at : ℕ) (bytes rest : List ℕ) → drop at source ≡ bytes ++ rest → with_texts source (scanned line n at bytes) ≡ lexed n bytes
 with_texts-lexed source line n at [] rest e = refl
 with_texts-lexed source line (suc n) at (byte ∷ bytes) rest e =
-    with_texts-lexed source line n (at + 1) bytes rest (ap (λ (k : ℕ). drop k source) (add-one at) ∙ drop-next at source byte (bytes ++ rest) e)
+    with_texts-lexed source line n (at + 1) bytes rest (drop-next at source byte (bytes ++ rest) e)
 with_texts-lexed source line zero at (byte ∷ bytes) rest e =
-    let next : drop (at + 1) source ≡ bytes ++ rest = ap (λ (k : ℕ). drop k source) (add-one at) ∙ drop-next at source byte (bytes ++ rest) e in
+    let next : drop (at + 1) source ≡ bytes ++ rest = drop-next at source byte (bytes ++ rest) e in
     let whole : List ℕ = byte ∷ bytes in
     let size : ℕ = token_size whole in
     let within : size ≤ suc (length bytes) = token_size-within whole (omega arith) in
@@ -80,12 +81,6 @@ lexed-printed [] back = refl
 lexed-printed (None ∷ ps) back = lexed-printed ps back
 lexed-printed (Some token ∷ ps) (here, back) = lexed-token token token.text (printed ps) refl here ∙ ap (λ (ts : List LineToken). token ∷ ts) (lexed-printed ps back)
 
-fault-skip : (n : ℕ) (bytes : List ℕ) → first_fault n bytes ≡ first_fault 0 (drop n bytes)
-fault-skip zero [] = refl
-fault-skip (suc n) [] = refl
-fault-skip zero (byte ∷ bytes) = refl
-fault-skip (suc n) (byte ∷ bytes) = fault-skip n bytes
-
 fault-token : (token : LineToken) (text rest : List ℕ) → token.text ≡ text → IsReadBack token rest → first_fault 0 (text ++ rest) ≡ first_fault 0 rest
 fault-token token [] rest e back = let some = back.some in let none : length token.text ≡ 0 = ap length e in absurd (omega arith)
 fault-token token (byte ∷ bytes) rest e back =
@@ -96,7 +91,7 @@ fault-token token (byte ∷ bytes) rest e back =
     let here : token_text whole ≡ token.text = ap (λ (n : ℕ). take n whole) size ∙ take-append_seam (byte ∷ bytes) rest ∙ sym e in
     cond-false (is_blank byte) _ _ solid
     ∙ ap (λ f. or_else f (first_fault (token_size whole - 1) (bytes ++ rest))) (ap token_fault here ∙ back.sound)
-    ∙ fault-skip (token_size whole - 1) (bytes ++ rest) ∙ ap (λ (n : ℕ). first_fault 0 (drop n (bytes ++ rest))) less ∙ ap (λ (xs : List ℕ). first_fault 0 xs) (drop-append_seam bytes rest)
+    ∙ first_fault_skip (token_size whole - 1) (bytes ++ rest) ∙ ap (λ (n : ℕ). first_fault 0 (drop n (bytes ++ rest))) less ∙ ap (λ (xs : List ℕ). first_fault 0 xs) (drop-append_seam bytes rest)
 
 fault-printed : (ps : List (Option LineToken)) → AreReadBack ps → first_fault 0 (printed ps) ≡ None
 fault-printed [] back = refl

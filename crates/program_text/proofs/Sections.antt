@@ -1,5 +1,5 @@
 -- The items of a section are read as they are written.
-use Rattle.std.proofs.Common.{◌≡◌, ℕ, ◌+◌, ◌-◌, false, List, [], ◌∷◌, ◌++◌, length, Option, None, Some, refl, sym, ◌∙◌, ap, append_assoc}
+use Rattle.std.proofs.Common.{◌≡◌, ℕ, ◌+◌, false, List, [], ◌∷◌, ◌++◌, length, Option, None, Some, refl, sym, ◌∙◌, ap, append_assoc}
 use Rattle.std.specs.Prelude.{Ok, min}
 use Rattle.kmn_base.specs.declared.codes.Code.TheVariants.{S05}
 use Rattle.rule_model.specs.declared.program.SrcItem.{SrcItem}

@@ -1,14 +1,13 @@
 -- What is printed so is read back, and makes whole lines.
-use Rattle.std.proofs.Common.{◌≡◌, ℕ, ◌+◌, Bool, true, false, not, ◌&&◌, ◌||◌, if◌then◌else◌, ◌==◌, List, [], ◌∷◌, ◌++◌, Option, None, Some, refl, sym, ◌∙◌, ap, subst, append_assoc}
+use Rattle.std.proofs.Common.{◌≡◌, ℕ, Bool, true, false, not, ◌&&◌, ◌||◌, if◌then◌else◌, ◌==◌, List, [], ◌∷◌, ◌++◌, Option, None, Some, refl, sym, ◌∙◌, ap, subst, append_assoc}
 use Rattle.std.specs.List.{list_all}
 use Rattle.std.proofs.lemmas.List.Folds.{list_all-append}
-use Rattle.std.proofs.lemmas.Bool.{and_from}
+use Rattle.std.proofs.lemmas.Bool.{and_from, and_parts}
 use Rattle.kmn_base.specs.Bytes.{is_blank}
 use Rattle.kmn_lines.specs.Bytes.{first_or_end}
 use Rattle.kmn_lines.specs.Lines.{starts_comment}
 use Rattle.kmn_lines.specs.declared.token.TokenKind.{TokenKind}
 use Rattle.kmn_lines.specs.declared.token.TokenKind.TheVariants as kind
-use Rattle.kmn_lines.proofs.Sizes.{and-true}
 use Rattle.kmn_items.specs.TokenTexts.{LineToken}
 use Rattle.kmn_lines.specs.Lines.{line_start}
 use Rattle.program_text.specs.Names.{is_inner}
@@ -45,7 +44,7 @@ sound_back blank clean (Some token ∷ ps) (is, follows, sound) = (token-back to
 comment-word : (blank : Bool) (byte : ℕ) (bytes rest : List ℕ) → list_all is_still_byte (byte ∷ bytes) ≡ true → (blank ≡ true → is_alone_c (byte ∷ bytes) ≡ false) → starts_comment blank byte (first_or_end (bytes ++ rest)) ≡ false
 comment-word false byte bytes rest still lone = refl
 comment-word true byte [] rest still lone = ap (λ b. b && (is_blank (first_or_end rest) || (first_or_end rest == 10) || (first_or_end rest == 13))) (lone refl)
-comment-word true byte (next ∷ bytes) rest still lone = before-plain true byte next (and-true (is_still_byte next) (list_all is_still_byte bytes) (and-true (is_still_byte byte) _ still).1).0
+comment-word true byte (next ∷ bytes) rest still lone = before-plain true byte next (and_parts (is_still_byte next) (list_all is_still_byte bytes) (and_parts (is_still_byte byte) _ still).1).0
 
 quiet-moved : (blank clean : Bool) (text other rest : List ℕ) → text ≡ other → Quiet blank clean (other ++ rest) → Quiet blank clean (text ++ rest)
 quiet-moved blank clean text other rest e quiet = subst (λ (xs : List ℕ). Quiet blank clean (xs ++ rest)) (sym e) quiet
@@ -91,14 +90,14 @@ sound_quiet blank clean (Some token ∷ ps) (is, follows, sound) =
 still-inner : (bytes : List ℕ) → list_all is_still_byte bytes ≡ true → list_all is_inner bytes ≡ true
 still-inner [] e = refl
 still-inner (byte ∷ bytes) e =
-    let two = and-true (is_still_byte byte) (list_all is_still_byte bytes) e in
-    and_from _ _ (and-true (is_plain_byte byte) (is_inner byte) two.0).1 (still-inner bytes two.1)
+    let two = and_parts (is_still_byte byte) (list_all is_still_byte bytes) e in
+    and_from _ _ (and_parts (is_plain_byte byte) (is_inner byte) two.0).1 (still-inner bytes two.1)
 
 safe-inner : (bytes : List ℕ) → list_all is_safe_byte bytes ≡ true → list_all is_inner bytes ≡ true
 safe-inner [] e = refl
 safe-inner (byte ∷ bytes) e =
-    let two = and-true (is_safe_byte byte) (list_all is_safe_byte bytes) e in
-    and_from _ _ (and-true (is_plain_byte byte) (is_inner byte) (and-true (is_still_byte byte) (not (byte == 92)) two.0).0).1 (safe-inner bytes two.1)
+    let two = and_parts (is_safe_byte byte) (list_all is_safe_byte bytes) e in
+    and_from _ _ (and_parts (is_plain_byte byte) (is_inner byte) (and_parts (is_still_byte byte) (not (byte == 92)) two.0).0).1 (safe-inner bytes two.1)
 
 quoted-inner : (quote : ℕ) (bytes : List ℕ) → list_all is_inner bytes ≡ true → is_inner quote ≡ true → list_all is_inner (quote ∷ (bytes ++ quote ∷ [])) ≡ true
 quoted-inner quote bytes e q = and_from _ _ q (list_all-append is_inner bytes (quote ∷ []) ∙ and_from _ _ e (and_from _ _ q refl))

@@ -3,11 +3,10 @@ use Rattle.std.proofs.Common.{◌≡◌, ℕ, Bool, true, false, not, ◌&&◌, 
 use Rattle.std.specs.Prelude.{nat_eq, bit_and, filter, map}
 use Rattle.std.specs.Fmt.{decimal}
 use Rattle.std.specs.List.{list_all}
-use Rattle.std.proofs.lemmas.Bool.{and_from, not-true}
+use Rattle.std.proofs.lemmas.Bool.{and_from, not-true, and_parts}
 use Rattle.kmn_lines.specs.Tokens.{begins_forbidden, starts_number, hex_value}
 use Rattle.kmn_lines.specs.declared.token.TokenKind.{TokenKind}
 use Rattle.kmn_lines.specs.declared.token.TokenKind.TheVariants as kind
-use Rattle.kmn_lines.proofs.Sizes.{and-true}
 use Rattle.virtual_keys.specs.Keys.{shift_flags}
 use Rattle.rule_model.specs.declared.program.SrcItem.{SrcItem}
 use Rattle.rule_model.specs.declared.program.SrcItem.TheVariants as source
@@ -29,15 +28,15 @@ bracket-sound : (blank clean : Bool) (texts : List (List ℕ)) (name : List ℕ)
 unfolding IsBracketWord
 bracket-sound blank clean [] name rest all ok more = ((ok.0, ok.1), (refl, λ e. ok.2), (refl, tt, more))
 bracket-sound blank clean (text ∷ texts) name rest all ok more =
-    let two = and-true (is_word_text text && (list_all is_still_byte text && not (is_alone_c text))) _ all in
-    let three = and-true (is_word_text text) (list_all is_still_byte text && not (is_alone_c text)) two.0 in
-    let four = and-true (list_all is_still_byte text) (not (is_alone_c text)) three.1 in
+    let two = and_parts (is_word_text text && (list_all is_still_byte text && not (is_alone_c text))) _ all in
+    let three = and_parts (is_word_text text) (list_all is_still_byte text && not (is_alone_c text)) two.0 in
+    let four = and_parts (list_all is_still_byte text) (not (is_alone_c text)) three.1 in
     ((three.0, four.0), (refl, λ e. not-true _ four.1), bracket-sound true (ends_clean text) texts name rest two.1 ok more)
 
 words-sound : (flags : ℕ) (rows : List (List ℕ × ℕ)) → list_all (λ row. IsBracketWord row.0) rows ≡ true → list_all IsBracketWord (map (λ row. row.0) (filter (λ row. not (nat_eq (bit_and flags row.1) 0)) rows)) ≡ true
 words-sound flags [] e = refl
 words-sound flags (row ∷ rows) e =
-    let two = and-true (IsBracketWord row.0) _ e in
+    let two = and_parts (IsBracketWord row.0) _ e in
     elim (not (nat_eq (bit_and flags row.1) 0)) as (λ b. list_all IsBracketWord (map (λ row. row.0) (if b then row ∷ filter (λ row. not (nat_eq (bit_and flags row.1) 0)) rows else filter (λ row. not (nat_eq (bit_and flags row.1) 0)) rows)) ≡ true) [
       | true ↦ and_from _ _ two.0 (words-sound flags rows two.1)
       | false ↦ words-sound flags rows two.1

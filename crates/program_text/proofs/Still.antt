@@ -1,12 +1,11 @@
 -- What is printed begins no comment and joins no lines.
 use Rattle.std.proofs.Common.{◌≡◌, ℕ, ◌+◌, Bool, true, false, not, ◌&&◌, ◌||◌, if◌then◌else◌, ◌==◌, List, [], ◌∷◌, ◌++◌, Option, None, Some, is_some, refl, sym, ◌∙◌, ap, subst}
 use Rattle.std.specs.List.{list_all, list_any}
-use Rattle.std.proofs.lemmas.Bool.{cond-true, cond-false, not-true, and_right}
+use Rattle.std.proofs.lemmas.Bool.{cond-true, cond-false, not-true, and_right, and_parts, or_parts, or_from}
 use Rattle.kmn_base.specs.Bytes.{is_blank, is_quote}
 use Rattle.kmn_lines.specs.Bytes.{first_or_end}
 use Rattle.kmn_lines.specs.Lines.{starts_comment, outside, inside, in_line, after_byte}
 use Rattle.kmn_lines.specs.declared.line_state.LineState.{LineState}
-use Rattle.kmn_lines.proofs.Sizes.{and-true, or-false, or-both}
 use Rattle.program_text.specs.Names.{is_inner}
 use Rattle.program_text.proofs.LineForms.{ends_clean, is_plain_byte, is_still_byte, read_on}
 use Rattle.program_text.proofs.Words.{plain-byte}
@@ -57,29 +56,26 @@ quiet-solid blank clean byte text b q c s rest r at is =
     ] rest)
 
 inner-return : (byte : ℕ) → is_inner byte ≡ true → (byte == 13) ≡ false
-inner-return byte e = (or-false (byte == 10) (byte == 13) (not-true _ e)).1
-
-not-after : (byte next : ℕ) → starts_comment false byte next ≡ false
-not-after byte next = refl
+inner-return byte e = (or_parts (byte == 10) (byte == 13) (not-true _ e)).1
 
 -- before a byte of a word no comment begins
 pub before-plain : (blank : Bool) (byte next : ℕ) → is_still_byte next ≡ true → starts_comment blank byte next ≡ false
 before-plain blank byte next e =
-    let two = and-true (is_plain_byte next) (is_inner next) e in
-    let three = or-false (next == 10) (next == 13) (not-true _ two.1) in
-    and_right (blank && is_c byte) _ (or-both _ _ (or-both _ _ (plain-byte next two.0).blank three.0) three.1)
+    let two = and_parts (is_plain_byte next) (is_inner next) e in
+    let three = or_parts (next == 10) (next == 13) (not-true _ two.1) in
+    and_right (blank && is_c byte) _ (or_from _ _ (or_from _ _ (plain-byte next two.0).blank three.0) three.1)
 
 -- a word, whose first byte begins no comment
 pub quiet-word : (blank clean : Bool) (byte : ℕ) (bytes rest : List ℕ) → list_all is_still_byte (byte ∷ bytes) ≡ true → starts_comment blank byte (first_or_end (bytes ++ rest)) ≡ false
     → Quiet false (ends_clean (byte ∷ bytes)) rest → Quiet blank clean ((byte ∷ bytes) ++ rest)
 quiet-word blank clean byte [] rest e s more =
-    let two = and-true (is_still_byte byte) true e in
-    let both = and-true (is_plain_byte byte) (is_inner byte) two.0 in
+    let two = and_parts (is_still_byte byte) true e in
+    let both = and_parts (is_plain_byte byte) (is_inner byte) two.0 in
     let plain = plain-byte byte both.0 in
     quiet-solid blank clean byte rest plain.blank plain.quote (inner-return byte both.1) s more
 quiet-word blank clean byte (next ∷ bytes) rest e s more =
-    let two = and-true (is_still_byte byte) (list_all is_still_byte (next ∷ bytes)) e in
-    let both = and-true (is_plain_byte byte) (is_inner byte) two.0 in
+    let two = and_parts (is_still_byte byte) (list_all is_still_byte (next ∷ bytes)) e in
+    let both = and_parts (is_plain_byte byte) (is_inner byte) two.0 in
     let plain = plain-byte byte both.0 in
     quiet-solid blank clean byte ((next ∷ bytes) ++ rest) plain.blank plain.quote (inner-return byte both.1) s
     (quiet-word false (not (byte == 92)) next bytes rest two.1 refl more)
@@ -101,8 +97,8 @@ quiet-inside quote [] rest r at is same c none inner more =
     subst (λ (k : LineState). Ends k (at + 1) rest) (sym (inside-byte quote r at quote (first_or_end rest) is c ∙ cond-true (quote == quote) _ _ same))
     (more (record r { quote = None }) (at + 1) (record { quote = refl; stop = is.stop; after = is.after; slash = λ e. is.slash }))
 quiet-inside quote (byte ∷ bytes) rest r at is same c none inner more =
-    let two = and-true (is_inner byte) (list_all is_inner bytes) inner in
-    let apart = or-false (byte == quote) (list_any (λ b. b == quote) bytes) none in
+    let two = and_parts (is_inner byte) (list_all is_inner bytes) inner in
+    let apart = or_parts (byte == quote) (list_any (λ b. b == quote) bytes) none in
     subst (λ (k : LineState). Ends k (at + 1) (bytes ++ quote ∷ rest)) (sym (inside-byte quote r at byte (first_or_end (bytes ++ quote ∷ rest)) is (inner-return byte two.0) ∙ cond-false (byte == quote) _ _ apart.0))
     (quiet-inside quote bytes rest r (at + 1) is same c apart.1 two.1 more)
 
@@ -130,8 +126,8 @@ quiet-sign blank clean byte rest b q c z s more =
 pub quiet-run : (bytes rest : List ℕ) → list_all (λ b. is_still_byte b && not (b == 92)) bytes ≡ true → Quiet false true rest → Quiet false true (bytes ++ rest)
 quiet-run [] rest e more = more
 quiet-run (byte ∷ bytes) rest e more =
-    let two = and-true (is_still_byte byte && not (byte == 92)) (list_all (λ b. is_still_byte b && not (b == 92)) bytes) e in
-    let safe = and-true (is_still_byte byte) (not (byte == 92)) two.0 in
-    let both = and-true (is_plain_byte byte) (is_inner byte) safe.0 in
+    let two = and_parts (is_still_byte byte && not (byte == 92)) (list_all (λ b. is_still_byte b && not (b == 92)) bytes) e in
+    let safe = and_parts (is_still_byte byte) (not (byte == 92)) two.0 in
+    let both = and_parts (is_plain_byte byte) (is_inner byte) safe.0 in
     let plain = plain-byte byte both.0 in
     quiet-solid false true byte (bytes ++ rest) plain.blank plain.quote (inner-return byte both.1) refl (subst (λ k. Quiet false k (bytes ++ rest)) (sym safe.1) (quiet-run bytes rest two.1 more))

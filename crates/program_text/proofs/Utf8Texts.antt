@@ -1,5 +1,5 @@
 -- The text of a program that a text can say is UTF-8 and begins with no mark.
-use Rattle.std.proofs.Common.{◌≡◌, ℕ, zero, suc, ◌+◌, ◌^◌, ◌<◌, Bool, true, false, not, if◌then◌else◌, ◌==◌, List, [], ◌∷◌, ◌++◌, map, Option, None, Some, is_some, refl, ◌∙◌, ap, arith}
+use Rattle.std.proofs.Common.{◌≡◌, ℕ, zero, suc, ◌^◌, ◌<◌, Bool, true, false, not, if◌then◌else◌, ◌==◌, List, [], ◌∷◌, ◌++◌, map, Option, None, Some, refl, ◌∙◌, ap, arith}
 use Rattle.std.specs.Prelude.{codes, nat_eq, nat_lt, bit_and, filter, option_map, unwrap_or}
 use Rattle.std.specs.Str.{IsAscii, is_utf8}
 use Rattle.std.specs.Fmt.{decimal}
@@ -21,7 +21,7 @@ use Rattle.program_text.specs.Items.{named_call, compared, flag_words, key_text,
 use Rattle.program_text.specs.Spelled.{IsSpelledValue, IsSpelledKey, IsSpelledItem, AreSpelled, item_lead, seen_lead}
 use Rattle.program_text.proofs.Hex.{is_ascii_byte, digits-ascii, digits-hex}
 use Rattle.program_text.proofs.Values.{all-scalars}
-use Rattle.program_text.proofs.Keys.{found}
+use Rattle.program_text.proofs.Keys.{found, some-mapped}
 
 ascii-bytes : (bytes : List ℕ) → list_all is_ascii_byte bytes ≡ true → IsAscii bytes
 ascii-bytes [] e i = omega arith
@@ -105,10 +105,6 @@ kept-ascii flags (row ∷ rows) e =
 words-texts : (texts : List (List ℕ)) (more : List (Option LineToken)) → list_all (λ text. list_all is_ascii_byte text) texts ≡ true → AreTexts more → AreTexts (spaced_words texts more)
 words-texts [] more e ok = ok
 words-texts (text ∷ texts) more e ok = let two = and_parts (list_all is_ascii_byte text) _ e in (ascii text two.0, words-texts texts more two.1 ok)
-
-some-mapped : {A : Type 0} {B : Type 0} (f : A → B) (o : Option A) → is_some (option_map f o) ≡ true → is_some o ≡ true
-some-mapped f None e = e
-some-mapped f (Some x) e = refl
 
 key-name-text : (key : KeyName) → IsSpelledKey key → is_utf8 (key_text key) ≡ true
 unfolding are_ascii_rows

@@ -50,7 +50,8 @@ quote-apart quote cs low none =
     none-passes (λ b. b == quote) (encodes cs)
     (encodes-bytes (λ b. not (b == quote)) cs (all-fail (λ c. c == quote) cs none) (λ b high. not_from_false _ (ne_eqb b quote (omega arith))))
 
-high-inner : (b : ℕ) → 128 ≤ b → is_inner b ≡ true
+-- a byte past 127 is inside a line
+pub high-inner : (b : ℕ) → 128 ≤ b → is_inner b ≡ true
 high-inner b high = not_from_false _ (or_from _ _ (ne_eqb b 10 (omega arith)) (ne_eqb b 13 (omega arith)))
 
 -- bytes that are none of U+0000 and U+FFFF

@@ -1,11 +1,11 @@
 -- A text whose lines are read as statements is read as their program.
-use Rattle.std.proofs.Common.{◌≡◌, ℕ, ◌+◌, ◌≤◌, false, not, List, [], ◌∷◌, ◌++◌, length, drop, map, Option, None, Some, refl, sym, ◌∙◌, ap, arith, append_assoc, length-append}
+use Rattle.std.proofs.Common.{◌≡◌, ℕ, ◌+◌, not, List, [], ◌∷◌, ◌++◌, length, drop, map, Option, None, Some, refl, sym, ◌∙◌, ap, arith, append_assoc, length-append}
 use Rattle.std.specs.Prelude.{All, Ok, Err, fold, option_map, nat_lt}
 use Rattle.std.specs.Str.{is_utf8}
 use Rattle.std.proofs.Math.Seq.{drop-append_seam}
 use Rattle.std.proofs.lemmas.List.{drop-drop}
 use Rattle.std.proofs.lemmas.List.Elements.{All-cons, All-nil}
-use Rattle.std.proofs.lemmas.Bool.{cond-false}
+use Rattle.std.proofs.lemmas.Bool.{cond-false, le-ltb}
 use Rattle.kmn_base.specs.declared.refusals.Refusal.{Refusal}
 use Rattle.kmn_base.specs.declared.limits.TheConstants.{TEXT_BYTES}
 use Rattle.kmn_lines.specs.Bytes.{or_else}
@@ -92,9 +92,6 @@ all-read source group program number at (line ∷ lines) (s ∷ statements) e (b
     (ap (λ (ts : List LineToken). at_line number (read_line group number ts)) (row-tokens source number at line (rows (map printed lines)) e back whole) ∙ ap (at_line number) read)
     ∙ all-read source (group_after group s) (with_statement program s) (number + 1) (at + length (printed line) + 1) lines statements (next-row source at (printed line) (rows (map printed lines)) e) more
 
-not-more : (a b : ℕ) → b ≤ a → nat_lt a b ≡ false
-not-more a b le = grind (arith, le)
-
 -- the source of lines that are read as statements is the program of these
 pub sheets_are_read : (lines : List (List (Option LineToken))) (statements : List Statement) → ReadAsStatements Missing 1 lines statements → IsSourceText (sheet lines)
     → parsed (sheet lines) ≡ Ok (fold with_statement no_program statements)
@@ -102,7 +99,7 @@ unfolding parsed
 sheets_are_read lines statements prints fits =
     let source = sheet lines in
     let ls : logicals source ≡ row_lines 1 0 (map printed lines) = rows_logicals (map printed lines) fits.unmarked (all-whole Missing 1 lines statements prints) in
-    cond-false (nat_lt TEXT_BYTES (length source)) _ _ (not-more TEXT_BYTES (length source) fits.few)
+    cond-false (nat_lt TEXT_BYTES (length source)) _ _ (le-ltb TEXT_BYTES (length source) fits.few)
     ∙ cond-false (not (is_utf8 source)) _ _ (ap not fits.utf8)
     ∙ ap (λ (f : Option Refusal). elim f [ Some found ↦ Err found | None ↦ read_lines source Missing no_program (logicals source) ])
     (ap (tokens_refusal source) ls ∙ none-refused source Missing 1 0 lines statements refl prints)

@@ -1,30 +1,24 @@
 -- Each kind of token is read back.
-use Rattle.std.proofs.Common.{◌≡◌, ℕ, suc, ◌+◌, ◌-◌, ◌<◌, Bool, true, false, not, ◌&&◌, ◌||◌, ◌==◌, List, [], ◌∷◌, ◌++◌, length, Option, None, Some, is_some, refl, sym, ◌∙◌, ap, subst, arith, length-append}
+use Rattle.std.proofs.Common.{◌≡◌, ℕ, suc, ◌<◌, Bool, true, false, not, ◌&&◌, ◌||◌, ◌==◌, List, [], ◌∷◌, ◌++◌, length, Option, None, Some, is_some, refl, sym, ◌∙◌, ap, subst, arith, length-append}
 use Rattle.std.specs.Prelude.{unwrap_or}
 use Rattle.std.proofs.lemmas.List.{append-nil}
 use Rattle.std.specs.List.{list_all, list_any}
-use Rattle.std.proofs.lemmas.Bool.{ne_eqb, not-true, both_ways, and_left, and_right, or_left, or_right, cond-true, cond-false}
+use Rattle.std.proofs.lemmas.Bool.{ne_eqb, not-true, both_ways, and_left, and_right, or_left, or_right, cond-true, cond-false, and_parts, or_parts}
 use Rattle.kmn_base.specs.Bytes.{is_blank, is_quote, hex_digit}
 use Rattle.kmn_lines.specs.Bytes.{first_or_end}
 use Rattle.kmn_lines.specs.Tokens.{single, is_unequal, in_word, word_size, quoted_size, starts_number, token_size, token_kind, has_forbidden, begins_forbidden, is_closed, token_fault}
 use Rattle.kmn_lines.specs.Laws.{IsPlain}
 use Rattle.kmn_lines.specs.declared.token.TokenKind.TheVariants as kind
-use Rattle.kmn_lines.proofs.Sizes.{and-true, or-false, in_word-plain, in_word-from}
+use Rattle.kmn_lines.proofs.Sizes.{in_word-plain, in_word-from}
 use Rattle.kmn_items.specs.TokenTexts.{LineToken}
 use Rattle.program_text.specs.Texts.{arrow, bracket_closing, bracket_opening, closing, comma, equal, opening, plus, quoted_token, unequal, word}
 use Rattle.program_text.proofs.LineForms.{IsReadBack, ends_byte, ends_word, is_plain_byte, is_word_text}
 
 pub plain-byte : (byte : ℕ) → is_plain_byte byte ≡ true → IsPlain byte
 plain-byte byte h =
-    let one = or-false (is_blank byte || is_quote byte) (is_some (single byte)) (not-true _ h) in
-    let two = or-false (is_blank byte) (is_quote byte) one.0 in
+    let one = or_parts (is_blank byte || is_quote byte) (is_some (single byte)) (not-true _ h) in
+    let two = or_parts (is_blank byte) (is_quote byte) one.0 in
     record { blank = two.0; quote = two.1; alone = one.1 }
-
-single-plus : (byte : ℕ) → is_plain_byte byte ≡ true → (byte == 43) ≡ false
-single-plus byte h = let p = plain-byte byte h in grind (arith, p.alone)
-
-single-equal : (byte : ℕ) → is_plain_byte byte ≡ true → (byte == 61) ≡ false
-single-equal byte h = let p = plain-byte byte h in grind (arith, p.alone)
 
 -- a byte of which a test holds is no byte of which it doesn't
 pub differ : (f : ℕ → Bool) (a byte : ℕ) → f byte ≡ true → f a ≡ false → (byte == a) ≡ false
@@ -35,7 +29,7 @@ next-not : (a : ℕ) (bytes rest : List ℕ) → is_plain_byte a ≡ false → e
     → list_all is_plain_byte bytes ≡ true → ends_word rest ≡ true → (first_or_end (bytes ++ rest) == a) ≡ false
 next-not a [] [] p q r h e = r
 next-not a [] (byte ∷ rest) p q r h e = differ ends_byte a byte e q
-next-not a (byte ∷ bytes) rest p q r h e = differ is_plain_byte a byte (and-true (is_plain_byte byte) (list_all is_plain_byte bytes) h).0 p
+next-not a (byte ∷ bytes) rest p q r h e = differ is_plain_byte a byte (and_parts (is_plain_byte byte) (list_all is_plain_byte bytes) h).0 p
 
 word-byte : (byte : ℕ) (bytes rest : List ℕ) → is_plain_byte byte ≡ true → list_all is_plain_byte bytes ≡ true → ends_word rest ≡ true → in_word byte (first_or_end (bytes ++ rest)) ≡ true
 word-byte byte bytes rest p h e =
@@ -53,7 +47,7 @@ pub word_size-ended : (bytes rest : List ℕ) → list_all is_plain_byte bytes �
 word_size-ended [] [] h e = refl
 word_size-ended [] (byte ∷ rest) h e = cond-false (in_word byte (first_or_end rest)) _ _ (ended-byte byte (first_or_end rest) rest e)
 word_size-ended (byte ∷ bytes) rest h e =
-    let two = and-true (is_plain_byte byte) (list_all is_plain_byte bytes) h in
+    let two = and_parts (is_plain_byte byte) (list_all is_plain_byte bytes) h in
     cond-true (in_word byte (first_or_end (bytes ++ rest))) _ _ (word-byte byte bytes rest two.0 two.1 e)
     ∙ (let more = word_size-ended bytes rest two.1 e in omega (arith, more))
 
@@ -69,7 +63,7 @@ number-second a (b ∷ c ∷ bytes) e = third-no ((a == 85) || (a == 117)) (b ==
 word-size : (byte : ℕ) (bytes rest : List ℕ) → list_all is_plain_byte (byte ∷ bytes) ≡ true → ends_word rest ≡ true → token_size ((byte ∷ bytes) ++ rest) ≡ suc (length bytes)
 unfolding token_size
 word-size byte bytes rest h e =
-    let two = and-true (is_plain_byte byte) (list_all is_plain_byte bytes) h in
+    let two = and_parts (is_plain_byte byte) (list_all is_plain_byte bytes) h in
     let plain = plain-byte byte two.0 in
     let next = first_or_end (bytes ++ rest) in
     cond-false (starts_number (byte ∷ (bytes ++ rest))) _ _ (number-second byte (bytes ++ rest) (next-not 43 bytes rest refl refl refl two.1 e))
@@ -78,19 +72,19 @@ word-size byte bytes rest h e =
     ∙ cond-false (is_some (single byte)) _ _ plain.alone
     ∙ word_size-ended (byte ∷ bytes) rest h e
 
-none-or : {A : Type 0} (o : Option A) (d : A) → is_some o ≡ false → unwrap_or o d ≡ d
+pub none-or : {A : Type 0} (o : Option A) (d : A) → is_some o ≡ false → unwrap_or o d ≡ d
 none-or None d e = refl
 none-or (Some x) d e = absurd cc
 
 word-number : (byte : ℕ) (bytes : List ℕ) → list_all is_plain_byte (byte ∷ bytes) ≡ true → starts_number (byte ∷ bytes) ≡ false
 word-number byte bytes h =
-    let two = and-true (is_plain_byte byte) (list_all is_plain_byte bytes) h in
+    let two = and_parts (is_plain_byte byte) (list_all is_plain_byte bytes) h in
     number-second byte bytes (subst (λ (xs : List ℕ). (first_or_end xs == 43) ≡ false) (append-nil bytes) (next-not 43 bytes [] refl refl refl two.1 refl))
 
 word-kind : (byte : ℕ) (bytes : List ℕ) → list_all is_plain_byte (byte ∷ bytes) ≡ true → token_kind (byte ∷ bytes) ≡ kind.Word
 unfolding token_kind
 word-kind byte bytes h =
-    let two = and-true (is_plain_byte byte) (list_all is_plain_byte bytes) h in
+    let two = and_parts (is_plain_byte byte) (list_all is_plain_byte bytes) h in
     let plain = plain-byte byte two.0 in
     let next = first_or_end bytes in
     cond-false (starts_number (byte ∷ bytes)) _ _ (word-number byte bytes h)
@@ -105,7 +99,7 @@ closed-plain false b e = refl
 word-sound : (byte : ℕ) (bytes : List ℕ) → list_all is_plain_byte (byte ∷ bytes) ≡ true → has_forbidden (byte ∷ bytes) ≡ false → token_fault (byte ∷ bytes) ≡ None
 unfolding token_fault
 word-sound byte bytes h f =
-    let two = and-true (is_plain_byte byte) (list_all is_plain_byte bytes) h in
+    let two = and_parts (is_plain_byte byte) (list_all is_plain_byte bytes) h in
     let plain = plain-byte byte two.0 in
     cond-false (has_forbidden (byte ∷ bytes)) _ _ f
     ∙ cond-false (not (is_closed (byte ∷ bytes))) _ _ (closed-plain (is_quote byte) _ plain.quote)
@@ -115,8 +109,8 @@ word-sound byte bytes h f =
 pub word_back : (text rest : List ℕ) → is_word_text text ≡ true → ends_word rest ≡ true → IsReadBack (word text) rest
 word_back [] rest h e = absurd cc
 word_back (byte ∷ bytes) rest h e =
-    let two = and-true (list_all is_plain_byte (byte ∷ bytes)) (not (has_forbidden (byte ∷ bytes))) h in
-    let first = and-true (is_plain_byte byte) (list_all is_plain_byte bytes) two.0 in
+    let two = and_parts (list_all is_plain_byte (byte ∷ bytes)) (not (has_forbidden (byte ∷ bytes))) h in
+    let first = and_parts (is_plain_byte byte) (list_all is_plain_byte bytes) two.0 in
     record {
       some = omega arith;
       solid = (plain-byte byte first.0).blank;
@@ -196,7 +190,7 @@ unequal_back rest =
 quoted-size : (quote : ℕ) (bytes rest : List ℕ) → list_any (λ b. b == quote) bytes ≡ false → (quote == quote) ≡ true → quoted_size quote ((bytes ++ quote ∷ []) ++ rest) ≡ suc (length bytes)
 quoted-size quote [] rest h same = cond-true (quote == quote) _ _ same
 quoted-size quote (byte ∷ bytes) rest h same =
-    let two = or-false (byte == quote) (list_any (λ b. b == quote) bytes) h in
+    let two = or_parts (byte == quote) (list_any (λ b. b == quote) bytes) h in
     cond-false (byte == quote) _ _ two.0 ∙ (let more = quoted-size quote bytes rest two.1 same in omega (arith, more))
 
 any-last : (quote : ℕ) (bytes : List ℕ) → (quote == quote) ≡ true → list_any (λ b. b == quote) (bytes ++ quote ∷ []) ≡ true

@@ -1,5 +1,5 @@
 -- The names by which a text calls stores and groups are names that a source reads.
-use Rattle.std.proofs.Common.{◌≡◌, ℕ, zero, suc, ◌+◌, ◌^◌, ◌<◌, ◌≤◌, true, false, not, List, [], ◌∷◌, ◌++◌, length, take, drop, map, Option, None, Some, refl, sym, ◌∙◌, subst, arith, length-drop, if◌then◌else◌}
+use Rattle.std.proofs.Common.{◌≡◌, ℕ, zero, suc, ◌+◌, ◌^◌, ◌<◌, ◌≤◌, true, false, not, List, [], ◌∷◌, ◌++◌, length, take, drop, map, Option, None, Some, refl, sym, ◌∙◌, subst, arith, length-drop}
 use Rattle.std.specs.Prelude.{All, nat_eq, slice_get, unwrap_or, filter}
 use Rattle.std.specs.List.{list_any, AllByRecursion, range_with_len}
 use Rattle.std.specs.Str.{is_utf8}
@@ -12,7 +12,8 @@ use Rattle.program_text.specs.Names.{is_source_name}
 use Rattle.program_text.specs.Spelled.{IsSpelledName, IsStoreName}
 use Rattle.decompile_laws.specs.Names.{written_ids, is_written, numbered_name, is_free, free_names, keeps_name, keeps_store_name, store_names, group_names}
 use Rattle.decompile_laws.specs.WrittenOut.{is_ordinary}
-use Rattle.decompile_laws.proofs.Choosing.{clash}
+use Rattle.decompile_laws.proofs.Calls.{written-here}
+use Rattle.kmn_lines.proofs.Sizes.{clash}
 
 range-below : (from count bound : ℕ) → from + count ≤ bound → All (λ n. n < bound) (range_with_len from count)
 range-below from zero bound h = All-nil (λ n. n < bound)
@@ -83,10 +84,6 @@ are_named named free earlier n (store ∷ stores) f enough texts =
       are_named named (drop 1 free) (earlier ++ store.name ∷ []) (n + 1) stores (other-names free f) (let l = length-drop 1 free in omega (arith, l)) texts.1,
     ))))
 
--- the name of an ordinary store that is named
-pub here-written : (named : List ℕ) (n : ℕ) (store : Store) → nat_eq store.system 0 ≡ true → list_any (nat_eq n) named ≡ true → is_written named n store ≡ true
-here-written named n store o e = (λ i. if o i then list_any (nat_eq n) named else list_any (nat_eq store.system) written_ids) ∙ e
-
 pub name_called : (named : List ℕ) (k : ℕ) (calls : List (Option (List ℕ))) (stores : List Store) (i n : ℕ) → AreNamed named k calls stores → n ≡ k + i
     → is_ordinary (slice_get stores i) ≡ true → list_any (nat_eq n) named ≡ true → IsStoreName (unwrap_or (unwrap_or (slice_get calls i) None) [])
 name_called named k [] [] i n h e o a = absurd (cc)
@@ -94,7 +91,7 @@ name_called named k [] (store ∷ stores) i n h e o a = absurd h
 name_called named k (call ∷ calls) [] i n h e o a = absurd h
 name_called named k (None ∷ calls) (store ∷ stores) zero n h e o a =
     let same : n ≡ k = omega (arith, e) in
-    clash (is_written named k store) (here-written named k store o (subst (λ (m : ℕ). list_any (nat_eq m) named ≡ true) same a)) h.0
+    clash (is_written named k store) (written-here named k store o (subst (λ (m : ℕ). list_any (nat_eq m) named ≡ true) same a)) h.0
 name_called named k (Some name ∷ calls) (store ∷ stores) zero n h e o a = h.0 o
 name_called named k (None ∷ calls) (store ∷ stores) (suc i) n h e o a = name_called named (k + 1) calls stores i n h.1 (omega (arith, e)) o a
 name_called named k (Some name ∷ calls) (store ∷ stores) (suc i) n h e o a = name_called named (k + 1) calls stores i n h.2 (omega (arith, e)) o a

@@ -14,12 +14,11 @@ use Rattle.kmn_base.specs.Names.{same_name}
 use Rattle.rule_model.specs.declared.program.RuleDef.{RuleDef}
 use Rattle.rule_model.specs.declared.program.GroupDef.{GroupDef}
 use Rattle.rule_model.specs.declared.program.Program.{Program}
-use Rattle.rule_model.specs.declared.tables.Rule.{Rule}
 use Rattle.rule_model.specs.declared.tables.Store.{Store}
 use Rattle.rule_model.specs.declared.tables.Group.{Group}
 use Rattle.rule_model.specs.declared.tables.Tables.{Tables}
 use Rattle.rule_model.specs.Naming.{names_of, stores_of, rule_items, all_rules}
-use Rattle.rule_model.specs.Tab.{tab_options, rule_options, group_options, is_dictionary}
+use Rattle.rule_model.specs.Tab.{tab_options, is_dictionary}
 use Rattle.compile_laws.specs.Numbers.{values_of, value_store, dictionary_stores, numbers_of}
 use Rattle.compile_laws.specs.Compiles.{Compiles, file_group}
 use Rattle.compile_laws.specs.Ordered.{ordered_group, compiled_tables}
@@ -33,7 +32,7 @@ use Rattle.compile_laws.proofs.Ordered.{tables_are_only_ones}
 use Rattle.compile_laws.proofs.Stores.{linked}
 use Rattle.compile_laws.proofs.Values.{values_known}
 use Rattle.kmx_format.specs.File.{file_of}
-use Rattle.kmx_format.specs.TablesOf.{tables_of, rule_without_place, group_without_places, no_places}
+use Rattle.kmx_format.specs.TablesOf.{tables_of, group_without_places, no_places}
 use Rattle.kmx_format.proofs.FileLaw.{law}
 use Rattle.store_table.specs.Known.{known}
 use Rattle.item_checker.specs.Items.{is_option, rule_code, rule_refusal, rules_refusal}
@@ -45,12 +44,12 @@ use Rattle.checker_laws.proofs.Named.{well_named}
 use Rattle.checker_laws.proofs.Numbers.{has_keys, has_marks, keys_appear, marks_appear, rule_items_pass}
 use Rattle.checker_laws.proofs.Reading.{AreReadItems, all_rules_read}
 use Rattle.checker_laws.proofs.Written.{tables_written}
+use Rattle.checker_laws.proofs.Placeless.{placeless_options}
 use Rattle.decompile_laws.specs.Items.{Names, store_called}
 use Rattle.decompile_laws.specs.Names.{named_stores}
 use Rattle.decompile_laws.specs.Back.{free_stores, mark_stores, key_stores, names_for}
 use Rattle.decompile_laws.proofs.Apart.{same-turned}
 use Rattle.decompile_laws.proofs.OptionNames.{option-named}
-use Rattle.decompile_laws.proofs.Choosing.{clash}
 use Rattle.program_text.specs.Names.{is_source_name}
 use Rattle.kmn_items.specs.Words.{is_system_name}
 use Rattle.rule_model.specs.declared.program.SrcItem.{SrcItem}
@@ -67,19 +66,7 @@ use Rattle.spelled_files.proofs.StatedStores.{IsStatedStore, all_stated, charact
 use Rattle.spelled_files.proofs.UsedOptions.{option_used, none_before}
 use Rattle.spelled_files.proofs.Conjunctions.{fails-when}
 use Rattle.spelled_files.proofs.GroupRules.{rules_of}
-
--- options don't depend on the places of keys
-rules-use : (rules : List Rule) → flat_map rule_options (map rule_without_place rules) ≡ flat_map rule_options rules
-rules-use [] = refl
-rules-use (rule ∷ rules) = ap (λ rest. rule_options rule ++ rest) (rules-use rules)
-
-groups-use : (groups : List Group) → flat_map group_options (map group_without_places groups) ≡ flat_map group_options groups
-groups-use [] = refl
-groups-use (group ∷ groups) = rw (rules-use group.rules) (ap (λ rest. group_options group ++ rest) (groups-use groups))
-
-same-options : (tables : Tables) → tab_options (no_places tables) ≡ tab_options tables
-unfolding tab_options
-same-options tables = groups-use tables.groups
+use Rattle.kmn_lines.proofs.Sizes.{clash}
 
 module _ (program : Program) (read : IsRead program) (accepted : refused program ≡ None) (written : WasWritten program) (tables : Tables) (compiles : Compiles program tables) where
   abbrev whole : IsUnrefused program
@@ -151,7 +138,7 @@ module _ (program : Program) (read : IsRead program) (accepted : refused program
 
   option-fine : (n : ℕ) (s : Store) → slice_get tables.stores n ≡ Some s → list_any (nat_eq n) (tab_options placeless) ≡ true → is_unspelled_option names n s ≡ false
   option-fine n s at h =
-      let mine : list_any (nat_eq n) (tab_options tables) ≡ true = ap (list_any (nat_eq n)) (sym (same-options tables)) ∙ h in
+      let mine : list_any (nat_eq n) (tab_options tables) ≡ true = ap (list_any (nat_eq n)) (sym (placeless_options tables)) ∙ h in
       let used = option_used program written n (sym (options-same program tables named compiles (nat_eq n)) ∙ mine) in
       let a : List ℕ = used.name in
       let more : List Store = dictionary_stores (names_of program).keys ++ map value_store (values_of program) in

@@ -25,12 +25,12 @@ use Rattle.kmn_items.specs.Words.{is_system_name}
 use Rattle.decompile_laws.specs.Items.{Names}
 use Rattle.decompile_laws.specs.Names.{is_written, is_free, keeps_name, keeps_store_name, store_names}
 use Rattle.decompile_laws.proofs.Apart.{source-some, same-turned}
-use Rattle.decompile_laws.proofs.Choosing.{clash}
 use Rattle.spelled_files.specs.Causes.{is_system_store, is_first_dictionary, is_number, is_unspelled_dictionary, is_unspelled_system, is_unspelled_store}
 use Rattle.spelled_files.specs.Written.{WasWritten}
 use Rattle.spelled_files.proofs.CompiledElements.{IsFineStore}
 use Rattle.spelled_files.proofs.Sayable.{AreSayable}
 use Rattle.spelled_files.proofs.StatedStores.{IsStatedStore, all_stated}
+use Rattle.kmn_lines.proofs.Sizes.{clash}
 
 -- what all elements of a list have, the one of a number has
 pub all_at : {X : Type 0} (P : X → Type 0) (xs : List X) → All P xs → (i : ℕ) (x : X) → slice_get xs i ≡ Some x → P x

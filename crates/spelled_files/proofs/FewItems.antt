@@ -29,6 +29,7 @@ use Rattle.kmx_format.specs.Writable.{IsWritableRule}
 use Rattle.kmx_format.specs.Playable.{IsPlayable, IsPlayableGroup}
 use Rattle.store_table.specs.Known.{Known, known}
 use Rattle.limit_checker.specs.Limits.{Statement, OfStore, OfRule, in_line_order, item_size, output_size, key_count, records_of_statement, record_count, mark_count, all_records, group_refusal}
+use Rattle.limit_checker.proofs.FirstPassed.{sum_append}
 use Rattle.checker_laws.proofs.Sizes.{items_in_order}
 use Rattle.store_table.specs.First.{first_of}
 use Rattle.decompile_laws.specs.Marks.{greatest_mark}
@@ -39,7 +40,7 @@ use Rattle.decompile_laws.proofs.Choosing.{all_join}
 use Rattle.decompile_laws.proofs.Numbering.{marks-are}
 use Rattle.spelled_files.proofs.Sayable.{IsSayable}
 use Rattle.spelled_files.proofs.SpelledPrograms.{greatest_near}
-use Rattle.spelled_files.proofs.UnpassedLimits.{IsShort, few_groups_refused, sum_append}
+use Rattle.spelled_files.proofs.UnpassedLimits.{IsShort, few_groups_refused}
 use Rattle.spelled_files.proofs.GroupRules.{rules_of}
 
 sum-cons : (x : ℕ) (xs : List ℕ) → sum (x ∷ xs) ≡ x + sum xs

@@ -1,7 +1,5 @@
 -- What a file's text compiles to means what the file means, where nothing of the text is refused.
 use Rattle.std.proofs.Common.{◌≡◌, ℕ, List, None, sym, ◌∙◌}
-use Rattle.kmn_parser.proofs.ReadPrograms.{programs_are_read}
-use Rattle.kmn_parser.proofs.SourceLines.{statements_in_order}
 use Rattle.kmn_base.specs.declared.events.Event.{Event}
 use Rattle.rule_model.specs.declared.program.Program.{Program}
 use Rattle.rule_model.specs.declared.tables.Tables.{Tables}
@@ -13,6 +11,7 @@ use Rattle.compile_laws.specs.Compiles.{Compiles}
 use Rattle.compile_laws.proofs.Whole.{meaning_kept}
 use Rattle.rule_checker.specs.Refused.{IsRead, refused}
 use Rattle.checker_laws.proofs.Named.{well_named}
+use Rattle.checker_laws.proofs.Sources.{source_read}
 use Rattle.program_text.specs.Programs.{program_text}
 use Rattle.program_text.proofs.Programs.{programs_read_back}
 use Rattle.decompile_laws.specs.Back.{back}
@@ -26,8 +25,7 @@ use Rattle.spelled_files.proofs.SpelledPrograms.{spelled_is_spelled}
 pub is_read : (bytes : List ℕ) → IsPlayable (tables_of bytes) → HasTextNames (tables_of bytes) → unspelled bytes ≡ None → IsRead (back (tables_of bytes))
 is_read bytes can texts none =
     let program : Program = back (tables_of bytes) in
-    let read = programs_read_back program (spelled_is_spelled bytes can texts none) in
-    record { statements = programs_are_read (program_text program) program read; order = statements_in_order (program_text program) program read }
+    source_read (program_text program) program (programs_read_back program (spelled_is_spelled bytes can texts none))
 
 pub keeps_meaning : (bytes : List ℕ) → IsPlayable (tables_of bytes) → HasTextNames (tables_of bytes) → unspelled bytes ≡ None → refused (back (tables_of bytes)) ≡ None
     → (tables : Tables) → Compiles (back (tables_of bytes)) tables → (events : List Event) → trace (tab tables) events ≡ trace (tab (tables_of bytes)) events

@@ -1,11 +1,11 @@
 -- The text of a token is one token: taken by itself it has the size that it had before what stood behind it.
 use Rattle.std.proofs.Common.{◌≡◌, ℕ, zero, suc, ◌+◌, ◌<◌, ◌≤◌, Bool, true, false, ◌==◌, if◌then◌else◌, List, [], ◌∷◌, length, take, drop, is_some, refl, sym, ◌∙◌, ap, subst, arith}
-use Rattle.std.proofs.lemmas.Bool.{and_right, cond-true, cond-false}
+use Rattle.std.proofs.lemmas.Bool.{and_right, cond-true, cond-false, cond_both}
 use Rattle.std.proofs.lemmas.List.{length-take-le}
 use Rattle.kmn_base.specs.Bytes.{is_quote}
 use Rattle.kmn_lines.specs.Bytes.{first_or_end}
 use Rattle.kmn_lines.specs.Tokens.{single, is_unequal, in_word, word_size, quoted_size, starts_number, plain_size, token_size}
-use Rattle.kmn_lines.proofs.Sizes.{both, take-one, in_word-plain, in_word-from, token_size-within, not_number-take, number-take, number-digit, first-take}
+use Rattle.kmn_lines.proofs.Sizes.{take-one, in_word-plain, in_word-from, token_size-within, not_number-take, number-take, number-digit, first-take}
 
 -- a byte of a word is one where the text is cut off
 word-cut : (byte m : ℕ) (bytes : List ℕ) → in_word byte (first_or_end bytes) ≡ true → in_word byte (first_or_end (take m bytes)) ≡ true
@@ -22,7 +22,7 @@ unequal-cut byte (suc m) (next ∷ bytes) h = h
 word-again : (text : List ℕ) → word_size (take (word_size text) text) ≡ word_size text
 word-again [] = refl
 word-again (byte ∷ bytes) =
-    both (λ n. word_size (take n (byte ∷ bytes)) ≡ n) (in_word byte (first_or_end bytes)) (1 + word_size bytes) 0
+    cond_both (in_word byte (first_or_end bytes)) (1 + word_size bytes) 0 (λ n. word_size (take n (byte ∷ bytes)) ≡ n)
     (λ e.
     let m : ℕ = word_size bytes in
     ap word_size (take-one m byte bytes)
@@ -32,7 +32,7 @@ word-again (byte ∷ bytes) =
 quoted-again : (quote : ℕ) (text : List ℕ) → quoted_size quote (take (quoted_size quote text) text) ≡ quoted_size quote text
 quoted-again quote [] = refl
 quoted-again quote (byte ∷ bytes) =
-    both (λ n. quoted_size quote (take n (byte ∷ bytes)) ≡ n) (byte == quote) 1 (1 + quoted_size quote bytes)
+    cond_both (byte == quote) 1 (1 + quoted_size quote bytes) (λ n. quoted_size quote (take n (byte ∷ bytes)) ≡ n)
     (λ e. cond-true (byte == quote) 1 (1 + quoted_size quote []) e)
     (λ e.
     let m : ℕ = quoted_size quote bytes in
@@ -92,18 +92,18 @@ plain-again : (byte : ℕ) (bytes : List ℕ) → starts_number (byte ∷ bytes)
 plain-again byte bytes number =
     let text : List ℕ = byte ∷ bytes in
     let Again : ℕ → Type 0 = λ n. token_size (take n text) ≡ n in
-    both Again (is_quote byte) (1 + quoted_size byte bytes) (rest byte bytes)
+    cond_both (is_quote byte) (1 + quoted_size byte bytes) (rest byte bytes) Again
     (λ quote.
     let m : ℕ = quoted_size byte bytes in
     ap token_size (take-one m byte bytes)
     ∙ (size_plain (byte ∷ take m bytes) (not_number-take (suc m) text number) ∙ (size_quote byte (take m bytes) quote ∙ ap (λ (n : ℕ). 1 + n) (quoted-again byte bytes))))
-    (λ quote. both Again (unequal byte bytes) 2 _
+    (λ quote. cond_both (unequal byte bytes) 2 _ Again
     (λ differs.
     size_plain (take 2 text) (not_number-take 2 text number)
     ∙ size-unequal byte (take 1 bytes) quote (ap (is_unequal byte) (first-take bytes) ∙ differs))
-    (λ alike. both Again (is_some (single byte)) 1 (word_size text)
+    (λ alike. cond_both (is_some (single byte)) 1 (word_size text) Again
     (λ alone. size_plain (byte ∷ []) refl ∙ size-single byte [] quote (and_right (byte == 33) false refl) alone)
-    (λ other. both Again (in_word byte (first_or_end bytes)) (1 + word_size bytes) 0
+    (λ other. cond_both (in_word byte (first_or_end bytes)) (1 + word_size bytes) 0 Again
     (λ in_it.
     let m : ℕ = word_size bytes in
     ap token_size (take-one m byte bytes)

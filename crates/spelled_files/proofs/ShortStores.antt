@@ -24,7 +24,7 @@ module _ (names : SourceNames) where
   abbrev pub IsShortStatement : StoreDef → Type 0
   IsShortStatement store = length (flat_map (item_elements names []) store.items) ≤ STORE_ELEMENTS
 
-  singles : {X : Type 0} (f : X → SrcItem) → ((x : X) → length (item_elements names [] (f x)) ≡ 1) → (xs : List X) → length (flat_map (item_elements names []) (map f xs)) ≡ length xs
+  pub singles : {X : Type 0} (f : X → SrcItem) → ((x : X) → length (item_elements names [] (f x)) ≡ 1) → (xs : List X) → length (flat_map (item_elements names []) (map f xs)) ≡ length xs
   singles f one [] = refl
   singles f one (x ∷ xs) =
       let here = one x in
@@ -61,7 +61,7 @@ module _ (names : SourceNames) where
         key-short (line + 1) b keys few,
       )
 
-  element-single : (called : Names) (e : Element) → length (item_elements names [] (back_element called e)) ≡ 1
+  pub element-single : (called : Names) (e : Element) → length (item_elements names [] (back_element called e)) ≡ 1
   element-single called (element.Char c) = refl
   element-single called (element.Mark m) = refl
   element-single called (element.Key flags code) = refl

@@ -3,7 +3,7 @@ use Rattle.std.proofs.Common.{◌≡◌, ℕ, zero, suc, ◌+◌, ◌^◌, ◌<�
 use Rattle.std.specs.Prelude.{All, ◌≢◌, nat_eq, bit_and, filter, filter_map}
 use Rattle.std.specs.List.{list_any, list_all, AllByRecursion, range_with_len}
 use Rattle.std.specs.Fmt.{decimal}
-use Rattle.std.proofs.lemmas.Bool.{or_parts, and_parts, eqb-true, not-false, and_right, eq-eqb, not-true, cond-false}
+use Rattle.std.proofs.lemmas.Bool.{or_parts, and_parts, eqb-true, not-false, and_right, eq-eqb, not-true, cond-false, or_from, and_left}
 use Rattle.std.proofs.lemmas.Bool.Decides.{nat_tests}
 use Rattle.std.proofs.lemmas.List.Elements.{All-nil, All-cons, All-head, All-tail}
 use lib.Utf8.{scalar}
@@ -14,7 +14,6 @@ use Rattle.kmn_base.specs.declared.items.Element.TheVariants as element
 use Rattle.kmn_base.specs.declared.keys.RuleKey.{RuleKey}
 use Rattle.kmn_base.specs.declared.keys.RuleKey.TheVariants as key
 use Rattle.kmn_base.specs.Spelling.{IsSpellable}
-use Rattle.kmn_lines.proofs.Sizes.{and-first, or-both}
 use Rattle.virtual_keys.specs.Dictionary.{is_nameable}
 use Rattle.kmn_items.specs.declared.syntax.Seen.{Seen}
 use Rattle.kmn_items.specs.declared.syntax.Where.TheVariants as section
@@ -38,11 +37,11 @@ use Rattle.program_text.specs.Names.{is_inner}
 use Rattle.program_text.specs.Spelled.{IsSpelledName, IsSpelledValue, IsSpelledItem, AreSpelled, IsSpelledAsKey, item_lead, seen_lead}
 use Rattle.decompile_laws.specs.Items.{Names, back_element, back_pattern, back_output, back_key, some_items}
 use Rattle.decompile_laws.specs.WrittenOut.{has_key_name}
-use Rattle.decompile_laws.proofs.Choosing.{clash}
 use Rattle.item_checker.specs.Items.{is_no_character}
 use Rattle.spelled_files.specs.Causes.{is_far_mark, is_unspelled_element, is_unspelled_key, is_unspelled_value, have_both_quotes, stands_behind_match, is_nul}
 use Rattle.spelled_files.proofs.TameNames.{number_name}
 use Rattle.spelled_files.proofs.SpelledKeys.{IsKeyName, key_spelled}
+use Rattle.kmn_lines.proofs.Sizes.{clash}
 
 near-mark : (m : ℕ) → is_far_mark m ≡ false → m < 10 ^ 9
 near-mark m h = let near : m ≤ DEADKEYS = (grind (arith, nat_tests, h)) in omega arith
@@ -130,18 +129,18 @@ seen_as p n = record { pattern = p; nul = n }
 
 order-matched : (p n : Bool) (word : ItemWord) → is_nul_word word ≡ false → is_condition word ≡ false → order_code (seen_as p n) word ≡ None
 order-matched p n word a b =
-    cond-false (p && (is_nul_word word || is_condition word)) _ _ (and_right p (is_nul_word word || is_condition word) (or-both (is_nul_word word) (is_condition word) a b))
+    cond-false (p && (is_nul_word word || is_condition word)) _ _ (and_right p (is_nul_word word || is_condition word) (or_from (is_nul_word word) (is_condition word) a b))
     ∙ cond-false (n && is_nul_word word) _ _ (and_right n (is_nul_word word) a)
 
 order-condition : (p n : Bool) → p ≡ false → order_code (seen_as p n) item.If ≡ None
 order-condition p n e =
-    cond-false (p && (is_nul_word item.If || is_condition item.If)) _ _ (and-first p (is_nul_word item.If || is_condition item.If) e)
+    cond-false (p && (is_nul_word item.If || is_condition item.If)) _ _ (and_left p (is_nul_word item.If || is_condition item.If) e)
     ∙ cond-false (n && is_nul_word item.If) _ _ (and_right n (is_nul_word item.If) refl)
 
 order-nul : (p n : Bool) → p ≡ false → n ≡ false → order_code (seen_as p n) item.Nul ≡ None
 order-nul p n e f =
-    cond-false (p && (is_nul_word item.Nul || is_condition item.Nul)) _ _ (and-first p (is_nul_word item.Nul || is_condition item.Nul) e)
-    ∙ cond-false (n && is_nul_word item.Nul) _ _ (and-first n (is_nul_word item.Nul) f)
+    cond-false (p && (is_nul_word item.Nul || is_condition item.Nul)) _ _ (and_left p (is_nul_word item.Nul || is_condition item.Nul) e)
+    ∙ cond-false (n && is_nul_word item.Nul) _ _ (and_left n (is_nul_word item.Nul) f)
 
 behind-matched : (p : Bool) (context : List Pat) → ((p && false) || stands_behind_match (p || true) context) ≡ false → stands_behind_match true context ≡ false
 behind-matched true context h = h

@@ -11,7 +11,7 @@ use Rattle.std.proofs.lemmas.Option.{none-some}
 use Rattle.kmn_base.specs.declared.keys.TheConstants.{SHIFT_FLAGS}
 use Rattle.kmn_base.specs.Names.{same_name}
 use Rattle.virtual_keys.specs.Dictionary.{name_in}
-use Rattle.virtual_keys.specs.Keys.{key_codes, key_name}
+use Rattle.virtual_keys.specs.Keys.{key_name}
 use Rattle.kmn_items.specs.Words.{is_own_key}
 use Rattle.kmn_parser.proofs.SoundKeys.{or-within}
 use Rattle.rule_model.specs.declared.program.KeyName.{KeyName}
@@ -25,11 +25,12 @@ use Rattle.program_text.specs.Spelled.{IsSpelledName, IsSpelledKey}
 use Rattle.decompile_laws.specs.Items.{Names, key_called}
 use Rattle.decompile_laws.specs.Back.{names_for}
 use Rattle.decompile_laws.specs.WrittenOut.{has_key_name}
-use Rattle.decompile_laws.proofs.Choosing.{clash}
+use Rattle.decompile_laws.proofs.Known.{no-zero}
 use Rattle.spelled_files.specs.Causes.{is_dictionary_name, dictionary_words, are_repeated, is_unspelled_dictionary, is_number, is_first_dictionary}
 use Rattle.spelled_files.proofs.Sayable.{sayable-at, HasNoCause, IsSayable, without_cause}
 use Rattle.spelled_files.proofs.WrittenOut.{store-parts}
 use Rattle.spelled_files.proofs.Conjunctions.{second-fails}
+use Rattle.kmn_lines.proofs.Sizes.{clash}
 
 abbrev pub IsKeyName : List ℕ → Type 0
 IsKeyName name = is_dictionary_name name ≡ true
@@ -95,10 +96,6 @@ named-key keys code good h = by (nat_lt code 256) h
     by : (b : Bool) → is_some (if b then None else slice_get keys (code - 256)) ≡ true → IsKeyName (unwrap_or (if b then None else slice_get keys (code - 256)) [])
     by true g = absurd (cc)
     by false g = at-name keys (code - 256) good g
-
-no-zero : is_some (key_name 0) ≡ false
-unfolding key_codes
-no-zero = refl
 
 abbrev coded : ℕ → ℕ → KeyName
 coded flags code = record { flags = bit_or flags 0x4000; code = code; name = [] }

@@ -34,8 +34,8 @@ use Rattle.kmn_parser.specs.ProgramLaws.{IsCharacter}
 use Rattle.program_text.specs.Names.{is_inner}
 use Rattle.decompile_laws.specs.Back.{back_stores, numbered, stated_marks, stated_key, mark_store, key_store, version_text, version_store, back_begins, free_stores, mark_stores, key_stores, front_stores, names_for, written_stores, written_begins, back}
 use Rattle.decompile_laws.specs.WrittenOut.{CanBeWrittenOut}
-use Rattle.decompile_laws.proofs.Choosing.{clash}
 use Rattle.decompile_laws.proofs.Lines.{numbered-length}
+use Rattle.decompile_laws.proofs.FrontCounts.{free-size, marks-few}
 use Rattle.spelled_files.specs.Causes.{have_both_quotes, is_unspelled_element, is_unspelled_pattern, is_unspelled_output}
 use Rattle.spelled_files.specs.Excess.{text_size}
 use Rattle.spelled_files.specs.Laws.{HasTextNames}
@@ -45,7 +45,8 @@ use Rattle.spelled_files.proofs.WrittenOut.{joined, pattern-parts, output-parts,
 use Rattle.spelled_files.proofs.CalledNames.{AreNamed}
 use Rattle.spelled_files.proofs.SpelledKeys.{IsKeyName, keys_named, own_name}
 use Rattle.spelled_files.proofs.SpelledItems.{unit_character, elements_spelled, marks_spelled}
-use Rattle.spelled_files.proofs.SpelledRules.{free_all, free_count, calls_named, group_name, all_groups_spelled, few-marks}
+use Rattle.spelled_files.proofs.SpelledRules.{free_all, calls_named, group_name, all_groups_spelled}
+use Rattle.kmn_lines.proofs.Sizes.{clash}
 
 abbrev ansi_begin : Names → ℕ → Tables → BeginDef
 ansi_begin names line tables = record { line = line; unicode = false; group = group_called names tables.start_ansi }
@@ -265,9 +266,9 @@ module _ (tables : Tables) (can : IsPlayable tables) (said : IsSayable tables) (
 
   all-stores : AreSpelledStores 1 (written_stores tables)
   all-stores =
-      let some = free_count tables can said written texts in
+      let some = free-size tables can in
       let free = free_all tables can said written texts in
-      let marks = few-marks (unwrap_or (slice_get (free_stores tables) 0) []) (greatest_mark tables) in
+      let marks = marks-few tables in
       let along = numbered-length 1 (front_stores tables) in
       stores-append 1 (1 + length (front_stores tables)) (numbered 1 (front_stores tables)) (back_stores called (1 + length (front_stores tables)) called.stores tables.stores) (omega (arith, along))
       (front-spelled called own (tab_options tables) 1 (front_stores tables) (

@@ -1,5 +1,5 @@
 -- The rules and groups of tables of which no cause holds can be written.
-use Rattle.std.proofs.Common.{◌≡◌, ℕ, suc, ◌+◌, ◌<◌, ◌≤◌, Bool, true, false, ◌||◌, List, [], ◌∷◌, ◌++◌, length, drop, map, refl, sym, ap, subst, arith, length-drop, length-append, if◌then◌else◌}
+use Rattle.std.proofs.Common.{◌≡◌, ℕ, suc, ◌+◌, ◌<◌, ◌≤◌, Bool, true, false, ◌||◌, List, [], ◌∷◌, ◌++◌, length, drop, map, refl, sym, ap, subst, arith, length-drop}
 use Rattle.std.specs.Prelude.{All, nat_eq, nat_lt, slice_get, unwrap_or, filter}
 use Rattle.std.specs.List.{list_any, AllByRecursion}
 use Rattle.std.proofs.lemmas.Bool.{or_parts, eqb-true, ltb-false}
@@ -17,20 +17,20 @@ use Rattle.rule_model.specs.declared.tables.Rule.{Rule}
 use Rattle.rule_model.specs.declared.tables.Store.{Store}
 use Rattle.rule_model.specs.declared.tables.Group.{Group}
 use Rattle.rule_model.specs.declared.tables.Tables.{Tables}
-use Rattle.rule_model.specs.Tab.{tab_dictionary, elements_of}
+use Rattle.rule_model.specs.Tab.{elements_of}
 use Rattle.kmx_format.specs.FileUnits.{unit_item_of_pattern, unit_item_of_output}
 use Rattle.kmx_format.specs.Playable.{IsPlayable, IsPlayableGroup}
 use Rattle.kmx_format.specs.Writable.{IsWritableRule}
 use Rattle.kmn_base.specs.Spelling.{IsSpellable}
 use Rattle.program_text.specs.Spelled.{IsSpelledName, IsStoreName, IsSpelledRule, AreSpelledRules, AreSpelledGroups}
 use Rattle.decompile_laws.specs.Names.{named_stores, free_names}
-use Rattle.decompile_laws.specs.Marks.{greatest_mark}
 use Rattle.decompile_laws.specs.Items.{Names, store_called, group_called}
-use Rattle.decompile_laws.specs.Back.{back_rule, back_rules, back_statement, match_line, nomatch_line, back_group, back_groups, stated_marks, mark_store, key_store, mark_stores, key_stores, free_stores, names_for}
+use Rattle.decompile_laws.specs.Back.{back_rule, back_rules, back_statement, match_line, nomatch_line, back_group, back_groups, mark_stores, key_stores, free_stores, names_for}
 use Rattle.decompile_laws.specs.WrittenOut.{is_ordinary, CanBeWrittenOut}
 use Rattle.decompile_laws.proofs.Free.{free_names-count}
 use Rattle.decompile_laws.proofs.Good.{IsNamed, GoodPattern, GoodOutput, GoodRule, GoodGroup, groups_good}
 use Rattle.decompile_laws.proofs.Groups.{group_count}
+use Rattle.decompile_laws.proofs.FrontCounts.{behind-size}
 use Rattle.spelled_files.specs.Causes.{is_unspelled_pattern, is_unspelled_output, is_unspelled_value, stands_behind_match, is_nul}
 use Rattle.spelled_files.specs.Laws.{HasTextNames}
 use Rattle.spelled_files.proofs.Sayable.{IsSayableRule, IsSayableGroup, IsSayable}
@@ -48,18 +48,6 @@ all-at P (x ∷ xs) n h a = by (nat_eq n x) refl a (λ g. all-at P xs n (All-tai
     by true e g rest = subst P (sym (eqb-true n x e)) (All-head P x xs h)
     by false e g rest = rest g
 
--- the front stores are at most two
-pub few-marks : (name : List ℕ) (count : ℕ) → length (mark_store name count) ≤ 1
-few-marks name count = by (nat_eq count 0)
-  where
-    by : (b : Bool) → length (if b then [] else stated_marks name count ∷ []) ≤ 1
-    by true = omega arith
-    by false = omega arith
-
-pub few-keys : (name : List ℕ) (keys : List (List ℕ)) → length (key_store name keys) ≤ 1
-few-keys name [] = omega arith
-few-keys name (k ∷ keys) = omega arith
-
 module _ (tables : Tables) (can : IsPlayable tables) (said : IsSayable tables) (written : CanBeWrittenOut tables) (texts : HasTextNames tables) where
   abbrev names : Names
   names = names_for tables
@@ -69,22 +57,12 @@ module _ (tables : Tables) (can : IsPlayable tables) (said : IsSayable tables) (
       free_spelled (115 ∷ []) store_numbered (map (λ (store : Store). store.name) tables.stores) (length tables.stores + 2)
       (let l = length-map tables.stores (λ (store : Store). store.name) in let few = can.store_count in omega (arith, l, few))
 
-  pub free_count : length (free_stores tables) ≡ length tables.stores + 2
-  free_count =
-      free_names-count (115 ∷ []) (map (λ (store : Store). store.name) tables.stores) (length tables.stores + 2)
-      (let l = length-map tables.stores (λ (store : Store). store.name) in let few = can.store_count in omega (arith, l, few))
-
   pub calls_named : AreNamed (named_stores tables) 0 names.stores tables.stores
   calls_named =
       let front : ℕ = length (mark_stores tables ++ key_stores tables) in
-      let few : front ≤ 2 = (
-      let m = few-marks (unwrap_or (slice_get (free_stores tables) 0) []) (greatest_mark tables) in
-      let k = few-keys (unwrap_or (slice_get (free_stores tables) (length (mark_stores tables))) []) (tab_dictionary tables.stores) in
-      let a = length-append (mark_stores tables) (key_stores tables) in
-      omega (arith, m, k, a)) in
       are_named (named_stores tables) (drop front (free_stores tables)) [] 0 tables.stores
       (recursion_from_All IsStoreName (drop front (free_stores tables)) (All-drop IsStoreName front (free_stores tables) (All-from_recursion IsStoreName (free_stores tables) free_all)))
-      (let l = length-drop front (free_stores tables) in omega (arith, l, free_count, few))
+      (behind-size tables can)
       (recursion_from_All HasText tables.stores texts.stores)
 
   pub store_name : (n : ℕ) → IsNamed tables n → IsStoreName (store_called names n)

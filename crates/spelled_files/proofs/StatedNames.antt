@@ -13,9 +13,10 @@ use Rattle.decompile_laws.specs.Names.{is_written}
 use Rattle.decompile_laws.specs.Items.{Names}
 use Rattle.decompile_laws.specs.Back.{back_stores, back_group, back_groups}
 use Rattle.decompile_laws.specs.WrittenOut.{is_ordinary}
-use Rattle.decompile_laws.proofs.Choosing.{clash}
 use Rattle.decompile_laws.proofs.Apart.{same-itself}
-use Rattle.spelled_files.proofs.CalledNames.{AreNamed, here-written}
+use Rattle.decompile_laws.proofs.Calls.{written-here}
+use Rattle.spelled_files.proofs.CalledNames.{AreNamed}
+use Rattle.kmn_lines.proofs.Sizes.{clash}
 
 -- among names
 pub named-cons : (x : List ℕ) (names : List (List ℕ)) (name : List ℕ) → is_named (x ∷ names) name ≡ (same_name name x || is_named names name)
@@ -64,7 +65,7 @@ store_stated names named k line (None ∷ calls) [] i n h e o a = absurd h
 store_stated names named k line (Some name ∷ calls) [] i n h e o a = absurd h
 store_stated names named k line (None ∷ calls) (store ∷ stores) zero n h e o a =
     let same : n ≡ k = omega (arith, e) in
-    clash (is_written named k store) (here-written named k store o (subst (λ (m : ℕ). list_any (nat_eq m) named ≡ true) same a)) h.0
+    clash (is_written named k store) (written-here named k store o (subst (λ (m : ℕ). list_any (nat_eq m) named ≡ true) same a)) h.0
 store_stated names named k line (Some name ∷ calls) (store ∷ stores) zero n h e o a =
     let rest : List (List ℕ) = store_names (back_stores names (line + 1) calls stores) in
     ap (λ (front : List (List ℕ)). is_named (front ++ rest) name) (kept-here (record { line = line; system = store.system; name = name; items = [] }) o) ∙ named-first rest name

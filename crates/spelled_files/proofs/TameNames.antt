@@ -1,11 +1,11 @@
 -- Numbers, and a letter with a number, are names that a source reads.
-use Rattle.std.proofs.Common.{◌≡◌, ℕ, zero, suc, ◌^◌, ◌<◌, ◌≤◌, Bool, true, false, not, ◌&&◌, ◌||◌, ◌==◌, List, [], ◌∷◌, length, Option, None, Some, is_some, refl, ◌∙◌, ap, arith}
-use Rattle.std.specs.Prelude.{◌≢◌, nat_eq, nat_lt, nat_le, unwrap_or}
+use Rattle.std.proofs.Common.{◌≡◌, ℕ, zero, suc, ◌^◌, ◌<◌, ◌≤◌, Bool, true, false, not, ◌&&◌, ◌||◌, ◌==◌, List, [], ◌∷◌, length, None, is_some, refl, ◌∙◌, ap, arith}
+use Rattle.std.specs.Prelude.{◌≢◌, nat_eq, nat_lt, nat_le}
 use Rattle.std.specs.List.{list_all, list_any, AllByRecursion}
 use Rattle.std.specs.Fmt.{decimal}
 use Rattle.std.specs.Str.{IsAscii, is_utf8}
 use Rattle.std.specs.Str.Parse.{AllDigits}
-use Rattle.std.proofs.lemmas.Bool.{ne_eqb, lt-ltb, le-leb, and_from, eq-eqb, cond-true, cond-false}
+use Rattle.std.proofs.lemmas.Bool.{ne_eqb, lt-ltb, le-leb, and_from, eq-eqb, cond-true, cond-false, or_from, and_left}
 use Rattle.std.proofs.lemmas.Fmt.{decimal_is_IsNumeral, length-decimal-le}
 use Rattle.std.proofs.lemmas.Str.{IsUtf8-from_ascii, is_utf8-from_IsUtf8, chars-IsAscii}
 use Rattle.std.proofs.lemmas.Str.Ascii.{IsAscii-nil}
@@ -15,12 +15,13 @@ use Rattle.kmn_base.specs.Texts.{character_count}
 use Rattle.kmn_lines.specs.Bytes.{first_or_end}
 use Rattle.kmn_lines.specs.Tokens.{single, is_unequal, in_word, word_size, starts_number, token_size, token_kind, begins_forbidden, has_forbidden, is_closed, token_fault}
 use Rattle.kmn_lines.specs.declared.token.TokenKind.TheVariants as kind
-use Rattle.kmn_lines.proofs.Sizes.{or-both, and-first, in_word-plain, in_word-far}
+use Rattle.kmn_lines.proofs.Sizes.{in_word-plain, in_word-far}
 use Rattle.kmn_items.specs.TokenTexts.{is_wordy}
 use Rattle.kmn_items.specs.Words.{is_name}
 use Rattle.kmn_parser.proofs.CleanTexts.{counted-characters}
 use Rattle.program_text.specs.Names.{is_inner}
 use Rattle.program_text.specs.Spelled.{IsStoreName}
+use Rattle.program_text.proofs.Words.{none-or}
 use Rattle.decompile_laws.specs.Names.{numbered_name}
 
 -- a byte of a word, which begins no number, and no name of a system store
@@ -45,12 +46,8 @@ tame-start : (b : ℕ) (bytes : List ℕ) → IsTame b → starts_number (b ∷ 
 tame-start b [] t = refl
 tame-start b (c ∷ []) t = refl
 tame-start b (c ∷ d ∷ bytes) t =
-    let first : ((b == 85) || (b == 117)) ≡ false = or-both (b == 85) (b == 117) (ne_eqb b 85 t.upper) (ne_eqb b 117 (omega arith)) in
-    and-first (((b == 85) || (b == 117)) && (c == 43)) (is_some (hex_digit d)) (and-first ((b == 85) || (b == 117)) (c == 43) first)
-
-none-or : {A : Type 0} (o : Option A) (d : A) → is_some o ≡ false → unwrap_or o d ≡ d
-none-or None d e = refl
-none-or (Some x) d e = absurd cc
+    let first : ((b == 85) || (b == 117)) ≡ false = or_from (b == 85) (b == 117) (ne_eqb b 85 t.upper) (ne_eqb b 117 (omega arith)) in
+    and_left (((b == 85) || (b == 117)) && (c == 43)) (is_some (hex_digit d)) (and_left ((b == 85) || (b == 117)) (c == 43) first)
 
 module _ (b : ℕ) (bytes : List ℕ) (t : AllByRecursion IsTame (b ∷ bytes)) where
   abbrev plain_quote : is_quote b ≡ false
@@ -60,7 +57,7 @@ module _ (b : ℕ) (bytes : List ℕ) (t : AllByRecursion IsTame (b ∷ bytes)) 
   plain_alone = (in_word-plain b 0 (tame-word b 0 t.0)).alone
 
   not-unequal : is_unequal b (first_or_end bytes) ≡ false
-  not-unequal = and-first (b == 33) (first_or_end bytes == 61) (ne_eqb b 33 (let low = t.0.low in omega arith))
+  not-unequal = and_left (b == 33) (first_or_end bytes == 61) (ne_eqb b 33 (let low = t.0.low in omega arith))
 
   size-is : token_size (b ∷ bytes) ≡ length (b ∷ bytes)
   unfolding token_size
@@ -83,11 +80,11 @@ module _ (b : ℕ) (bytes : List ℕ) (t : AllByRecursion IsTame (b ∷ bytes)) 
 allowed-here : (b : ℕ) (bytes : List ℕ) → IsTame b → begins_forbidden (b ∷ bytes) ≡ false
 unfolding begins_forbidden
 allowed-here b bytes t =
-    or-both (b == 0) _ (ne_eqb b 0 (let low = t.low in omega arith)) (and-first (239 == b) _ (ne_eqb 239 b (let high = t.high in omega arith)))
+    or_from (b == 0) _ (ne_eqb b 0 (let low = t.low in omega arith)) (and_left (239 == b) _ (ne_eqb 239 b (let high = t.high in omega arith)))
 
 allowed : (bytes : List ℕ) → AllByRecursion IsTame bytes → has_forbidden bytes ≡ false
 allowed [] h = refl
-allowed (b ∷ bytes) h = or-both (begins_forbidden (b ∷ bytes)) (has_forbidden bytes) (allowed-here b bytes h.0) (allowed bytes h.1)
+allowed (b ∷ bytes) h = or_from (begins_forbidden (b ∷ bytes)) (has_forbidden bytes) (allowed-here b bytes h.0) (allowed bytes h.1)
 
 sound : (b : ℕ) (bytes : List ℕ) → AllByRecursion IsTame (b ∷ bytes) → token_fault (b ∷ bytes) ≡ None
 unfolding token_fault
@@ -100,7 +97,7 @@ in-line : (bytes : List ℕ) → AllByRecursion IsTame bytes → list_all is_inn
 in-line [] h = refl
 in-line (b ∷ bytes) h =
     let low = h.0.low in
-    and_from (is_inner b) (list_all is_inner bytes) (ap not (or-both (b == 10) (b == 13) (ne_eqb b 10 (omega arith)) (ne_eqb b 13 (omega arith)))) (in-line bytes h.1)
+    and_from (is_inner b) (list_all is_inner bytes) (ap not (or_from (b == 10) (b == 13) (ne_eqb b 10 (omega arith)) (ne_eqb b 13 (omega arith)))) (in-line bytes h.1)
 
 tame-ascii : (bytes : List ℕ) → AllByRecursion IsTame bytes → IsAscii bytes
 tame-ascii [] h i = IsAscii-nil i

@@ -8,7 +8,6 @@ use Rattle.std.proofs.lemmas.Bool.Decides.{nat_tests}
 use Rattle.std.proofs.lemmas.List.{map-append}
 use Rattle.std.proofs.lemmas.List.Concat.{flat_map-append}
 use Rattle.std.proofs.lemmas.List.Folds.{list_any-append}
-use Rattle.std.proofs.lemmas.List.Sums.{sum_by-append}
 use Rattle.kmn_base.specs.declared.codes.Code.TheVariants.{C16, C17, C18, C19, C20, C21, C22}
 use Rattle.kmn_base.specs.declared.limits.TheConstants.{STORE_ELEMENTS, ALL_ELEMENTS, STORES, GROUPS, RECORDS, DEADKEYS}
 use Rattle.kmn_base.specs.Names.{same_name}
@@ -18,10 +17,9 @@ use Rattle.rule_model.specs.Naming.{mark_names, key_names}
 use Rattle.store_table.specs.First.{broken, first_of}
 use Rattle.store_table.specs.Known.{Known}
 use Rattle.limit_checker.specs.Limits.{Statement, line_of, items_of, values_of_statement, records_of_statement, statement_size, names_size, dictionary_size, sizes, mark_count, all_records, is_long_context, is_long_output, have_many_elements, are_many_stores, have_many_marks, have_many_records, are_many_groups, limit_code, statement_refusal, group_refusal}
+use Rattle.limit_checker.proofs.FirstPassed.{sum_append}
+use Rattle.limit_checker.proofs.Gathered.{distinct_append}
 use Rattle.spelled_files.proofs.UnrefusedRules.{no-earlier, no-line, no-broken}
-
-pub sum_append : (xs ys : List ℕ) → sum (xs ++ ys) ≡ sum xs + sum ys
-sum_append xs ys = sum_by-append (λ x. x) xs ys
 
 -- a list that begins with another
 record Begins {X : Type 0} (front whole : List X) : Type 0 where
@@ -38,13 +36,9 @@ distinct-more {X} same (y ∷ ys) seen = by (list_any (λ x. same x y) seen) (di
     by true one two = one
     by false one two = record { more = y ∷ two.more; is = two.is ∙ append_assoc seen (y ∷ []) two.more }
 
-distinct-append : {X : Type 0} (same : X → X → Bool) (xs ys seen : List X) → distinct_onto same seen (xs ++ ys) ≡ distinct_onto same (distinct_onto same seen xs) ys
-distinct-append same [] ys seen = refl
-distinct-append same (x ∷ xs) ys seen = distinct-append same xs ys (if list_any (λ y. same y x) seen then seen else seen ++ x ∷ [])
-
 distinct-begins : {X : Type 0} (same : X → X → Bool) (xs ys : List X) → Begins (distinct_onto same [] xs) (distinct_onto same [] (xs ++ ys))
 distinct-begins same xs ys =
-    let more = distinct-more same ys (distinct_onto same [] xs) in record { more = more.more; is = distinct-append same xs ys [] ∙ more.is }
+    let more = distinct-more same ys (distinct_onto same [] xs) in record { more = more.more; is = distinct_append same [] xs ys ∙ more.is }
 
 -- sizes that are no more than others: in count, in sum, and each within the limit where all of the others are
 record IsWithin (few many : List ℕ) : Type 0 where

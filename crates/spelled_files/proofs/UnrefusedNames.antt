@@ -1,5 +1,5 @@
 -- No name of the program that is written out of tables is refused.
-use Rattle.std.proofs.Common.{◌≡◌, ℕ, zero, suc, ◌+◌, ◌^◌, ◌<◌, ◌≤◌, ◌⊎◌, inl, inr, Bool, true, false, ◌&&◌, List, [], ◌∷◌, ◌++◌, length, drop, map, Option, None, Some, refl, sym, ◌∙◌, ap, subst, arith, length-drop, length-append, append-nil, append_assoc, if◌then◌else◌}
+use Rattle.std.proofs.Common.{◌≡◌, ℕ, zero, suc, ◌+◌, ◌<◌, ◌⊎◌, inl, inr, Bool, true, false, ◌&&◌, List, [], ◌∷◌, ◌++◌, length, drop, map, Option, None, Some, refl, sym, ◌∙◌, ap, subst, arith, append-nil, append_assoc, if◌then◌else◌}
 use Rattle.std.specs.Prelude.{nat_eq, slice_get, unwrap_or}
 use Rattle.std.specs.List.{AllByRecursion, range_with_len}
 use Rattle.std.specs.Fmt.{decimal}
@@ -29,18 +29,20 @@ use Rattle.decompile_laws.proofs.Apart.{Differs, AreFree, AreApart, own_name, la
 use Rattle.decompile_laws.proofs.Free.{AreDistinct, free_names-free, free_names-count}
 use Rattle.decompile_laws.proofs.Groups.{group_name, groups_apart, names_taken, group_count}
 use Rattle.decompile_laws.proofs.Good.{IsNamed, groups_good}
-use Rattle.decompile_laws.proofs.Choosing.{clash, all_join}
+use Rattle.decompile_laws.proofs.Choosing.{all_join}
 use Rattle.decompile_laws.proofs.FreshNames.{all-taken, drop-free, fresh-at}
+use Rattle.decompile_laws.proofs.FrontCounts.{marks-few, front-size, front-few, free-all, free-size, behind-size}
 use Rattle.spelled_files.specs.Laws.{HasTextNames}
 use Rattle.spelled_files.specs.Unspelled.{unspelled}
 use Rattle.spelled_files.proofs.Sayable.{IsSayable, sayable}
 use Rattle.spelled_files.proofs.WrittenOut.{written_out}
 use Rattle.spelled_files.proofs.CalledNames.{AreNamed}
-use Rattle.spelled_files.proofs.SpelledRules.{few-marks, few-keys, free_count, calls_named, all-at}
+use Rattle.spelled_files.proofs.SpelledRules.{calls_named, all-at}
 use Rattle.spelled_files.proofs.StatedNames.{named-cons, named-behind, named_at, groups_stated, store_stated}
 use Rattle.spelled_files.proofs.ApartNames.{Later, HaveNames, named-none, stores_apart, ApartFrom, groups_apart_refused}
 use Rattle.spelled_files.proofs.KnownNames.{no_rule_unknown}
 use Rattle.spelled_files.proofs.UnrefusedRules.{no-else, no-earlier, no-line, no-broken}
+use Rattle.kmn_lines.proofs.Sizes.{clash}
 
 -- free names aren't empty, and the first two are told apart
 pub some-at : (taken : List (List ℕ)) (i : ℕ) (names : List (List ℕ)) → AreFree taken names → i < length names → same_name (unwrap_or (slice_get names i) []) [] ≡ false
@@ -146,34 +148,13 @@ module _ (tables : Tables) (can : IsPlayable tables) (said : IsSayable tables) (
   abbrev pub front_count : ℕ
   front_count = length (mark_stores tables ++ key_stores tables)
 
-  small : 1 + (length tables.stores + 2 + length taken) < 2 ^ 64
-  small = let most = can.store_count in let same = length-map tables.stores own_name in omega (arith, most, same)
-
-  pub free-all : AreFree taken (free_stores tables)
-  free-all = free_names-free 115 [] taken (length tables.stores + 2) small
-
-  pub free-size : length (free_stores tables) ≡ length tables.stores + 2
-  free-size = free_count tables can said written texts
-
-  pub marks-few : length (mark_stores tables) ≤ 1
-  marks-few = few-marks (unwrap_or (slice_get (free_stores tables) 0) []) (greatest_mark tables)
-
-  keys-few : length (key_stores tables) ≤ 1
-  keys-few = few-keys (unwrap_or (slice_get (free_stores tables) (length (mark_stores tables))) []) (tab_dictionary tables.stores)
-
-  front-few : front_count ≤ 2
-  front-few = let a = length-append (mark_stores tables) (key_stores tables) in let m = marks-few in let k = keys-few in omega (arith, a, m, k)
-
-  behind-size : length tables.stores ≤ length (drop front_count (free_stores tables))
-  behind-size = let size = free-size in let few = front-few in let l = length-drop front_count (free_stores tables) in omega (arith, size, few, l)
-
   pub apart : AreApart names.stores
-  apart = names_apart (named_stores tables) taken (drop front_count (free_stores tables)) [] 0 tables.stores (drop-free taken front_count (free_stores tables) free-all) behind-size (all-taken tables.stores)
+  apart = names_apart (named_stores tables) taken (drop front_count (free_stores tables)) [] 0 tables.stores (drop-free taken front_count (free_stores tables) (free-all tables can)) (behind-size tables can) (all-taken tables.stores)
 
   -- a front name that is used is told apart from those behind
   pub fresh-later : (i : ℕ) → i < front_count → Later names.stores (unwrap_or (slice_get (free_stores tables) i) [])
   fresh-later i less some =
-      let fresh = fresh-at taken i front_count (free_stores tables) free-all (let size = free-size in let few = front-few in omega (arith, size, few, less)) less in
+      let fresh = fresh-at taken i front_count (free_stores tables) (free-all tables can) (let size = free-size tables can in let few = front-few tables in omega (arith, size, few, less)) less in
       later (unwrap_or (slice_get (free_stores tables) i) []) (named_stores tables) (drop front_count (free_stores tables)) [] 0 tables.stores fresh.some fresh.others
       (inr (free-differs taken (unwrap_or (slice_get (free_stores tables) i) []) tables.stores fresh.free (all-taken tables.stores)))
 
@@ -186,20 +167,17 @@ module _ (tables : Tables) (can : IsPlayable tables) (said : IsSayable tables) (
   abbrev pub key_name : List ℕ
   key_name = unwrap_or (slice_get (free_stores tables) (length (mark_stores tables))) []
 
-  pub sizes-join : front_count ≡ length (mark_stores tables) + length (key_stores tables)
-  sizes-join = length-append (mark_stores tables) (key_stores tables)
-
   front-names : (stated : Stated) → IsFront stated names.stores ([] ∷ []) (numbered 2 (mark_stores tables ++ key_stores tables))
   front-names stated =
       mark-front stated names.stores 2 (greatest_mark tables) mark_name key_name (tab_dictionary tables.stores)
-      (some-at taken (length (mark_stores tables)) (free_stores tables) free-all (let size = free-size in let few = marks-few in omega (arith, size, few)))
-      (λ some. fresh-later (length (mark_stores tables)) (let join = sizes-join in omega (arith, join, some)))
+      (some-at taken (length (mark_stores tables)) (free_stores tables) (free-all tables can) (let size = free-size tables can in let few = marks-few tables in omega (arith, size, few)))
+      (λ some. fresh-later (length (mark_stores tables)) (let join = front-size tables in omega (arith, join, some)))
       (λ e.
       let one = one-mark mark_name (greatest_mark tables) e in (
-        some-at taken 0 (free_stores tables) free-all (let size = free-size in omega (arith, size)),
+        some-at taken 0 (free_stores tables) (free-all tables can) (let size = free-size tables can in omega (arith, size)),
         subst (λ (k : ℕ). same_name (unwrap_or (slice_get (free_stores tables) k) []) mark_name ≡ false) (sym one)
-            (second-differs taken (free_stores tables) free-all (let size = free-size in omega (arith, size))),
-        fresh-later 0 (let join = sizes-join in omega (arith, join, one)),
+            (second-differs taken (free_stores tables) (free-all tables can) (let size = free-size tables can in omega (arith, size))),
+        fresh-later 0 (let join = front-size tables in omega (arith, join, one)),
       ))
 
   abbrev front : List StoreDef

@@ -22,8 +22,9 @@ use Rattle.decompile_laws.specs.Items.{Names}
 use Rattle.decompile_laws.specs.Back.{back_stores, numbered, mark_stores, key_stores, front_stores, free_stores, names_for, written_stores, back}
 use Rattle.decompile_laws.specs.WrittenOut.{CanBeWrittenOut}
 use Rattle.decompile_laws.proofs.Apart.{EachApart, AreApart, filled, same-turned, source-some}
-use Rattle.decompile_laws.proofs.Choosing.{clash, all_join}
+use Rattle.decompile_laws.proofs.Choosing.{all_join}
 use Rattle.decompile_laws.proofs.Good.{IsOption}
+use Rattle.decompile_laws.proofs.FrontCounts.{front-size, free-size, free-all, marks-few}
 use Rattle.spelled_files.specs.Laws.{HasTextNames}
 use Rattle.spelled_files.specs.Unspelled.{unspelled}
 use Rattle.spelled_files.proofs.Sayable.{IsSayable, sayable, sayable-at}
@@ -32,8 +33,9 @@ use Rattle.spelled_files.proofs.CalledNames.{AreNamed}
 use Rattle.spelled_files.proofs.CalledOptions.{not_option}
 use Rattle.spelled_files.proofs.SpelledRules.{calls_named}
 use Rattle.spelled_files.proofs.StoreCodes.{IsFineStore, written, version_fine, front_fine, ordinary_fine, system_fine}
-use Rattle.spelled_files.proofs.UnrefusedNames.{apart, fresh-later, one-mark, sizes-join, free-size, free-all, marks-few, mark_name, key_name, taken, some-at}
+use Rattle.spelled_files.proofs.UnrefusedNames.{apart, fresh-later, one-mark, mark_name, key_name, taken, some-at}
 use Rattle.spelled_files.proofs.UnrefusedRules.{no-earlier, no-line, none_of_all, spelled_rules_stand}
+use Rattle.kmn_lines.proofs.Sizes.{clash}
 
 -- the name by which a list of calls has a number
 abbrev called_at : List (Option (List ℕ)) → ℕ → List ℕ
@@ -110,19 +112,19 @@ module _ (tables : Tables) (can : IsPlayable tables) (said : IsSayable tables) (
   mark-apart e =
       let name : List ℕ = mark_name tables can said out texts in
       let some : same_name name [] ≡ false =
-      some-at (taken tables can said out texts) 0 (free_stores tables) (free-all tables can said out texts) (let size = free-size tables can said out texts in omega (arith, size)) in
+      some-at (taken tables can said out texts) 0 (free_stores tables) (free-all tables can) (let size = free-size tables can in omega (arith, size)) in
       let one = one-mark tables can said out texts name (greatest_mark tables) e in
-      let join = sizes-join tables can said out texts in
+      let join = front-size tables in
       front-apart name some (fresh-later tables can said out texts 0 (omega (arith, join, one)) some)
 
   key-apart : 0 < length (key_stores tables) → is_option all (key_name tables can said out texts) ≡ false
   key-apart more =
       let name : List ℕ = key_name tables can said out texts in
-      let few = marks-few tables can said out texts in
-      let size = free-size tables can said out texts in
+      let few = marks-few tables in
+      let size = free-size tables can in
       let some : same_name name [] ≡ false =
-      some-at (taken tables can said out texts) (length (mark_stores tables)) (free_stores tables) (free-all tables can said out texts) (omega (arith, few, size)) in
-      let join = sizes-join tables can said out texts in
+      some-at (taken tables can said out texts) (length (mark_stores tables)) (free_stores tables) (free-all tables can) (omega (arith, few, size)) in
+      let join = front-size tables in
       front-apart name some (fresh-later tables can said out texts (length (mark_stores tables)) (omega (arith, join, more)) some)
 
   -- a store that is used as an option has characters alone

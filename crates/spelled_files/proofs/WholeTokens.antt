@@ -17,8 +17,9 @@ use Rattle.kmn_lines.specs.Lines.{logicals, is_skipped, dropped, physical_text, 
 use Rattle.kmn_lines.specs.Laws.{IsInLine, IsPhysicalLine, AreJoined}
 use Rattle.kmn_lines.specs.Tokens.{token_size, token_text, token_kind, token_at, token_fault, scanned, first_fault, part_text, parts_tokens, parts_fault, line_tokens, line_refusal, tokens_refusal}
 use Rattle.kmn_lines.proofs.LineTexts.{parts_are_texts}
+use Rattle.kmn_lines.proofs.Numbered.{drop-next}
 use Rattle.kmn_items.specs.TokenTexts.{LineToken, text_of, with_text, with_texts}
-use Rattle.kmn_parser.proofs.SoundTokens.{IsSoundToken, HasTexts, HasSoundTokens, either-none, drop-next, text-at, no-refusal, lines-sound}
+use Rattle.kmn_parser.proofs.SoundTokens.{IsSoundToken, HasTexts, HasSoundTokens, either-none, text-at, no-refusal, lines-sound}
 use Rattle.program_text.specs.Names.{is_inner}
 use Rattle.spelled_files.proofs.RetakenTokens.{token_alone}
 

@@ -1,9 +1,9 @@
 -- Names, values and keys that are read of whole tokens are such as a text can say.
-use Rattle.std.proofs.Common.{◌≡◌, ℕ, zero, suc, ◌+◌, ◌-◌, ◌<◌, ◌≤◌, ◌==◌, Bool, true, false, not, ◌&&◌, ◌||◌, if◌then◌else◌, List, [], ◌∷◌, ◌++◌, length, take, drop, Option, None, Some, is_some, option_map, unwrap_or, refl, sym, ◌∙◌, ap, subst, arith, inl, inr}
+use Rattle.std.proofs.Common.{◌≡◌, ℕ, zero, suc, ◌+◌, ◌-◌, ◌<◌, ◌==◌, Bool, true, false, not, ◌&&◌, ◌||◌, if◌then◌else◌, List, [], ◌∷◌, ◌++◌, length, take, drop, Option, None, Some, is_some, option_map, unwrap_or, refl, sym, ◌∙◌, ap, subst, arith, inl, inr}
 use Rattle.std.specs.Prelude.{All, IsUtf8, chars, nat_eq, nat_lt, nat_le, slice_get}
 use Rattle.std.specs.List.{list_all, list_any}
 use Rattle.std.specs.Str.{byte, is_utf8}
-use Rattle.std.proofs.lemmas.Bool.{and_parts, or_cases, cases_lt, cond_both, eq-eqb, eqb-true, ltb-true, ne_eqb, and_from, or_left, or_right, lt-ltb, le-leb, and_right, and_left, cond-false}
+use Rattle.std.proofs.lemmas.Bool.{and_parts, or_cases, cases_lt, cond_both, eq-eqb, eqb-true, ltb-true, and_from, or_left, or_right, lt-ltb, le-leb, and_right, and_left, cond-false}
 use Rattle.std.proofs.lemmas.List.Elements.{All-nil}
 use Rattle.std.proofs.lemmas.List.Folds.{list_all-append, list_any-append}
 use Rattle.std.proofs.lemmas.Option.{none-some, same_Some}
@@ -16,6 +16,8 @@ use Rattle.kmn_lines.specs.Bytes.{first_or_end}
 use Rattle.kmn_lines.specs.Tokens.{single, is_unequal, quoted_size, starts_number, token_size, token_kind, token_fault}
 use Rattle.kmn_lines.specs.declared.token.TokenKind.{TokenKind}
 use Rattle.kmn_lines.specs.declared.token.TokenKind.TheVariants as kind
+use Rattle.kmn_lines.proofs.Sizes.{clash}
+use Rattle.kmn_lines.proofs.TextTokens.{quote-ascii}
 use Rattle.kmn_items.specs.declared.syntax.Fault.{Fault}
 use Rattle.kmn_items.specs.declared.syntax.Slot.{Slot}
 use Rattle.kmn_items.specs.declared.syntax.Slot.TheVariants as slot
@@ -30,7 +32,7 @@ use Rattle.kmn_parser.proofs.SoundKeys.{row-found, no-code, key-read}
 use Rattle.kmn_parser.proofs.ReadStatements.{unless-none}
 use Rattle.program_text.specs.Names.{is_inner}
 use Rattle.program_text.specs.Spelled.{IsSpelledName, IsSpelledValue, IsSpelledKey}
-use Rattle.decompile_laws.proofs.Choosing.{clash}
+use Rattle.program_text.proofs.Values.{high-inner}
 use Rattle.spelled_files.proofs.CompiledStores.{all_at}
 use Rattle.spelled_files.proofs.RetakenTokens.{size_plain, size_quote}
 use Rattle.spelled_files.proofs.WholeTokens.{IsWholeToken}
@@ -117,9 +119,6 @@ no-character k small bs utf8 h = by (Has k (chars bs)) refl
     by false e = refl
 
 -- characters of bytes that end no line end none
-high-inner : (c : ℕ) → 128 ≤ c → is_inner c ≡ true
-high-inner c high = λ i. not (ne_eqb c 10 (λ e. omega (arith, high, e)) i || ne_eqb c 13 (λ e. omega (arith, high, e)) i)
-
 inner-characters : (cs : List ℕ) → list_all is_inner (encodes cs) ≡ true → list_all is_inner cs ≡ true
 inner-characters [] h = refl
 inner-characters (c ∷ cs) h =
@@ -181,12 +180,6 @@ inside-clean (q ∷ b ∷ bytes) number quote size =
     let whole : token_size (q ∷ b ∷ bytes) ≡ 1 + quoted_size q (b ∷ bytes) = size_plain (q ∷ b ∷ bytes) number ∙ size_quote q (b ∷ bytes) quote in
     before-quote q (b ∷ bytes) (length (q ∷ b ∷ bytes) - 2) (omega (arith, whole, size))
 
-quote-small : (q : ℕ) → is_quote q ≡ true → q < 128
-quote-small q e = elim (or_cases (q == 34) (q == 39) e) [
-  | inl f ↦ let same = eqb-true q 34 f in omega (arith, same)
-  | inr f ↦ let same = eqb-true q 39 f in omega (arith, same)
-]
-
 -- one of the two kinds of quote is missing
 one-missing : (q : ℕ) (cs : List ℕ) → is_quote q ≡ true → Has q cs ≡ false → (list_any (λ c. c == byte "\"") cs && list_any (λ c. c == byte "'") cs) ≡ false
 one-missing q cs e h = elim (or_cases (q == 34) (q == 39) e) [
@@ -208,7 +201,7 @@ value-spelled token ok quote =
     record {
       characters = clean-characters (inside text) utf8 (clean-take (length text - 2) (drop 1 text) (clean-drop 1 text ok.sound.clean));
       in_line = inner-characters (chars (inside text)) (ap (list_all is_inner) (encodes-chars (inside text) utf8) ∙ inner-take (length text - 2) (drop 1 text) (inner-drop text ok.whole.inner));
-      one_quote = one-missing (first_or_end text) (chars (inside text)) begins.1 (no-character (first_or_end text) (quote-small (first_or_end text) begins.1) (inside text) utf8 clean);
+      one_quote = one-missing (first_or_end text) (chars (inside text)) begins.1 (no-character (first_or_end text) (quote-ascii (first_or_end text) begins.1) (inside text) utf8 clean);
     })
     (λ e. value-none)
 

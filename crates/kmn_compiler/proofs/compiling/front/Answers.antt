@@ -1,9 +1,10 @@
 use Rattle.std.proofs.lemmas.Result.{err_from_is_err_and}
-use Rattle.kmn_compiler.proofs.Checks.{is_read, checked_read, unread}
+use Rattle.checker_laws.proofs.Sources.{source_read}
+use Rattle.kmn_compiler.proofs.Checks.{checked_read, unread}
 use Rattle.kmn_compiler.proofs.compiling.front.Goals as goal
 
 pub check-requires : goal.check-requires
-check-requires c = is_read c.args.source.now c.in_ok-program.program c.in_ok-program.ensures
+check-requires c = source_read c.args.source.now c.in_ok-program.program c.in_ok-program.ensures
 
 pub returns : goal.returns
 returns c = checked_read c.args.source.now c.in_ok-program.program c.check.result c.in_ok-program.ensures c.check.ensures
