@@ -1,4 +1,3 @@
-pub mod FewParts
 pub mod FrontCounts
 pub mod FrontPuts
 pub mod FrontTexts

@@ -1,4 +1,3 @@
-pub mod LongTexts
 pub mod OneByOne
 pub mod Pages
 pub mod Texts

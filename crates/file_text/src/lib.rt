@@ -1,10 +1,9 @@
 //! The text of a compiled file: the source that its tables go back to.
 //!
-//! It stands on `kmx_verifier`, whose `Verified` lends the tables of a valid file, on `file_names`, which says what the
-//! text calls the stores, groups and keys of tables, and on `decompile_laws` and `program_text`, whose definitions say which
-//! program the tables go back to and which text that has. The layer above calls `text_of`: the text exactly, or its size
-//! where a source may not have so many bytes. A layer that has made the names itself, to ask what of the tables no source
-//! can say, makes the text by `page_of`, with what stands in `Front` before the file's own stores.
+//! It stands on `file_names`, which says what the text calls the stores, groups and keys of tables, and on `decompile_laws`
+//! and `program_text`, whose definitions say which program the tables go back to and which text that has. The layer above
+//! has made the names itself, to ask what of the tables no source can say, and calls `page_of` with what stands in `Front`
+//! before the file's own stores: the text exactly, or its size where a source may not have so many bytes.
 #![tactic(auto)]
 
 mod characters;
@@ -13,10 +12,8 @@ mod items;
 mod lines;
 mod page;
 mod system;
-mod text;
 mod writing;
 
 pub use page::Page;
 pub use system::version_text;
-pub use text::{TextError, text_of};
 pub use writing::{Front, front_count, front_of, page_of};

@@ -4,7 +4,7 @@
 //! it has once and for all the option number of each store and the names of own keys, and hands out groups and elements as
 //! the tables have them. A layer that reads a file where it lies counts option numbers the same way: `mark` sets the flag of
 //! each store that an item uses as an option, and `flag_numbers` counts the flags (`specs/OptionFlags`, with the laws of
-//! flags in `proofs/OptionFlags`).
+//! flags in `proofs/OptionFlags`). What asks whether names could stand in a source takes their words by `first_word`.
 #![tactic(auto)]
 
 mod flags;
@@ -14,3 +14,4 @@ mod own_keys;
 
 pub use flags::{flag_numbers, mark};
 pub use indexed_tables::IndexedTables;
+pub use own_keys::first_word;

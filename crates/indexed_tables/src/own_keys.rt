@@ -50,7 +50,7 @@ fn first_space(text: &[u8]) -> Option<usize>
 
 /// A text up to its first space, and what stands behind that.
 #[tactic(auto, using(crate::proofs::Words::words_parted, crate::proofs::Words::words_alone))]
-fn first_word(text: &[u8]) -> (&[u8], Option<&[u8]>)
+pub fn first_word(text: &[u8]) -> (&[u8], Option<&[u8]>)
     ensures parts { slice_split (nat_eq 32) text.now ≡ result.0.now ∷ words_behind (option_copied result.1) }
     ensures sizes { length result.0.now + bytes_behind (option_copied result.1) ≡ length text.now }
 {

@@ -1,40 +1,21 @@
 //! The names in a key dictionary, and whether a source could have them.
 
-ghost use Rattle.std.specs.Prelude.{◌≡◌, ◌+◌, ◌++◌, [], ◌∷◌, false, IfOk, length, nat_eq, option_copied, position};
-ghost use Rattle.std.specs.List.{list_any, slice_split};
+ghost use Rattle.std.specs.Prelude.{◌≡◌, ◌++◌, [], ◌∷◌, false, IfOk};
+ghost use Rattle.std.specs.List.{list_any};
 ghost use Rattle.std.specs.Str.{is_utf8};
 ghost use Rattle.kmn_base.specs.Names.{same_name};
 ghost use Rattle.kmn_items.specs.Words.{is_own_key};
-ghost use Rattle.indexed_tables.specs.Words.{words_behind, bytes_behind};
 ghost use Rattle.rule_model.specs.Tab.{words};
 ghost use Rattle.spelled_files.specs.Causes.{is_dictionary_name, is_unspelled_dictionary};
 ghost use Rattle.kmx_decompiler.specs.Words.{are_unfit, not_empty};
 
 use file_names::{is_source_name, text_of};
+use indexed_tables::first_word;
 use kmn_base::{Element, Memory};
 use kmn_items::is_own_key;
 use std::alloc::Global;
 use std::str;
 use store_table::NameTable;
-
-/// The place of the first space of a text.
-fn first_space(text: &[u8]) -> Option<usize>
-    ensures { result ≡ position (nat_eq 32) text.now }
-{
-    text.iter().position(|byte| *byte == b' ')
-}
-
-/// A text up to its first space, and what stands behind that.
-#[tactic(auto, using(indexed_tables::proofs::Words::words_parted, indexed_tables::proofs::Words::words_alone))]
-fn first_word(text: &[u8]) -> (&[u8], Option<&[u8]>)
-    ensures parts { slice_split (nat_eq 32) text.now ≡ result.0.now ∷ words_behind (option_copied result.1) }
-    ensures sizes { length result.0.now + bytes_behind (option_copied result.1) ≡ length text.now }
-{
-    match first_space(text) {
-        Some(at) => (&text[..at], Some(&text[at + 1..])),
-        None => (text, None),
-    }
-}
 
 #[tactic(auto, using(crate::proofs::DictionaryWords::is_text, crate::proofs::DictionaryWords::is_no_text))]
 fn is_utf8(text: &[u8]) -> bool
