@@ -1,4 +1,5 @@
 pub mod ContextCounts
+pub mod FewNames
 pub mod Finding
 pub mod Gathering
 pub mod GroupIndexes

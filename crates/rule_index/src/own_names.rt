@@ -1,9 +1,11 @@
 //! The names of a file's own keys.
 
-ghost use Rattle.std.specs.Prelude.{◌≡◌, IfOk, OnOk, find};
+ghost use Rattle.std.specs.Prelude.{◌≡◌, ◌<◌, IfOk, OnOk, find, length};
 ghost use Rattle.std.specs.String.{string_bytes};
+ghost use Rattle.kmn_base.specs.declared.limits.TheConstants.{KEY_NAMES};
 ghost use Rattle.rule_model.specs.Tab.{store_elements, is_dictionary, tab_dictionary};
 ghost use Rattle.rule_index.specs.OwnNames.{names_with, names_after, word_after};
+ghost use Rattle.rule_index.specs.Stores.{HaveFewElements};
 
 use file_parts::{Elements, FileTables, Parts};
 use kmn_base::{Element, Memory};
@@ -25,16 +27,13 @@ fn dictionary_elements<'a>(file: &FileTables<'a>) -> Elements<'a>
     Parts::none()
 }
 
-/// Adds a word, unless it is empty or the same as a name before it. The one store that the names stand in is too short
-/// for more names than there are codes.
+/// Adds a word, unless it is empty or the same as a name before it.
 fn add_word(names: &mut KeyDictionary, word: &[u8]) -> Result<(), Memory>
+    requires { length names.old < KEY_NAMES }
     ensures { OnOk result (names.new ≡ names_with names.old word.now) }
 {
     if word.is_empty() {
         return Ok(());
-    }
-    if names.is_full() {
-        return Err(Memory);
     }
     names.add(word)?;
     Ok(())
@@ -42,6 +41,7 @@ fn add_word(names: &mut KeyDictionary, word: &[u8]) -> Result<(), Memory>
 
 /// Takes up one more character: a space ends the word, any other one belongs to it.
 fn take_char(names: &mut KeyDictionary, word: &mut String, c: char) -> Result<(), Memory>
+    requires { length names.old < KEY_NAMES }
     ensures names { OnOk result (names.new ≡ names_after c names.old (string_bytes word.old)) }
     ensures word { OnOk result (string_bytes word.new ≡ word_after c (string_bytes word.old)) }
 {
@@ -54,8 +54,10 @@ fn take_char(names: &mut KeyDictionary, word: &mut String, c: char) -> Result<()
     Ok(())
 }
 
-/// The names of a file's own keys: the words of the store's characters, each once.
+/// The names of a file's own keys: the words of the store's characters, each once. The one store that they stand in is too
+/// short for more names than there are codes.
 pub fn own_keys(alloc: Global, file: &FileTables<'_>) -> Result<KeyDictionary, Memory>
+    requires { HaveFewElements file.now.stores }
     ensures { IfOk result (λ names. names ≡ tab_dictionary file.now.stores) }
 {
     let mut names = KeyDictionary::new(alloc);
