@@ -24,6 +24,6 @@ pub record HasSizes (n : ℕ) (tables : Tables) : Type 0 where
 abbrev pub FilesHaveSizes : Type 0
 FilesHaveSizes = (n : ℕ) → n ≤ 2000 → HasSizes n (compiled_tables (load_program n))
 
--- the script of a load plays on its compiled tables as on the keyboard: each press puts one item
+-- the script of a load plays on its compiled tables as on the keyboard: the presses together put an item for each
 abbrev pub FilesPlay : Type 0
 FilesPlay = (n : ℕ) → n ≤ 2000 → Plays (n + 2) (trace (tab (compiled_tables (load_program n))) (load_events n))

@@ -21,6 +21,6 @@ pub record Plays (count : ℕ) (traced : Trace) : Type 0 where
   pub put : items_put traced.done ≡ count
   pub text : length (whole_text (last_state traced.first traced.done)) ≡ 2
 
--- the script of each load plays so on its keyboard: each press puts one item
+-- the script of each load plays so on its keyboard: the presses together put an item for each
 abbrev pub LoadsPlay : Type 0
 LoadsPlay = (n : ℕ) → Plays (n + 2) (trace (load_keyboard n) (load_events n))

@@ -14,7 +14,8 @@ pub fn scripts_are_read()
     ensures { ScriptsAreRead }
 {}
 
-/// These presses are played on the keyboard of a load without a refusal: each puts one item, and two characters stand in the end.
+/// These presses are played on the keyboard of a load without a refusal: together they put an item for each, and two characters
+/// stand in the end.
 #[tactic(auto, using(crate::proofs::LoadSteps::loads_play))]
 pub fn loads_play()
     ensures { LoadsPlay }
