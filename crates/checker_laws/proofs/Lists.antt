@@ -1,6 +1,6 @@
 -- What holds of each item of lists that are gathered, and of tests of lists.
 use Rattle.std.proofs.Common.{◌≡◌, Bool, true, false, List, [], ◌∷◌, ◌++◌, refl, if◌then◌else◌}
-use Rattle.std.specs.Prelude.{flat_map, filter, All}
+use Rattle.std.specs.Prelude.{flat_map, All}
 use Rattle.std.specs.List.{list_all, list_any, AllByRecursion}
 use Rattle.std.proofs.lemmas.Bool.{and_parts}
 use Rattle.std.proofs.lemmas.List.Elements.{All-nil, All-cons, All-head, All-tail, All-append}

@@ -6,7 +6,7 @@ use Rattle.std.proofs.lemmas.Bool.{and_parts, not-false}
 use Rattle.std.proofs.lemmas.List.Elements.{All-nil, All-cons, All-head, All-tail, All-append}
 use Rattle.std.proofs.lemmas.List.Concat.{flat_map-append}
 use Rattle.std.proofs.lemmas.List.Sums.{sum-map, sum_by-cons}
-use Rattle.kmn_base.specs.declared.codes.Code.TheVariants.{C08, C09, C12}
+use Rattle.kmn_base.specs.declared.codes.Code.TheVariants.{C08, C09}
 use Rattle.kmn_base.specs.declared.items.Element.{Element}
 use Rattle.kmn_base.specs.declared.items.Element.TheVariants as element
 use Rattle.kmn_base.specs.declared.limits.TheConstants.{CONTEXT_ITEMS, OUTPUT_ITEMS}
@@ -27,7 +27,7 @@ use Rattle.compile_laws.proofs.Known.{has_values}
 use Rattle.kmx_format.specs.FileUnits.{unit_item_of_output}
 use Rattle.kmx_format.specs.Writable.{stores_of_output, groups_of_output, is_any, is_matched, PointsInto, needs_context, IsWritableOutput, IsWritableMatchOutput}
 use Rattle.kmn_parser.specs.ProgramLaws.{IsReadItem}
-use Rattle.store_table.specs.First.{broken, first_code}
+use Rattle.store_table.specs.First.{first_code}
 use Rattle.store_table.specs.Known.{known}
 use Rattle.item_checker.specs.Items.{is_pattern_item, is_any_item, points_to, misses_pattern, misses_any, index_code, key_index_code, rule_output_code, match_output_code, offset_code}
 use Rattle.limit_checker.specs.Limits.{item_size, output_size}

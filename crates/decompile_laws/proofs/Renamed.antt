@@ -25,7 +25,7 @@ use Rattle.rule_model.specs.declared.tables.Pat.TheVariants as pattern
 use Rattle.rule_model.specs.declared.tables.Out.{Out}
 use Rattle.rule_model.specs.declared.tables.Out.TheVariants as output
 use Rattle.rule_model.specs.Keyboard as keyboard
-use Rattle.rule_model.specs.Keyboard.{Ref, Named, Numbered, Pattern, IsAny, IsNotAny, IsIndex, IfEqual, IfUnequal, OneKey}
+use Rattle.rule_model.specs.Keyboard.{Ref, Named, Numbered, IsAny, IsNotAny, IsIndex, IfEqual, IfUnequal, OneKey}
 use Rattle.rule_model.specs.Content.{content, option_number, elements_at, store_number}
 use Rattle.rule_model.specs.Match.{Content, is_item, place_of, place_caught, matches, element_at, is_element, same_value}
 use Rattle.rule_model.specs.Act.{act, act_one, put_item, put_element, place_for_index, set_current, save_current, reset_current}

@@ -1,6 +1,6 @@
 -- The tokens of a source that no rule of tokens refuses: their texts are UTF-8 without U+0000 and U+FFFF, their numbers
 -- are characters, and their words are plain.
-use Rattle.std.proofs.Common.{◌≡◌, ℕ, zero, suc, ◌+◌, ◌-◌, ◌<◌, ◌≤◌, ◌==◌, Bool, true, false, not, ◌&&◌, ◌||◌, if◌then◌else◌, cond, nat_lt, get_or, List, [], ◌∷◌, length, take, drop, Option, None, Some, option_map, unwrap_or, refl, sym, ◌∙◌, ap, subst, arith, length-drop, add-one}
+use Rattle.std.proofs.Common.{◌≡◌, ℕ, zero, suc, ◌+◌, ◌-◌, ◌<◌, ◌≤◌, ◌==◌, Bool, true, false, not, ◌&&◌, ◌||◌, if◌then◌else◌, cond, nat_lt, get_or, List, [], ◌∷◌, length, take, drop, Option, None, Some, option_map, unwrap_or, refl, sym, ◌∙◌, ap, subst, arith, length-drop}
 use Rattle.std.specs.Prelude.{All, IsUtf8}
 use Rattle.std.proofs.lemmas.Bool.{or_parts, eqb-false, cond_both}
 use Rattle.std.proofs.lemmas.List.{length-take, drop-take, take-take}

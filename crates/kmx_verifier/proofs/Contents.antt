@@ -1,9 +1,10 @@
 -- Strings without a fault are contents that can be played.
-use Rattle.std.proofs.Common.{◌≡◌, ℕ, zero, suc, ◌<◌, ◌≤◌, true, false, ◌||◌, List, [], ◌∷◌, ◌++◌, length, map, take, Option, None, Some, refl, sym, ◌∙◌, ap, subst, arith, append_assoc, append-nil}
+use Rattle.std.proofs.Common.{◌≡◌, ℕ, zero, suc, ◌<◌, ◌≤◌, true, false, ◌||◌, List, [], ◌∷◌, ◌++◌, length, map, take, Option, None, Some, refl, sym, ◌∙◌, ap, subst, arith, append_assoc, append-nil, not}
 use Rattle.std.specs.Prelude.{nat_lt, slice_get, slice_index_or, IsSomeAnd}
 use Rattle.std.specs.List.{cons_option, All, list_any, filter_map, flat_map}
 use Rattle.std.proofs.lemmas.List.Elements.{All-nil, All-head, All-tail, All-append, All-cons, All-weaker}
 use Rattle.std.proofs.lemmas.List.{length-map}
+use Rattle.std.proofs.lemmas.Bool.{not-true}
 use Rattle.item_codec.specs.Walk.{items_given, results_of}
 use Rattle.item_codec.proofs.Results.{items_have_one_spelling}
 use Rattle.kmn_base.specs.declared.limits.TheConstants.{CONTEXT_ITEMS}
@@ -120,19 +121,23 @@ pub match_outputs_read : (bytes : List ℕ) (at : ℕ) (units : List ℕ) → Ar
 match_outputs_read bytes at units small h =
     contents unit_item_of_output output_of_unit_item of.Match (λ item s. output_again item (match_is_output item s.0) s.1) bytes [] at units small h
 
+-- the outputs of a match are those that need no context
+pub stands_alone : (o : Out) → may_stand of.Match (unit_item_of_output o) ≡ not (needs_context o)
+stands_alone (output.Char c) = refl
+stands_alone (output.Mark mark) = refl
+stands_alone (output.Index store offset) = refl
+stands_alone output.Context = refl
+stands_alone (output.ContextAt offset) = refl
+stands_alone (output.Enter group) = refl
+stands_alone (output.Set store value) = refl
+stands_alone (output.Save store) = refl
+stands_alone (output.Reset store) = refl
+stands_alone output.Nul = refl
+stands_alone output.Beep = refl
+stands_alone output.Stop = refl
+
 pub acts_alone : (o : Out) → may_stand of.Match (unit_item_of_output o) ≡ true → needs_context o ≡ false
-acts_alone (output.Char c) h = refl
-acts_alone (output.Mark mark) h = refl
-acts_alone (output.Index store offset) h = absurd (cc)
-acts_alone output.Context h = absurd (cc)
-acts_alone (output.ContextAt offset) h = absurd (cc)
-acts_alone (output.Enter group) h = refl
-acts_alone (output.Set store value) h = refl
-acts_alone (output.Save store) h = refl
-acts_alone (output.Reset store) h = refl
-acts_alone output.Nul h = refl
-acts_alone output.Beep h = refl
-acts_alone output.Stop h = refl
+acts_alone o h = not-true (needs_context o) (sym (stands_alone o) ∙ h)
 
 -- the stores and groups that an output names are below the counts
 output_stores : (n g : ℕ) (o : Out) → (list_any (nat_lt n) (stores_named (unit_item_of_output o)) || list_any (nat_lt g) (groups_named (unit_item_of_output o))) ≡ false

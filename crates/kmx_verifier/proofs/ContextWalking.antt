@@ -1,5 +1,5 @@
 -- A walk over the items of a context, as a loop does it.
-use Rattle.std.proofs.Common.{◌≡◌, ℕ, ◌+◌, ◌<◌, ◌≤◌, List, [], ◌∷◌, ◌++◌, length, map, Option, None, Some, refl, sym, ◌∙◌, ap, arith, append_assoc, append-nil}
+use Rattle.std.proofs.Common.{◌≡◌, ℕ, ◌+◌, ◌<◌, ◌≤◌, List, [], ◌∷◌, ◌++◌, length, map, Option, None, Some, refl, sym, ◌∙◌, ap, arith, append_assoc}
 use Rattle.std.specs.Prelude.{Ok}
 use Rattle.std.specs.List.{All}
 use Rattle.kmn_base.specs.declared.units.UnitItem.{UnitItem}
@@ -34,11 +34,6 @@ pub context_few : (bytes : List ℕ) (answer : Option Fault) (total : List Targe
     → ContextWalksOn bytes answer total end at targets results → length targets ≤ OFFSET_REACH
 context_few bytes answer total end at targets results h = omega (arith, ap length h.is_reached, length-reached h.before)
 
--- the same, where an item is next
-pub context_room : (bytes : List ℕ) (answer : Option Fault) (total : List Target) (end at : ℕ) (targets : List Target) (item : UnitItem) (results : Results)
-    → ContextWalksOn bytes answer total end at targets (Ok item ∷ results) → at + spelled_size item ≤ end
-context_room bytes answer total end at targets item results h = omega (arith, h.room)
-
 pub context_goes_on : (bytes : List ℕ) (answer : Option Fault) (total : List Target) (end at : ℕ) (targets more : List Target) (item : UnitItem) (results : Results)
     → ContextWalksOn bytes answer total end at targets (Ok item ∷ results)
     → ((before : List Target) → targets ≡ reached before → (item_fault bytes of.Context before item at ≡ None) × Unit {0})
@@ -62,9 +57,3 @@ pub context_stops : (bytes : List ℕ) (answer : Option Fault) (total : List Tar
 context_stops bytes answer total end at targets item results (Refused found) h is =
     sym h.fault ∙ ap (λ fault. or_else fault (context_fault bytes (h.before ++ target_of item ∷ []) (at + spelled_size item) results)) (is h.before h.is_reached)
 context_stops bytes answer total end at targets item results Memory h is = tt
-
--- at the end the targets are those of all items
-pub context_ends : (bytes : List ℕ) (answer : Option Fault) (total : List Target) (end at : ℕ) (targets : List Target)
-    → ContextWalksOn bytes answer total end at targets [] → (answer ≡ None) × (targets ≡ reached total)
-context_ends bytes answer total end at targets h =
-    (sym h.fault, h.is_reached ∙ ap reached (sym (append-nil h.before) ∙ h.all))

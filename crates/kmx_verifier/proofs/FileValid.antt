@@ -4,6 +4,7 @@ use Rattle.std.specs.List.{All, flat_map}
 use Rattle.std.proofs.lemmas.List.Elements.{All-head, All-tail}
 use Rattle.std.proofs.lemmas.List.Concat.{flat_map-append}
 use Rattle.std.proofs.lemmas.Nat.{and_le_r}
+use Rattle.std.proofs.lemmas.Bool.{le-ltb, eq-eqb}
 use Rattle.kmn_base.specs.declared.keys.RuleKey.{RuleKey}
 use Rattle.kmn_base.specs.declared.keys.RuleKey.TheVariants.{Any, Char, Virtual}
 use Rattle.kmn_base.specs.declared.keys.TheConstants.{SHIFT_FLAGS}
@@ -28,10 +29,10 @@ use Rattle.kmx_verifier.specs.FaultOf.{too_many_elements, elements_in, store_fau
 use Rattle.kmx_verifier.proofs.Clean.{both, unbroken, unbroken_by, unbroken_not}
 use Rattle.kmx_verifier.proofs.Contents.{targets_of}
 use Rattle.kmx_verifier.proofs.Sound.{ItemsStand}
-use Rattle.kmx_verifier.proofs.Written.{not_less, name_clean, string_clean, count_written, items_written, context_string_clean, elements_stand, outputs_stand, match_stands}
+use Rattle.kmx_verifier.proofs.Written.{name_clean, string_clean, count_written, items_written, context_string_clean, elements_stand, outputs_stand, match_stands}
 
 elements_within : (before count : ℕ) → count ≤ STORE_ELEMENTS → before + count ≤ ALL_ELEMENTS → too_many_elements before count ≡ false
-elements_within before count few all = ap (λ b. b || nat_lt ALL_ELEMENTS (before + count)) (not_less STORE_ELEMENTS count few) ∙ not_less ALL_ELEMENTS (before + count) all
+elements_within before count few all = ap (λ b. b || nat_lt ALL_ELEMENTS (before + count)) (le-ltb STORE_ELEMENTS count few) ∙ le-ltb ALL_ELEMENTS (before + count) all
 
 flags_small : (using_keys : Bool) (key : RuleKey) → IsWritableKey using_keys key → key_flags key < 2 ^ 32
 flags_small false Any h = lit< tt
@@ -41,14 +42,11 @@ flags_small true Any h = absurd h
 flags_small true (Char unit) h = lit< tt
 flags_small true (Virtual flags code) h = omega (arith, and_le_r flags SHIFT_FLAGS, h.1)
 
-itself : (n : ℕ) → nat_eq n n ≡ true
-itself n = grind arith
-
 flags_known : (using_keys : Bool) (key : RuleKey) → IsWritableKey using_keys key → (using_keys && not (nat_eq (bit_and (key_flags key) SHIFT_FLAGS) (key_flags key))) ≡ false
 flags_known false key h = refl
 flags_known true Any h = absurd h
 flags_known true (Char unit) h = refl
-flags_known true (Virtual flags code) h = ap (λ n. not (nat_eq n flags)) h.1 ∙ ap not (itself flags)
+flags_known true (Virtual flags code) h = ap (λ n. not (nat_eq n flags)) h.1 ∙ ap not (eq-eqb flags flags refl)
 
 flag_small : (b : Bool) → flag b < 2 ^ 32
 flag_small false = lit< tt
@@ -132,7 +130,7 @@ module _ (bytes : List ℕ) (small : length bytes < 2 ^ 32) where
       (unbroken_by 0x0A (at + 8) _ (ap (λ n. using_keys && not (nat_eq (bit_and n SHIFT_FLAGS) n)) flags_are ∙ flags_known using_keys rule.key writable.key))
       (both _ _ (context_string_clean bytes (at + 16) place rule.context positive writable.context context_is context_string)
       (both _ _ (string_clean unit_item_of_output bytes of.Output targets (at + 12) second (nat_lt OUTPUT_ITEMS) rule.output behind writable.output.items stand
-      (not_less OUTPUT_ITEMS (length rule.output) writable.output.item_count) output_is output_string) refl))
+      (le-ltb OUTPUT_ITEMS (length rule.output) writable.output.item_count) output_is output_string) refl))
 
   rules_clean : (using_keys : Bool) (at place : ℕ) (rules : List Rule) → 0 < place → All (IsWritableRule (store_count bytes) (group_count bytes) using_keys) rules
       → StandsAt bytes at (rule_records place rules) → StandsAt bytes place (flat_map rule_strings rules) → records_fault bytes using_keys at (length rules) ≡ None
@@ -187,16 +185,16 @@ module _ (bytes : List ℕ) (small : length bytes < 2 ^ 32) where
       let flag_is : word_at bytes (at + 20) ≡ flag group.using_keys = nth_word_at bytes at ns 5 (lit< tt) (flag_small group.using_keys) fields in
       let keys_are : uses_keys_at bytes at ≡ group.using_keys = ap (λ n. not (nat_eq n 0)) flag_is ∙ flag_read group.using_keys in
       let in_place : records_place_fault bytes before at ≡ None =
-      both _ _ (unbroken _ (at + 16) _ (ap (λ n. nat_lt RECORDS (before + n)) count_is ∙ not_less RECORDS (before + count) few))
+      both _ _ (unbroken _ (at + 16) _ (ap (λ n. nat_lt RECORDS (before + n)) count_is ∙ le-ltb RECORDS (before + count) few))
       (both _ _ (unbroken _ (at + 4) _ (ap₂ (λ n place. nat_lt 0 n && not (is_within bytes place (20 * n))) count_is rules_are ∙ array_fits group.rules bytes rules_at 20 within)) refl) in
       let named : group_strings_fault bytes at ≡ None =
       both _ _ (name_clean bytes at place group.name positive writable.name name_is name_string)
       (both _ _ (string_clean unit_item_of_output bytes of.Match [] (at + 8) second (nat_lt OUTPUT_ITEMS) group.on_match (omega (arith, positive)) writable.on_match.itself.items
       (match_stands bytes group.on_match writable.on_match.itself.stores writable.on_match.itself.groups writable.on_match.no_context)
-      (not_less OUTPUT_ITEMS (length group.on_match) writable.on_match.itself.item_count) match_is match_string)
+      (le-ltb OUTPUT_ITEMS (length group.on_match) writable.on_match.itself.item_count) match_is match_string)
       (both _ _ (string_clean unit_item_of_output bytes of.Match [] (at + 12) third (nat_lt OUTPUT_ITEMS) group.on_nomatch (omega (arith, positive)) writable.on_nomatch.itself.items
       (match_stands bytes group.on_nomatch writable.on_nomatch.itself.stores writable.on_nomatch.itself.groups writable.on_nomatch.no_context)
-      (not_less OUTPUT_ITEMS (length group.on_nomatch) writable.on_nomatch.itself.item_count) nomatch_is nomatch_string) refl)) in
+      (le-ltb OUTPUT_ITEMS (length group.on_nomatch) writable.on_nomatch.itself.item_count) nomatch_is nomatch_string) refl)) in
       let by_fields : records_fault bytes (uses_keys_at bytes at) (word_at bytes (at + 4)) (word_at bytes (at + 16)) ≡ records_fault bytes group.using_keys (offset_of group.rules rules_at) count =
       λ i. records_fault bytes (keys_are i) (rules_are i) (count_is i) in
       (both _ _ in_place (both _ _ named (both _ _ (by_fields ∙ rules_clean_at group.using_keys rules_at strings_at group.rules rules_positive writable.rules records rules_strings) refl)), count_is)
@@ -268,7 +266,7 @@ picture_fits : (picture bytes : List ℕ) (place : ℕ) → place + length pictu
     → (nat_lt 0 (length picture) && (not (is_within bytes (offset_of picture place) (length picture)) || nat_lt PICTURE_BYTES (length picture))) ≡ false
 picture_fits [] bytes place h few = refl
 picture_fits (byte ∷ picture) bytes place h few =
-    ap₂ (λ a b. nat_lt 0 (length (byte ∷ picture)) && (not a || b)) (le-leb _ _ h) (not_less PICTURE_BYTES (length (byte ∷ picture)) few) ∙ grind arith
+    ap₂ (λ a b. nat_lt 0 (length (byte ∷ picture)) && (not a || b)) (le-leb _ _ h) (le-ltb PICTURE_BYTES (length (byte ∷ picture)) few) ∙ grind arith
 
 start_small : (tables : Tables) → IsWritable tables → tables.start_ansi < 2 ^ 32
 start_small tables writable =
@@ -313,13 +311,13 @@ file_of_valid tables picture writable picture_size fits =
     subst (λ (n : ℕ). All (IsWritableGroup n (group_count bytes)) tables.groups) (sym store_number)
     (subst (λ (n : ℕ). All (IsWritableGroup (length tables.stores) n) tables.groups) (sym group_number) writable.groups) in
     let size_is : size_fault bytes ≡ None =
-    both _ _ (unbroken _ 0 _ (not_less FILE_BYTES (length bytes) fits)) (both _ _ (unbroken _ (length bytes) _ (not_less (length bytes) 64 long)) refl) in
+    both _ _ (unbroken _ 0 _ (le-ltb FILE_BYTES (length bytes) fits)) (both _ _ (unbroken _ (length bytes) _ (le-ltb (length bytes) 64 long)) refl) in
     let head_is : header_fault bytes ≡ None =
     both _ _ (unbroken_not _ 0 _ (ap (λ n. nat_eq n 0x5354_584B) identifier ∙ refl))
     (both _ _ (unbroken_not _ 4 _ (ap is_version version ∙ writable.version))
     (both _ _ (unbroken _ 48 _ (ap (nat_lt 0x1F) no_flags ∙ refl))
-    (both _ _ (unbroken _ 24 _ (ap (nat_lt STORES) store_number ∙ not_less STORES (length tables.stores) writable.store_count))
-    (both _ _ (unbroken _ 28 _ (ap (nat_lt GROUPS) group_number ∙ not_less GROUPS (length tables.groups) writable.group_count))
+    (both _ _ (unbroken _ 24 _ (ap (nat_lt STORES) store_number ∙ le-ltb STORES (length tables.stores) writable.store_count))
+    (both _ _ (unbroken _ 28 _ (ap (nat_lt GROUPS) group_number ∙ le-ltb GROUPS (length tables.groups) writable.group_count))
     (both _ _ (unbroken _ 44 _ (ap (λ n. nat_eq n no_group) unicode ∙ not_none tables.start_unicode (length tables.groups) writable.start_unicode writable.group_count))
     (both _ _ (unbroken _ 40 _ (ap₂ (λ n g. not (nat_eq n no_group) && not (nat_lt n g)) ansi group_number ∙ none_where tables.start_ansi (length tables.groups) writable.start_ansi))
     (both _ _ (unbroken_not _ 44 _ (ap₂ nat_lt unicode group_number ∙ less tables.start_unicode (length tables.groups) writable.start_unicode)) refl))))))) in

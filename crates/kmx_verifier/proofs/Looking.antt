@@ -3,7 +3,7 @@ use Rattle.std.proofs.Common.{◌≡◌, ℕ, zero, suc, ◌+◌, ◌*◌, ◌-�
 use Rattle.std.specs.Prelude.{Ok, Err, nat_le, if◌then◌else◌}
 use Rattle.std.specs.List.{All, list_any}
 use Rattle.std.specs.Int.{w32, from_le_bytes}
-use Rattle.std.proofs.lemmas.List.{drop-drop}
+use Rattle.std.proofs.lemmas.List.{drop-drop, drop-take, take-take}
 use Rattle.std.proofs.lemmas.List.Elements.{All-head, All-tail}
 use Rattle.kmn_base.specs.Spelling.{unit_bytes, whole_units}
 use Rattle.kmn_base.specs.declared.codes.Code.TheVariants.{V01, V02, V03, V04, V05, V06, V07, V08, V09, V10, V12, V13, V15, V16}
@@ -25,25 +25,6 @@ use Rattle.kmx_verifier.proofs.Written.{parted}
 
 -- ---- bytes that are the same
 
-none_taken : (k : ℕ) → ◌≡◌ {A = List ℕ} (take k []) []
-none_taken zero = refl
-none_taken (suc k) = refl
-
-drop-taken : (d n : ℕ) (xs : List ℕ) → drop d (take (d + n) xs) ≡ take n (drop d xs)
-drop-taken zero n xs =
-    let none : 0 + n ≡ n = omega arith in
-    ap (λ k. take k xs) none
-drop-taken (suc d) n [] = ap (drop (suc d)) (none_taken (suc d + n)) ∙ sym (none_taken n)
-drop-taken (suc d) n (x ∷ xs) =
-    let one : suc d + n ≡ suc (d + n) = omega arith in
-    ap (λ k. drop (suc d) (take k (x ∷ xs))) one ∙ drop-taken d n xs
-
-take-taken : (n m : ℕ) (xs : List ℕ) → n ≤ m → take n (take m xs) ≡ take n xs
-take-taken zero m xs h = refl
-take-taken (suc n) zero xs h = absurd (omega (arith, h))
-take-taken (suc n) (suc m) [] h = refl
-take-taken (suc n) (suc m) (x ∷ xs) h = ap (λ (ys : List ℕ). x ∷ ys) (take-taken n m xs (omega (arith, h)))
-
 module _ (bytes other : List ℕ) (same_length : length bytes ≡ length other) where
   -- bytes within a range that is the same
   same_part : (range : Range) (d n : ℕ) → d + n ≤ range.size → IsSameAt bytes other range
@@ -52,9 +33,9 @@ module _ (bytes other : List ℕ) (same_length : length bytes ≡ length other) 
       let part : (xs : List ℕ) → take n (drop (range.place + d) xs) ≡ take n (drop d (take range.size (drop range.place xs))) =
       λ xs.
       ap (take n) (sym (drop-drop d range.place xs))
-      ∙ sym (drop-taken d n (drop range.place xs))
-      ∙ ap (drop d) (sym (take-taken (d + n) range.size (drop range.place xs) within))
-      ∙ drop-taken d n (take range.size (drop range.place xs)) in
+      ∙ sym (drop-take d n (drop range.place xs))
+      ∙ ap (drop d) (sym (take-take (d + n) range.size (drop range.place xs) within))
+      ∙ drop-take d n (take range.size (drop range.place xs)) in
       part bytes ∙ ap (λ (ys : List ℕ). take n (drop d ys)) same ∙ sym (part other)
 
   same_word : (range : Range) (d : ℕ) → d + 4 ≤ range.size → IsSameAt bytes other range → word_at bytes (range.place + d) ≡ word_at other (range.place + d)

@@ -2,7 +2,7 @@
 use Rattle.std.proofs.Common.{◌≡◌, ◌≢◌, ℕ, zero, suc, ◌+◌, ◌^◌, ◌<◌, ◌≤◌, ◌⊎◌, Bool, true, false, not, ◌&&◌, nat_eq, nat_lt, List, [], length, map, None, refl, sym, ap, subst, ◌∙◌, arith, length-append, lit≤, bit_and}
 use Rattle.std.specs.Prelude.{if◌then◌else◌}
 use Rattle.std.specs.List.{All, flat_map}
-use Rattle.std.proofs.lemmas.Bool.{eqb-true, not-false}
+use Rattle.std.proofs.lemmas.Bool.{eqb-true, not-false, ltb-false}
 use Rattle.std.proofs.lemmas.List.Elements.{All-nil, All-cons, All-weaker}
 use Rattle.kmn_base.specs.declared.keys.RuleKey.TheVariants as key
 use Rattle.kmn_base.specs.declared.keys.TheConstants.{SHIFT_FLAGS}
@@ -38,9 +38,6 @@ context_walk : (bytes : List ℕ) (place : ℕ) → context_string_fault bytes p
 context_walk bytes place h =
     let parts = or_else-none (read_context_fault bytes place) _ h in
     ((or_else-none _ _ parts.0).1, broken-none _ place _ parts.1)
-
-not_more : (limit n : ℕ) → nat_lt limit n ≡ false → n ≤ limit
-not_more limit n h = grind (arith, h)
 
 elements_fit : (before count : ℕ) → too_many_elements before count ≡ false → (count ≤ STORE_ELEMENTS) × (before + count ≤ ALL_ELEMENTS)
 elements_fit before count h = (grind (arith, h), grind (arith, h))
@@ -108,7 +105,7 @@ module _ (bytes : List ℕ) (are_bytes : AreBytes bytes) where
       let third = or_else-none _ _ second.1 in
       let walk = context_walk bytes (place + 16) second.0 in
       let read : ContextRead bytes (string_at bytes context_offset) (patterns_at bytes context_offset) =
-      context_read bytes (string_at bytes context_offset) context_offset (string_at-small bytes context_offset are_bytes) walk.0 (not_more CONTEXT_ITEMS (item_count bytes context_offset) walk.1) in
+      context_read bytes (string_at bytes context_offset) context_offset (string_at-small bytes context_offset are_bytes) walk.0 (ltb-false CONTEXT_ITEMS (item_count bytes context_offset) walk.1) in
       let targets : List Target = context_targets bytes context_offset in
       let context : List Pat = patterns_at bytes context_offset in
       let outputs : List Out = outputs_at bytes output_offset in
@@ -124,7 +121,7 @@ module _ (bytes : List ℕ) (are_bytes : AreBytes bytes) where
           items = content.spellable;
           stores = outputs_stores bytes of.Output targets outputs content.stand;
           groups = outputs_groups bytes of.Output targets outputs content.stand;
-          item_count = omega (arith, content.count, not_more OUTPUT_ITEMS (item_count bytes output_offset) out.1);
+          item_count = omega (arith, content.count, ltb-false OUTPUT_ITEMS (item_count bytes output_offset) out.1);
         };
         offsets = All-weaker (λ o. ItemStands bytes of.Output targets (unit_item_of_output o)) (PointsInto context)
             (λ o s. points_into context o (subst (λ (ts : List Target). points_right ts (unit_item_of_output o) ≡ true) same s.points)) outputs content.stand;
@@ -152,7 +149,7 @@ module _ (bytes : List ℕ) (are_bytes : AreBytes bytes) where
           items = content.spellable;
           stores = outputs_stores bytes of.Match [] outputs content.stand;
           groups = outputs_groups bytes of.Match [] outputs content.stand;
-          item_count = omega (arith, content.count, not_more OUTPUT_ITEMS (item_count bytes offset) walk.1);
+          item_count = omega (arith, content.count, ltb-false OUTPUT_ITEMS (item_count bytes offset) walk.1);
         };
         no_context = All-weaker (λ o. ItemStands bytes of.Match [] (unit_item_of_output o)) (λ o. needs_context o ≡ false) (λ o s. acts_alone o s.stands) outputs content.stand;
       }
@@ -171,7 +168,7 @@ module _ (bytes : List ℕ) (are_bytes : AreBytes bytes) where
           on_match = match_playable (place + 8) strings.0;
           on_nomatch = match_playable (place + 12) last.0;
         },
-        not_more RECORDS (before + word_at bytes (place + 16)) count,
+        ltb-false RECORDS (before + word_at bytes (place + 16)) count,
       )
 
   groups_playable : (before place count : ℕ) → before ≤ RECORDS → groups_fault bytes before place count ≡ None
@@ -216,7 +213,7 @@ module _ (bytes : List ℕ) (are_bytes : AreBytes bytes) where
       let ansi = or_else-none _ _ no_unicode.1 in
       let unicode = or_else-none _ _ ansi.1 in
       let known : is_version (word_at bytes 4) ≡ true = not-false _ (broken-none _ 4 _ version.0) in
-      let lower : half_at bytes 4 ≡ word_at bytes 4 = half_at-word bytes 4 are_bytes (omega (arith, not_more (length bytes) 64 long)) (version-small (word_at bytes 4) known) in
+      let lower : half_at bytes 4 ≡ word_at bytes 4 = half_at-word bytes 4 are_bytes (omega (arith, ltb-false (length bytes) 64 long)) (version-small (word_at bytes 4) known) in
       let store_total = stores_playable 0 (word_at bytes 32) (store_count bytes) (lit≤ tt) stores.0 in
       let group_total = groups_playable 0 (word_at bytes 36) (group_count bytes) (lit≤ tt) groups.0 in
       let store_number : length (stores_from bytes (word_at bytes 32) (store_count bytes)) ≡ store_count bytes = length-stores_from bytes (word_at bytes 32) (store_count bytes) in
@@ -228,8 +225,8 @@ module _ (bytes : List ℕ) (are_bytes : AreBytes bytes) where
         stores = store_total.0;
         groups = subst (λ (n : ℕ). All (IsPlayableGroup n (length (groups_from bytes (word_at bytes 36) (group_count bytes)))) (groups_from bytes (word_at bytes 36) (group_count bytes))) (sym store_number)
             (subst (λ (n : ℕ). All (IsPlayableGroup (store_count bytes) n) (groups_from bytes (word_at bytes 36) (group_count bytes))) (sym group_number) group_total.0);
-        store_count = omega (arith, store_number, not_more STORES (store_count bytes) (broken-none _ 24 _ many_stores.0));
-        group_count = omega (arith, group_number, not_more GROUPS (group_count bytes) (broken-none _ 28 _ many_groups.0));
+        store_count = omega (arith, store_number, ltb-false STORES (store_count bytes) (broken-none _ 24 _ many_stores.0));
+        group_count = omega (arith, group_number, ltb-false GROUPS (group_count bytes) (broken-none _ 28 _ many_groups.0));
         rule_count = omega (arith, group_total.1);
         element_count = omega (arith, store_total.1);
       }

@@ -1,9 +1,9 @@
 -- Strings of tables that a file can have, where they stand in the file, have no fault.
-use Rattle.std.proofs.Common.{◌≡◌, ◌≢◌, ℕ, zero, suc, ◌+◌, ◌<◌, ◌≤◌, Bool, true, false, ◌||◌, nat_eq, nat_lt, List, [], ◌∷◌, ◌++◌, length, map, take, drop, Option, Some, None, refl, sym, ap, subst, ◌∙◌, append_assoc, append-nil, arith}
+use Rattle.std.proofs.Common.{◌≡◌, ◌≢◌, ℕ, zero, suc, ◌+◌, ◌<◌, Bool, true, false, ◌||◌, nat_eq, nat_lt, List, [], ◌∷◌, ◌++◌, length, map, take, drop, Option, Some, None, refl, sym, ap, subst, ◌∙◌, append_assoc, append-nil, arith, not}
 use Rattle.std.specs.Prelude.{Ok, slice_get, slice_index_or, IsSomeAnd}
 use Rattle.std.specs.List.{All, flat_map, list_any}
 use Rattle.std.specs.Str.{chars}
-use Rattle.std.proofs.lemmas.Bool.{or_right}
+use Rattle.std.proofs.lemmas.Bool.{or_right, le-ltb}
 use Rattle.std.proofs.lemmas.List.{length-map}
 use Rattle.std.proofs.lemmas.List.Elements.{All-nil, All-cons, All-head, All-tail, All-append, All-map}
 use Rattle.kmn_base.specs.declared.codes.Code.TheVariants.{V10, V15}
@@ -34,7 +34,7 @@ use Rattle.kmx_verifier.specs.Items.{target_at, may_stand, stores_named, groups_
 use Rattle.kmx_verifier.specs.FaultOf.{walk_fault, context_fault, read_at, item_count, string_fault, context_string_fault, name_fault}
 use Rattle.kmx_verifier.proofs.Sound.{ItemStands, ItemsStand, ContextStands}
 use Rattle.kmx_verifier.proofs.Clean.{both, unbroken, unbroken_not, walk_clean, context_clean}
-use Rattle.kmx_verifier.proofs.Contents.{targets_of, targets_more}
+use Rattle.kmx_verifier.proofs.Contents.{targets_of, targets_more, stands_alone}
 
 -- ---- strings that end
 
@@ -60,9 +60,6 @@ units-nonzero (c ∷ cs) h =
     All-append (λ unit. unit ≢ 0) (char_units c) (flat_map char_units cs) (char_units-nonzero c (All-head (λ d. (d ≢ 0) × (d ≢ 0xFFFF)) c cs h).0)
     (units-nonzero cs (All-tail (λ d. (d ≢ 0) × (d ≢ 0xFFFF)) c cs h))
 
-pub not_less : (limit n : ℕ) → n ≤ limit → nat_lt limit n ≡ false
-not_less limit n h = grind (arith, h)
-
 pub name_clean : (bytes : List ℕ) (word place : ℕ) (name : List ℕ) → 0 < place → IsWritableName name → word_at bytes word ≡ offset_of (name_units name) place
     → StandsAt bytes place (string (name_units name)) → name_fault bytes word ≡ None
 unfolding name_units
@@ -70,7 +67,7 @@ name_clean bytes word place name positive writable word_is h =
     let read : string_at bytes (word_at bytes word) ≡ flat_map char_units (chars name) =
     ap (string_at bytes) word_is ∙ string_at-stands bytes place (flat_map char_units (chars name)) positive (units-nonzero (chars name) writable.characters) h in
     both _ _ (unbroken_not V10 word _ (ap (is_ended bytes) word_is ∙ is_ended-stands bytes place (flat_map char_units (chars name)) h))
-    (both _ _ (unbroken V15 word _ (ap (λ (us : List ℕ). nat_lt FILE_NAME_UNITS (length us)) read ∙ not_less FILE_NAME_UNITS (length (flat_map char_units (chars name))) writable.units)) refl)
+    (both _ _ (unbroken V15 word _ (ap (λ (us : List ℕ). nat_lt FILE_NAME_UNITS (length us)) read ∙ le-ltb FILE_NAME_UNITS (length (flat_map char_units (chars name))) writable.units)) refl)
 
 -- ---- items
 
@@ -253,20 +250,6 @@ output_may output.Nul = refl
 output_may output.Beep = refl
 output_may output.Stop = refl
 
-match_may : (o : Out) → needs_context o ≡ false → may_stand of.Match (unit_item_of_output o) ≡ true
-match_may (output.Char c) h = refl
-match_may (output.Mark mark) h = refl
-match_may (output.Index store offset) h = absurd (cc)
-match_may output.Context h = absurd (cc)
-match_may (output.ContextAt offset) h = absurd (cc)
-match_may (output.Enter group) h = refl
-match_may (output.Set store value) h = refl
-match_may (output.Save store) h = refl
-match_may (output.Reset store) h = refl
-match_may output.Nul h = refl
-match_may output.Beep h = refl
-match_may output.Stop h = refl
-
 match_points : (o : Out) → needs_context o ≡ false → points_right [] (unit_item_of_output o) ≡ true
 match_points (output.Char c) h = refl
 match_points (output.Mark mark) h = refl
@@ -321,7 +304,7 @@ match_stands bytes (o ∷ outputs) s g h =
     let stores = parted (λ store. store < store_count bytes) (stores_of_output o) (flat_map stores_of_output outputs) s in
     let groups = parted (λ group. group < group_count bytes) (groups_of_output o) (flat_map groups_of_output outputs) g in
     let alone : needs_context o ≡ false = All-head (λ q. needs_context q ≡ false) o outputs h in (
-      record { stands = match_may o alone; named = output_names (store_count bytes) (group_count bytes) o stores.0 groups.0; points = match_points o alone },
+      record { stands = stands_alone o ∙ ap not alone; named = output_names (store_count bytes) (group_count bytes) o stores.0 groups.0; points = match_points o alone },
       match_stands bytes outputs stores.1 groups.1 (All-tail (λ q. needs_context q ≡ false) o outputs h),
     )
 
@@ -349,4 +332,4 @@ context_string_clean bytes word place context positive h word_is stands =
     (both _ _ (unbroken_not V10 word _ (ap (is_ended bytes) word_is ∙ w.ended))
     (ap (context_fault bytes [] (word_at bytes word)) (ap (read_at bytes) word_is ∙ w.read)
     ∙ context_clean bytes [] (word_at bytes word) (map unit_item_of_pattern context) (context_stands_behind bytes [] context h.offsets h.stores)))
-    (unbroken V15 word _ (ap (λ o. nat_lt CONTEXT_ITEMS (item_count bytes o)) word_is ∙ ap (nat_lt CONTEXT_ITEMS) w.count ∙ not_less CONTEXT_ITEMS (length context) h.item_count))
+    (unbroken V15 word _ (ap (λ o. nat_lt CONTEXT_ITEMS (item_count bytes o)) word_is ∙ ap (nat_lt CONTEXT_ITEMS) w.count ∙ le-ltb CONTEXT_ITEMS (length context) h.item_count))
