@@ -107,7 +107,7 @@ impl<'a> Session<'a> {
     ghost use Rattle.play_session.specs.Printed.{name_of, value_of};
 
     /// A session before its first event: an empty text, each option with its elements, and none saved.
-    pub fn start(alloc: Global, file: &'a Verified<'a>) -> Result<Session<'a>, Memory>
+    pub fn start(alloc: Global, file: &Verified<'a>) -> Result<Session<'a>, Memory>
         ensures { IfOk result (λ session. session ≡ first_session (tables_of file.now)) }
     {
         let engine = Engine::start(alloc, file)?;
@@ -132,6 +132,15 @@ impl<'a> Session<'a> {
             typed: true,
             changes: Vec::with_capacity(alloc, room)?,
         })
+    }
+
+    /// A new session on the same file, as `start` gives it. The file isn't walked again: both share what is looked up in it.
+    pub fn fresh(&self, alloc: Global) -> Result<Session<'a>, Memory>
+        ensures { IfOk result (λ session. session ≡ first_session self.now.tables) }
+    {
+        let stores = self.engine.file().store_count();
+        let engine = self.engine.fresh(alloc)?;
+        Session::with_engine(alloc, engine, stores)
     }
 
     /// A session on the same file and in the same state. What one of both does then changes nothing of the other.
