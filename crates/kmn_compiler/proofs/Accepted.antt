@@ -32,6 +32,7 @@ use Rattle.compile_laws.specs.Ordered.{compiled_tables}
 use Rattle.compile_laws.specs.WellNamed.{IsWellNamed, is_known_group, is_known_rule}
 use Rattle.compile_laws.proofs.Ordered.{tables_are_only_ones, program_compiles}
 use Rattle.compile_laws.proofs.Whole.{meaning_kept, transcript_kept}
+use Rattle.kmx_verifier.proofs.FileValid.{file_valid}
 use Rattle.kmn_compiler.specs.Source.{CompilesTo}
 use Rattle.kmn_compiler.specs.declared.compiling.Compiled.{Compiled}
 use Rattle.kmn_compiler.proofs.Meaning.{read_again, means}
@@ -112,6 +113,7 @@ compiled_from program picture compiled h compiles bytes file kept =
         within = subst (λ (t : Tables). excess t picture ≡ None) same kept;
         writable = writable;
         file = file;
+        valid = file_valid compiled.bytes file;
         means = means program compiled.tables compiled.bytes h.named compiles read file;
         keyboard = ap tab read ∙ same_meaning compiled.tables;
       },

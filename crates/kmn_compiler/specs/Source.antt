@@ -12,9 +12,10 @@ use Rattle.kmx_writer.specs.Excess.{excess}
 use Rattle.compile_laws.specs.Compiles.{Compiles}
 use Rattle.compile_laws.specs.Means.{Means}
 use Rattle.compile_laws.specs.Ordered.{compiled_tables}
+use Rattle.kmx_verifier.specs.FaultOf.{IsValid}
 use Rattle.kmn_compiler.specs.declared.compiling.Compiled.{Compiled}
 
--- a compiled file is that of the tables which the program compiles to, with the picture, and means the program
+-- a compiled file is that of the tables which the program compiles to, with the picture; it is valid, and means the program
 pub record IsCompiledFrom (program : Program) (picture : List ℕ) (compiled : Compiled) : Type 0 where
   pub compiles : Compiles program compiled.tables
   pub tables : compiled.tables ≡ compiled_tables program
@@ -22,6 +23,7 @@ pub record IsCompiledFrom (program : Program) (picture : List ℕ) (compiled : C
   pub within : excess (compiled_tables program) picture ≡ None
   pub writable : IsWritable compiled.tables
   pub file : IsFile compiled.bytes
+  pub valid : IsValid compiled.bytes
   pub means : Means compiled.bytes program
   pub keyboard : tab (tables_of compiled.bytes) ≡ tab compiled.tables
 

@@ -1,12 +1,13 @@
 //! The compiler: the file of a source.
 //!
 //! It stands on `kmn_parser` and `rule_checker`, which read a source and refuse what a keyboard may not have, on
-//! `rule_expand` and `rule_order`, which make tables of a checked program, on `kmx_writer` for the bytes, and on
-//! `compile_laws` and `checker_laws` for what holds of such tables. The layer above calls `front`, `picture_name` and
-//! `back`, or `compile`, which is all of it for a picture that is at hand. Its bytes are the file of the tables that the
-//! source's program compiles to, and mean the program, so that both take the same steps whatever events come (`CompilesTo`
-//! of `specs/Source`); a refusal is the source's first. What holds of each program that a source is accepted with, whether
-//! or not it was compiled, is the contracts of `laws`, functions with empty bodies.
+//! `rule_expand` and `rule_order`, which make tables of a checked program, on `kmx_writer` for the bytes, on `compile_laws`
+//! and `checker_laws` for what holds of such tables, and on `kmx_verifier` for what a valid file is. The layer above calls
+//! `front`, `picture_name` and `back`, or `compile`, which is all of it for a picture that is at hand. Its bytes are the file
+//! of the tables that the source's program compiles to; they are valid, so that no opening refuses them, and mean the
+//! program, so that both take the same steps whatever events come (`CompilesTo` of `specs/Source`). A refusal is the source's
+//! first. What holds of each program that a source is accepted with, whether or not it was compiled, is the contracts of
+//! `laws`, functions with empty bodies.
 #![tactic(auto)]
 
 mod compiling;
