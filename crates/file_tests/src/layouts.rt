@@ -8,7 +8,7 @@ use std::test::Fail;
 use touch_layout::{LayoutError, LayoutFault, check_layout};
 
 /// Layouts, and the count of their keys or the rule that they break, with platform, layer, row and key.
-const LAYOUTS: &[(&str, Result<u32, (Code, u32, u32, u32, u32)>)] = &[
+const LAYOUTS: &[(&str, Result<usize, (Code, u32, usize, usize, usize)>)] = &[
     ("", Err((Code::T1, 0, 0, 0, 0))),
     ("\u{FEFF}{}", Ok(0)),
     ("[]", Err((Code::T2, 0, 0, 0, 0))),
@@ -44,7 +44,7 @@ const LAYOUTS: &[(&str, Result<u32, (Code, u32, u32, u32, u32)>)] = &[
 ];
 
 /// The keys of the one row of a tablet's layer `a`, and their count or the rule that is broken, with the key.
-const ROWS: &[(&str, Result<u32, (Code, u32)>)] = &[
+const ROWS: &[(&str, Result<usize, (Code, usize)>)] = &[
     (r#"{},{"id":1}"#, Err((Code::T2, 2))),
     (r#"{"id":"x"},7"#, Err((Code::T2, 2))),
     (r#"{"id":"x","sk":[{"sp":null}]}"#, Err((Code::T2, 1))),
@@ -68,7 +68,7 @@ const ROWS: &[(&str, Result<u32, (Code, u32)>)] = &[
 
 /// The key, the layer that shift leads to and the second layer's id of a layout, and the count of its keys or the rule
 /// that it breaks, with layer, row and key.
-const SAMPLES: &[(&str, &str, &str, Result<u32, (Code, u32, u32, u32)>)] = &[
+const SAMPLES: &[(&str, &str, &str, Result<usize, (Code, usize, usize, usize)>)] = &[
     ("T_flip", "shift", "shift", Ok(7)),
     ("T_flop", "shift", "shift", Err((Code::T5, 1, 1, 2))),
     ("T_flip", "numeric", "shift", Err((Code::T4, 1, 1, 3))),
@@ -127,7 +127,7 @@ fn gives(
     alloc: Global,
     text: &[u8],
     tables: &Tables,
-    wanted: Result<u32, LayoutFault>,
+    wanted: Result<usize, LayoutFault>,
 ) -> Result<bool, Fail> {
     match check_layout(alloc, text, tables) {
         Ok(count) => Ok(wanted == Ok(count)),
@@ -136,7 +136,7 @@ fn gives(
     }
 }
 
-fn fault(code: Code, platform: u32, layer: u32, row: u32, key: u32) -> LayoutFault {
+fn fault(code: Code, platform: u32, layer: usize, row: usize, key: usize) -> LayoutFault {
     LayoutFault {
         code,
         platform,
@@ -151,7 +151,7 @@ fn is_layout(
     alloc: Global,
     tables: &Tables,
     text: &str,
-    wanted: Result<u32, (Code, u32, u32, u32, u32)>,
+    wanted: Result<usize, (Code, u32, usize, usize, usize)>,
 ) -> Result<bool, Fail> {
     let wanted = wanted.map_err(|place| fault(place.0, place.1, place.2, place.3, place.4));
     gives(alloc, text.as_bytes(), tables, wanted)
@@ -162,7 +162,7 @@ fn is_row(
     alloc: Global,
     tables: &Tables,
     keys: &str,
-    wanted: Result<u32, (Code, u32)>,
+    wanted: Result<usize, (Code, usize)>,
 ) -> Result<bool, Fail> {
     let text = row(alloc, keys)?;
     let wanted = wanted.map_err(|place| fault(place.0, 2, 1, 1, place.1));
@@ -174,7 +174,7 @@ fn is_sample(
     alloc: Global,
     tables: &Tables,
     words: (&str, &str, &str),
-    wanted: Result<u32, (Code, u32, u32, u32)>,
+    wanted: Result<usize, (Code, usize, usize, usize)>,
 ) -> Result<bool, Fail> {
     let text = sample(alloc, words.0, words.1, words.2)?;
     let wanted = wanted.map_err(|place| fault(place.0, 1, place.1, place.2, place.3));

@@ -30,7 +30,7 @@ pub fn read_keys<F: Folder>(
     name: &[u8],
     tables: &Tables,
     folder: &mut F,
-) -> Result<u32, Stop>
+) -> Result<usize, Stop>
     ensures { Gives itself (keys_work tables.now name.now) F.Folder folder.old folder.new result }
 {
     let layout = folder
@@ -73,7 +73,7 @@ pub fn place_line(alloc: Global, fault: LayoutFault) -> Result<Text, Memory>
 
 /// The line of a layout that keeps all rules.
 #[tactic(auto, unfolding(crate::specs::Endings::sound_line))]
-pub fn sound_line(alloc: Global, count: u32) -> Result<Text, Memory>
+pub fn sound_line(alloc: Global, count: usize) -> Result<Text, Memory>
     ensures { IfOk result (λ line. line ≡ sound_line count) }
 {
     let line = format!(in alloc; "layout sound keys={count}\n")?;

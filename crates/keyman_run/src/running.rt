@@ -276,7 +276,7 @@ fn check_beside<F: Folder, S: Sink>(
 
 /// Prints the count of the keys of a layout.
 #[tactic(auto, using(play_transcript::proofs::PrintingLaws::none_begun))]
-fn tell_sound<S: Sink>(alloc: Global, count: u32, out: &mut S) -> Status
+fn tell_sound<S: Sink>(alloc: Global, count: usize, out: &mut S) -> Status
     ensures { Tells Status.Done (sound_line count) S.Sink out.old out.new result }
 {
     let Ok(line) = sound_line(alloc, count) else {

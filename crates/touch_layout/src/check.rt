@@ -151,7 +151,7 @@ fn check_value(
     root: &Value,
     keyboard: &IndexedTables<'_>,
     groups: &[Group],
-) -> Result<u32, LayoutError>
+) -> Result<usize, LayoutError>
     ensures count { IfOk result (λ count.
         (rules_fault (has_record (tab keyboard.now).dictionary groups.now) (read_layout (Some (view root.now))) ≡ None)
         × (count ≡ count_of (read_layout (Some (view root.now))))) }
@@ -166,14 +166,13 @@ fn check_value(
     if let Some(fault) = rules_fault(alloc, keyboard, groups, &found)? {
         return Err(LayoutError::Refused(fault));
     }
-    u32::try_from(found.keys.len()).map_err(|_| LayoutError::Memory)
+    Ok(found.keys.len())
 }
 
 /// The count of the keys of a layout, subkeys among them, where it breaks no rule for the keyboard of the tables; else
 /// the first rule that it breaks, in the order T7, T1, T2, T6 and then key by key T3, T4, T5, and of one rule the first
-/// by place. The form is that of Keyman's touch layouts; the rules are our own choice. A list of 4,294,967,295 items
-/// would be want of memory, and no text of 4,194,304 bytes has one.
-pub fn check_layout(alloc: Global, bytes: &[u8], tables: &Tables) -> Result<u32, LayoutError>
+/// by place. The form is that of Keyman's touch layouts; the rules are our own choice.
+pub fn check_layout(alloc: Global, bytes: &[u8], tables: &Tables) -> Result<usize, LayoutError>
     ensures count { IfOk result (λ count. (layout_fault bytes.now tables.now ≡ None) × (count ≡ key_count bytes.now)) }
     ensures refused { IfErr result (λ e. (fault : _) → e ≡ Refused fault
         → layout_fault bytes.now tables.now ≡ Some fault) }

@@ -9,9 +9,9 @@ use thiserror::Error;
 #[derive(Clone, Copy, Debug, PartialEq, Eq)]
 pub struct Place {
     pub platform: u32,
-    pub layer: u32,
-    pub row: u32,
-    pub key: u32,
+    pub layer: usize,
+    pub row: usize,
+    pub key: usize,
 }
 
 /// A rule that a layout breaks, and where: platform, layer, row and key from 1, or 0. A subkey has the number of its
@@ -20,9 +20,9 @@ pub struct Place {
 pub struct LayoutFault {
     pub code: Code,
     pub platform: u32,
-    pub layer: u32,
-    pub row: u32,
-    pub key: u32,
+    pub layer: usize,
+    pub row: usize,
+    pub key: usize,
 }
 
 /// Why a layout was not accepted.

@@ -37,8 +37,8 @@ fn list_in<'v>(value: &'v Value, name: &str) -> Option<&'v Vec<Value>>
 fn add_row<'v>(
     keys: &'v Vec<Value>,
     platform: u32,
-    layer: u32,
-    row: u32,
+    layer: usize,
+    row: usize,
     found: &mut Vec<TouchKey<'v>>,
 ) -> Result<(), Unfit>
     ensures { MatchResult result (λ _.
@@ -48,9 +48,6 @@ fn add_row<'v>(
         row_keys platform layer row 1 (keys_view found.old.items) (items_view keys.now.items)
         ≡ Err place) }
 {
-    if keys.len() >= u32::MAX as usize {
-        return Err(Unfit::Memory);
-    }
     let mut key = 1;
     for value in keys {
         let place = Place {
@@ -73,7 +70,7 @@ fn add_row<'v>(
 fn add_rows<'v>(
     rows: &'v Vec<Value>,
     platform: u32,
-    layer: u32,
+    layer: usize,
     found: &mut Vec<TouchKey<'v>>,
 ) -> Result<(), Unfit>
     ensures { MatchResult result (λ _.
@@ -83,9 +80,6 @@ fn add_rows<'v>(
         layer_rows platform layer 1 (keys_view found.old.items) (items_view rows.now.items)
         ≡ Err place) }
 {
-    if rows.len() >= u32::MAX as usize {
-        return Err(Unfit::Memory);
-    }
     let mut row = 1;
     for value in rows {
         let Some(keys) = list_in(value, "key") else {
@@ -113,7 +107,7 @@ pub struct Found<'v> {
 fn add_layer<'v>(
     value: &'v Value,
     platform: u32,
-    layer: u32,
+    layer: usize,
     found: &mut Found<'v>,
 ) -> Result<(), Unfit>
     ensures { MatchResult result (λ _.
@@ -158,9 +152,6 @@ fn add_layers<'v>(layers: &'v Vec<Value>, platform: u32, found: &mut Found<'v>) 
         platform_layers platform 1 (layout_view found.old.layers.items found.old.keys.items) (items_view layers.now.items)
         ≡ Err place) }
 {
-    if layers.len() >= u32::MAX as usize {
-        return Err(Unfit::Memory);
-    }
     let mut layer = 1;
     for value in layers {
         add_layer(value, platform, layer, found)?;
