@@ -77,9 +77,6 @@ two_by w l false e = grind (arith, nat_tests)
 two_more : (w l : ℕ) → nat_eq (2 + w) (suc (suc l)) ≡ nat_eq w l
 two_more w l = two_by w l (nat_eq w l) refl
 
-letter : (a : ℕ) (others : Bool) → (((a == 85) || (a == 117)) && others) ≡ true → is_quote a ≡ false
-letter a others e = grind (arith, nat_tests)
-
 closed_number : (a b c : ℕ) (bytes : List ℕ) → starts_number (a ∷ b ∷ c ∷ bytes) ≡ true → is_closed (a ∷ b ∷ c ∷ bytes) ≡ true
 closed_number a b c bytes e =
     let apart : is_quote a ≡ false = grind (arith, nat_tests) in

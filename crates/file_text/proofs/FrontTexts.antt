@@ -1,6 +1,6 @@
 -- The text of tables is that of their program.
 use Rattle.std.proofs.Common.{◌≡◌, ℕ, ◌+◌, Bool, true, false, nat_eq, if◌then◌else◌, List, [], ◌∷◌, ◌++◌, length, drop, Some, None, map, flat_map, refl, sym, ap, ◌∙◌, append_assoc, append-nil, codes}
-use Rattle.std.specs.Prelude.{slice_get, unwrap_or, option_map, filter_map}
+use Rattle.std.specs.Prelude.{slice_get, unwrap_or, option_map}
 use Rattle.std.specs.List.{range_with_len}
 use Rattle.std.specs.Fmt.{decimal}
 use lib.Utf8 as utf8
@@ -14,8 +14,10 @@ use Rattle.rule_model.specs.Tab.{tab_dictionary}
 use Rattle.kmn_parser.specs.Line.{system_stores}
 use Rattle.program_text.specs.Printed.{printed, sheet}
 use Rattle.program_text.specs.Items.{joined_items, value_token}
-use Rattle.program_text.specs.Statements.{store_pieces, begin_pieces, item_char}
+use Rattle.program_text.specs.Statements.{store_pieces, begin_pieces}
 use Rattle.program_text.specs.Programs.{program_text, group_lines}
+use Rattle.program_text.proofs.Stores.{chars-back}
+use Rattle.program_text.proofs.Lengths.{sheet_append}
 use Rattle.decompile_laws.specs.Items.{Names, group_called}
 use Rattle.decompile_laws.specs.Marks.{greatest_mark}
 use Rattle.decompile_laws.specs.Names.{named_stores}
@@ -24,11 +26,7 @@ use Rattle.file_text.specs.Texts.{call_text, version_line, marks_text, mark_line
 use Rattle.file_text.specs.Whole.{front_text, tables_text}
 use Rattle.file_text.proofs.LineTexts.{printed_marks, printed_keys}
 use Rattle.file_text.proofs.StoreTexts.{called_stores, printed_stores}
-use Rattle.file_text.proofs.WholeTexts.{sheet_append, sheets_append, printed_groups}
-
-chars_again : (text : List ℕ) → filter_map item_char (map source.Char text) ≡ text
-chars_again [] = refl
-chars_again (c ∷ text) = ap (λ (rest : List ℕ). c ∷ rest) (chars_again text)
+use Rattle.file_text.proofs.WholeTexts.{statements_append, printed_groups}
 
 -- each version is written in digits and a point
 plain_version : (a b c d e f g h i : Bool)
@@ -54,7 +52,7 @@ quoted_version version =
 printed_version : (version line : ℕ) (rest : List ℕ) → printed (store_pieces (version_store version line)) ++ 10 ∷ rest ≡ version_line version ++ rest
 unfolding system_stores
 printed_version version line rest =
-    ap (λ (text : List ℕ). (codes "store(&version) " ++ ((value_token text).text ++ [])) ++ 10 ∷ rest) (chars_again (version_text version))
+    ap (λ (text : List ℕ). (codes "store(&version) " ++ ((value_token text).text ++ [])) ++ 10 ∷ rest) (chars-back (version_text version))
     ∙ ap (λ (text : List ℕ). (codes "store(&version) " ++ (text ++ [])) ++ 10 ∷ rest) (quoted_version version)
     ∙ ap (λ (text : List ℕ). codes "store(&version) \"" ++ (text ++ 10 ∷ rest)) (append-nil (version_text version ++ 34 ∷ []))
     ∙ ap (λ (text : List ℕ). codes "store(&version) \"" ++ text) (append_assoc (version_text version) (34 ∷ []) (10 ∷ rest) ∙ sym (append_assoc (version_text version) (34 ∷ 10 ∷ []) rest))
@@ -124,13 +122,13 @@ text_of_tables tables =
     let left : List (List ℕ) = drop (length (mark_stores tables ++ key_stores tables)) (free_stores tables) in
     let top : List ℕ = front_text tables ++ stores_text names 0 tables.stores in
     let over : sheet (map store_pieces (front ++ stores)) ≡ top =
-    sheet_append store_pieces front stores
+    statements_append store_pieces front stores
     ∙ ap (λ (text : List ℕ). text ++ sheet (map store_pieces stores)) (printed_front tables)
     ∙ ap (λ (text : List ℕ). front_text tables ++ text) (printed_stores names line tables.stores (called_stores (named_stores tables) left [] 0 tables.stores)) in
     let under : sheet (map begin_pieces begins ++ flat_map group_lines groups) ≡ begins_text names tables.start_unicode tables.start_ansi ++ groups_text names 0 tables.groups =
-    sheets_append (map begin_pieces begins) (flat_map group_lines groups)
+    sheet_append (map begin_pieces begins) (flat_map group_lines groups)
     ∙ ap (λ (text : List ℕ). text ++ sheet (flat_map group_lines groups)) (begins_by names begin_line tables.start_unicode tables.start_ansi (nat_eq tables.start_ansi 0xFFFF_FFFF))
     ∙ ap (λ (text : List ℕ). begins_text names tables.start_unicode tables.start_ansi ++ text) (printed_groups names (1 + length (written_stores tables) + length begins) tables.groups) in
-    sheets_append (map store_pieces (front ++ stores)) (map begin_pieces begins ++ flat_map group_lines groups)
+    sheet_append (map store_pieces (front ++ stores)) (map begin_pieces begins ++ flat_map group_lines groups)
     ∙ ap (λ (text : List ℕ). text ++ sheet (map begin_pieces begins ++ flat_map group_lines groups)) over
     ∙ ap (λ (text : List ℕ). top ++ text) under

@@ -12,25 +12,14 @@ use Rattle.rule_model.specs.declared.tables.Out.{Out}
 use Rattle.rule_model.specs.declared.tables.Rule.{Rule}
 use Rattle.kmn_items.specs.TokenTexts.{LineToken}
 use Rattle.program_text.specs.Texts.{arrow}
-use Rattle.program_text.specs.Printed.{printed, piece_text, rows, sheet}
+use Rattle.program_text.specs.Printed.{printed, sheet}
 use Rattle.program_text.specs.Items.{item_pieces, key_pieces, spaced_items, joined_items}
 use Rattle.program_text.specs.Statements.{key_part}
 use Rattle.program_text.specs.Programs.{rule_line}
+use Rattle.program_text.proofs.Lengths.{printed_append}
 use Rattle.decompile_laws.specs.Items.{Names, back_element, back_pattern, back_output, back_key, key_called, some_items}
 use Rattle.decompile_laws.specs.Back.{back_rule, back_rules, back_statement}
 use Rattle.file_text.specs.Texts.{element_text, elements_text, pattern_text, context_text, output_text, outputs_text, some_outputs_text, key_text, virtual_text, rule_text, rules_text, statement_text, marks_text, keys_line}
-
--- a line's pieces and others are printed one after the other
-pub printed_append : (first second : List (Option LineToken)) → printed (first ++ second) ≡ printed first ++ printed second
-printed_append [] second = refl
-printed_append (piece ∷ pieces) second =
-    ap (λ (text : List ℕ). piece_text piece ++ text) (printed_append pieces second) ∙ sym (append_assoc (piece_text piece) (printed pieces) (printed second))
-
--- and so are lines
-pub rows_append : (first second : List (List ℕ)) → rows (first ++ second) ≡ rows first ++ rows second
-rows_append [] second = refl
-rows_append (line ∷ lines) second =
-    ap (λ (text : List ℕ). line ++ 10 ∷ text) (rows_append lines second) ∙ sym (append_assoc line (10 ∷ rows lines) (rows second))
 
 -- the elements of a store
 pub printed_elements : (names : Names) (elements : List Element) → printed (joined_items (map (back_element names) elements)) ≡ elements_text names elements

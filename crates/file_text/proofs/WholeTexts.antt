@@ -1,5 +1,6 @@
 -- The text of tables, part by part.
 use Rattle.std.proofs.Common.{◌≡◌, ℕ, zero, suc, ◌+◌, Bool, true, false, if◌then◌else◌, List, [], ◌∷◌, ◌++◌, length, drop, Option, map, flat_map, refl, sym, ap, ◌∙◌, append_assoc, codes, arith}
+use Rattle.std.proofs.lemmas.List.{map-append}
 use Rattle.std.specs.Prelude.{slice_get, unwrap_or}
 use Rattle.rule_model.specs.declared.program.RuleKind.TheVariants.{OnMatch, OnNoMatch}
 use Rattle.rule_model.specs.declared.program.GroupDef.{GroupDef}
@@ -9,23 +10,15 @@ use Rattle.kmn_items.specs.TokenTexts.{LineToken}
 use Rattle.program_text.specs.Printed.{printed, sheet}
 use Rattle.program_text.specs.Statements.{group_pieces}
 use Rattle.program_text.specs.Programs.{rule_line, group_lines}
+use Rattle.program_text.proofs.Lengths.{sheet_append}
 use Rattle.decompile_laws.specs.Items.{Names, group_called}
 use Rattle.decompile_laws.specs.Back.{back_rules, back_statement, back_group, back_groups, match_line, nomatch_line}
 use Rattle.file_text.specs.Texts.{rules_text, statement_text, group_text, groups_text, call_text}
 use Rattle.file_text.proofs.LineTexts.{printed_rules, printed_match, printed_nomatch}
 
 -- the lines of some statements and of others
-pub sheet_append : {X : Type 0} (line : X → List (Option LineToken)) (first second : List X) → sheet (map line (first ++ second)) ≡ sheet (map line first) ++ sheet (map line second)
-sheet_append line [] second = refl
-sheet_append line (x ∷ xs) second =
-    ap (λ (text : List ℕ). printed (line x) ++ 10 ∷ text) (sheet_append line xs second)
-    ∙ sym (append_assoc (printed (line x)) (10 ∷ sheet (map line xs)) (sheet (map line second)))
-
-pub sheets_append : (first second : List (List (Option LineToken))) → sheet (first ++ second) ≡ sheet first ++ sheet second
-sheets_append [] second = refl
-sheets_append (x ∷ xs) second =
-    ap (λ (text : List ℕ). printed x ++ 10 ∷ text) (sheets_append xs second)
-    ∙ sym (append_assoc (printed x) (10 ∷ sheet xs) (sheet second))
+pub statements_append : {X : Type 0} (line : X → List (Option LineToken)) (first second : List X) → sheet (map line (first ++ second)) ≡ sheet (map line first) ++ sheet (map line second)
+statements_append line first second = ap sheet (map-append line first second) ∙ sheet_append (map line first) (map line second)
 
 -- the line of a group, and what follows
 group_header : (group : GroupDef) (name : List ℕ) (using_keys : Bool) (rest : List ℕ) → group.name ≡ name → group.using_keys ≡ using_keys
@@ -47,8 +40,8 @@ printed_group names line name group =
     let second : List RuleDef = back_statement names OnMatch (match_line line group) group.on_match in
     let third : List RuleDef = back_statement names OnNoMatch (nomatch_line names line group) group.on_nomatch in
     ap (λ (text : List ℕ). printed (group_pieces (back_group names line name group)) ++ 10 ∷ text)
-    (sheet_append rule_line first (second ++ third)
-    ∙ ap (λ (text : List ℕ). sheet (map rule_line first) ++ text) (sheet_append rule_line second third)
+    (statements_append rule_line first (second ++ third)
+    ∙ ap (λ (text : List ℕ). sheet (map rule_line first) ++ text) (statements_append rule_line second third)
     ∙ ap (λ (text : List ℕ). text ++ (sheet (map rule_line second) ++ sheet (map rule_line third))) (printed_rules names (line + 1) group.rules)
     ∙ ap (λ (text : List ℕ). rules_text names group.rules ++ (text ++ sheet (map rule_line third))) (printed_match names (match_line line group) group.on_match)
     ∙ ap (λ (text : List ℕ). rules_text names group.rules ++ (statement_text names (codes "match") group.on_match ++ text)) (printed_nomatch names (nomatch_line names line group) group.on_nomatch))
@@ -81,7 +74,7 @@ printed_groups_from names line n called (group ∷ groups) e =
     let back : GroupDef = back_group names line name group in
     let next : ℕ = line + 1 + length back.rules in
     let is : name ≡ group_called names n = ap (λ (left : List (List ℕ)). unwrap_or (slice_get left 0) []) e ∙ ap (λ (found : Option (List ℕ)). unwrap_or found []) (first_left names.groups n) in
-    sheets_append (group_lines back) (flat_map group_lines (back_groups names next (drop 1 called) groups))
+    sheet_append (group_lines back) (flat_map group_lines (back_groups names next (drop 1 called) groups))
     ∙ ap (λ (text : List ℕ). text ++ sheet (flat_map group_lines (back_groups names next (drop 1 called) groups))) (printed_group names line name group ∙ ap (λ (found : List ℕ). group_text names found group) is)
     ∙ ap (λ (text : List ℕ). group_text names (group_called names n) group ++ text)
     (printed_groups_from names next (n + 1) (drop 1 called) groups (ap (drop 1) e ∙ one_less names.groups n))

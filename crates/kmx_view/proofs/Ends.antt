@@ -1,9 +1,9 @@
 -- A string is ended in the file exactly where its units and two bytes more fit.
-use Rattle.std.proofs.Common.{◌≡◌, ◌≢◌, ne_eqb, ℕ, suc, ◌+◌, ◌*◌, ◌-◌, ◌<◌, ◌≤◌, Bool, true, false, List, [], ◌∷◌, length, drop, refl, sym, ◌∙◌, ap, arith, append-nil, length-drop}
+use Rattle.std.proofs.Common.{◌≡◌, ◌≢◌, ne_eqb, ℕ, suc, ◌+◌, ◌*◌, ◌-◌, ◌<◌, ◌≤◌, Bool, true, false, List, [], ◌∷◌, length, drop, refl, sym, ◌∙◌, ap, arith, length-drop}
 use Rattle.std.specs.Prelude.{nat_eq, nat_le, ◌||◌, if◌then◌else◌}
 use Rattle.kmn_base.specs.Spelling.{unit_bytes, whole_units}
-use Rattle.kmn_base.proofs.UnitBytes.{length-unit_bytes}
 use Rattle.kmx_format.specs.TablesOf.{before_zero, string_at}
+use Rattle.kmx_format.proofs.FileSize.{length-unit_bytes}
 use Rattle.kmx_view.specs.View.{has_zero, is_ended}
 
 -- one unit more in front
@@ -17,9 +17,6 @@ has_zero-fits [] = refl
 has_zero-fits (low ∷ []) = refl
 has_zero-fits (low ∷ high ∷ bytes) = unit_more (nat_eq (low + 256 * high) 0) (low + 256 * high) (whole_units bytes) (length bytes) (has_zero-fits bytes)
 
-units_size : (units : List ℕ) → length (unit_bytes units) ≡ 2 * length units
-units_size units = ap length (sym (append-nil (unit_bytes units))) ∙ length-unit_bytes units [] ∙ omega arith
-
 shifted : (size place whole : ℕ) → 0 < size → nat_le size (whole - place) ≡ nat_le (place + size) whole
 shifted size place whole positive = grind (arith, positive)
 
@@ -28,7 +25,7 @@ ended_at : (b : Bool) (bytes string : List ℕ) (offset : ℕ) → b ≡ false �
 ended_at true bytes string offset some is = absurd (cc)
 ended_at false bytes string offset some is =
     let units : List ℕ = before_zero (whole_units (drop offset bytes)) in
-    let size : length string ≡ 2 * length units = ap length is ∙ units_size units in
+    let size : length string ≡ 2 * length units = ap length is ∙ length-unit_bytes units in
     has_zero-fits (drop offset bytes) ∙ ap (λ n. nat_le (2 * length units + 2) n) (length-drop offset bytes)
     ∙ shifted (2 * length units + 2) offset (length bytes) (omega arith) ∙ ap (λ n. nat_le (offset + (n + 2)) (length bytes)) (sym size)
 

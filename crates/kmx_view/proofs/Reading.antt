@@ -1,8 +1,8 @@
 -- Passing over a string up to its zero unit, as a loop does.
-use Rattle.std.proofs.Common.{◌≡◌, ℕ, ◌+◌, ◌-◌, ◌*◌, ◌<◌, ◌≤◌, false, List, [], ◌∷◌, ◌++◌, length, take, drop, refl, sym, ap, subst, ◌∙◌, append_assoc, append-nil, length-append, arith}
+use Rattle.std.proofs.Common.{◌≡◌, ℕ, ◌+◌, ◌-◌, ◌*◌, ◌<◌, ◌≤◌, false, List, [], ◌∷◌, ◌++◌, length, take, drop, sym, ap, subst, ◌∙◌, append_assoc, arith}
 use Rattle.std.specs.Prelude.{nat_eq, slice_index}
 use Rattle.std.proofs.lemmas.Bool.{cond-false}
-use Rattle.std.proofs.lemmas.List.{take_at, take_all}
+use Rattle.std.proofs.lemmas.List.{take_all}
 use Rattle.kmn_base.specs.Spelling.{unit_bytes, whole_units}
 use Rattle.kmn_base.proofs.UnitBytes.{unit_bytes_joined}
 use Rattle.kmx_format.specs.TablesOf.{before_zero}
@@ -12,9 +12,6 @@ pub record Passed (bytes rest : List ℕ) : Type 0 where
   pub front : List ℕ
   pub parts : bytes ≡ front ++ rest
   pub units : unit_bytes (before_zero (whole_units bytes)) ≡ front ++ unit_bytes (before_zero (whole_units rest))
-
-pub nothing_passed : (bytes : List ℕ) → Passed bytes bytes
-nothing_passed bytes = record { front = []; parts = refl; units = refl }
 
 -- one unit more was passed
 pub unit_passed : (bytes : List ℕ) (low high : ℕ) (rest : List ℕ) → low < 256 → nat_eq (low + 256 * high) 0 ≡ false
@@ -41,11 +38,3 @@ front_passed bytes (low ∷ high ∷ rest) unit byte long is some h =
     let size : length (low ∷ high ∷ rest) - 2 ≡ length rest = omega arith in
     let behind : take (length (low ∷ high ∷ rest) - 2) rest ≡ rest = ap (λ n. take n rest) size ∙ take_all (length rest) rest (omega arith) in
     subst (Passed bytes) (sym behind) (unit_passed bytes low high rest byte nonzero h)
-
--- where the string ends, what was passed is the string
-pub string_passed : (bytes rest : List ℕ) → before_zero (whole_units rest) ≡ [] → Passed bytes rest
-    → take (length bytes - length rest) bytes ≡ unit_bytes (before_zero (whole_units bytes))
-string_passed bytes rest ends h =
-    let size : length bytes - length rest ≡ length h.front = omega (arith, ap length h.parts, length-append h.front rest) in
-    ap (λ n. take n bytes) size ∙ ap (take (length h.front)) h.parts ∙ take_at h.front rest (length h.front) refl
-    ∙ sym (h.units ∙ ap (λ us. h.front ++ unit_bytes us) ends ∙ append-nil h.front)

@@ -1,7 +1,7 @@
 -- Parts of a file by place; None where the place is outside.
 use Rattle.std.specs.Prelude.{ℕ, ◌+◌, ◌*◌, Bool, false, nat_eq, nat_lt, nat_le, ◌&&◌, ◌||◌, if◌then◌else◌, List, [], ◌∷◌, length, drop, Option, Some, None}
-use Rattle.kmn_base.specs.Spelling.{unit_bytes, whole_units}
-use Rattle.kmx_format.specs.TablesOf.{half_at, word_at, string_at}
+use Rattle.kmn_base.specs.Spelling.{whole_units}
+use Rattle.kmx_format.specs.TablesOf.{half_at, word_at}
 use Rattle.kmx_view.specs.declared.parts.StoreRef.{StoreRef}
 use Rattle.kmx_view.specs.declared.parts.GroupRef.{GroupRef}
 use Rattle.kmx_view.specs.declared.parts.RuleRef.{RuleRef}
@@ -73,7 +73,3 @@ rule_of bytes i (Some group) =
 
 abbrev pub rule_in : List ℕ → ℕ → ℕ → Option RuleRef
 rule_in bytes group i = rule_of bytes i (group_in bytes group)
-
--- the bytes of a string that ends in the file
-abbrev pub string_in : List ℕ → ℕ → Option (List ℕ)
-string_in bytes offset = if is_ended bytes offset then Some (unit_bytes (string_at bytes offset)) else None
