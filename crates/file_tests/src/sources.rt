@@ -3,6 +3,7 @@
 use crate::fixtures::ONE_RULE;
 use kmx_decompiler::{DecompileError, decompile};
 use kmx_verifier::verify;
+use spelled_files::NoSpelling;
 use std::alloc::Global;
 use std::test::Fail;
 
@@ -57,11 +58,11 @@ fn has_source(alloc: Global, bytes: &[u8], text: &[u8]) -> bool {
 }
 
 /// Whether the bytes are a valid file that has no source, for this reason.
-fn is_refused(alloc: Global, bytes: &[u8], why: DecompileError) -> bool {
+fn is_refused(alloc: Global, bytes: &[u8], why: NoSpelling) -> bool {
     match verify(alloc, bytes) {
         Ok(file) => match decompile(alloc, &file) {
             Ok(_) => false,
-            Err(error) => error == why,
+            Err(error) => error == DecompileError::Refused(why),
         },
         Err(_) => false,
     }
@@ -71,18 +72,12 @@ fn is_refused(alloc: Global, bytes: &[u8], why: DecompileError) -> bool {
 fn worked_sources(rt: HostRuntime) -> Result<(), Fail> {
     assert!(rt; has_source(rt.alloc(), &ONE_RULE, ONE_TEXT));
     assert!(rt; has_source(rt.alloc(), &TWO_RECORDS, TWO_TEXT));
-    assert!(rt;
-        is_refused(
-            rt.alloc(),
-            &FAR_MARK,
-            DecompileError::NoSpelling { at: 100 }
-        )
-    );
+    assert!(rt; is_refused(rt.alloc(), &FAR_MARK, NoSpelling::Unspelled { at: 100 }));
     assert!(rt;
         is_refused(
             rt.alloc(),
             &LONGER_BEHIND,
-            DecompileError::Order { group: 0, rule: 1 }
+            NoSpelling::Order { group: 0, rule: 1 }
         )
     );
     Ok(())

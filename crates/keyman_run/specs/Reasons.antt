@@ -8,7 +8,7 @@ use Rattle.kmx_verifier.specs.declared.faults.Fault.{Fault}
 use Rattle.rule_model.specs.Lines.{refusal_line}
 use Rattle.rule_model.specs.Transcript.{refused_event_line}
 use Rattle.spelled_files.specs.declared.no_spelling.NoSpelling.{NoSpelling}
-use Rattle.spelled_files.specs.declared.no_spelling.NoSpelling.TheVariants.{Order, Unspelled, TooLarge, TooManyStores, TooManyElements}
+use Rattle.spelled_files.specs.Reasons.{reason_text}
 use Rattle.touch_layout.specs.declared.faults.LayoutFault.{LayoutFault}
 use Rattle.keyman_run.specs.declared.reason.Reason.{Reason}
 use Rattle.keyman_run.specs.declared.reason.Reason.TheVariants as reason
@@ -35,13 +35,9 @@ place_line fault = concat (
     ∷ codes " key " ∷ decimal fault.key
     ∷ codes "\n" ∷ [])
 
--- why a file has no text: the record that stands out of order, the place of what no source can say, or what would be too much
+-- why a file has no text
 unfoldable pub spelling_line : NoSpelling → List ℕ
-spelling_line (Order group rule) = concat (codes "refused X1 group " ∷ decimal group ∷ codes " rule " ∷ decimal rule ∷ codes "\n" ∷ [])
-spelling_line (Unspelled at) = concat (codes "refused X2 at " ∷ decimal at ∷ codes "\n" ∷ [])
-spelling_line (TooLarge size) = concat (codes "refused X3 size " ∷ decimal size ∷ codes "\n" ∷ [])
-spelling_line (TooManyStores stores) = concat (codes "refused X3 stores " ∷ decimal stores ∷ codes "\n" ∷ [])
-spelling_line (TooManyElements elements) = concat (codes "refused X3 elements " ∷ decimal elements ∷ codes "\n" ∷ [])
+spelling_line why = concat (codes "refused " ∷ reason_text why ∷ codes "\n" ∷ [])
 
 -- a reason's line
 abbrev pub reason_line : Reason → List ℕ

@@ -1,5 +1,5 @@
 -- What the steps of a run answer.
-use Rattle.std.specs.Prelude.{◌≡◌, IsTrue, ℕ, List, ◌++◌, Option, Some, None, Result, Ok, Err}
+use Rattle.std.specs.Prelude.{◌≡◌, IsTrue, ℕ, List, ◌++◌, Option, Some, Result, Ok, Err}
 use Rattle.kmn_base.specs.declared.refusals.CompileError.{CompileError}
 use Rattle.kmn_base.specs.declared.refusals.CompileError.TheVariants as compile
 use Rattle.kmn_base.specs.declared.codes.Code.{Code}
@@ -14,9 +14,8 @@ use Rattle.kmx_format.specs.TablesOf.{tables_of}
 use Rattle.kmx_format.specs.Writable.{IsFile, IsWritable}
 use Rattle.play_script.specs.declared.errors.ScriptError.{ScriptError}
 use Rattle.play_script.specs.declared.errors.ScriptError.TheVariants as script
-use Rattle.spelled_files.specs.declared.no_spelling.NoSpelling.{NoSpelling}
-use Rattle.kmx_decompiler.specs.Refusals.{told}
 use Rattle.kmx_decompiler.specs.declared.refusals.DecompileError.{DecompileError}
+use Rattle.kmx_decompiler.specs.declared.refusals.DecompileError.TheVariants as decompile
 use Rattle.touch_layout.specs.declared.faults.LayoutError.{LayoutError}
 use Rattle.touch_layout.specs.declared.faults.LayoutError.TheVariants as layout
 use Rattle.kmn_compiler.specs.declared.compiling.Compiled.{Compiled}
@@ -51,13 +50,10 @@ abbrev pub layout_stop : LayoutError → Stop
 layout_stop (layout.Refused fault) = stop.Refused (reason.Layout fault)
 layout_stop layout.Memory = stop.Memory
 
--- why a run stops where a file has no text, and where nothing is told of it
-abbrev pub told_stop : Option NoSpelling → Stop
-told_stop (Some why) = stop.Refused (reason.Text why)
-told_stop None = stop.Memory
-
+-- why a run stops where a file has no text
 abbrev pub text_stop : DecompileError → Stop
-text_stop error = told_stop (told error)
+text_stop (decompile.Refused why) = stop.Refused (reason.Text why)
+text_stop decompile.Memory = stop.Memory
 
 -- a refusal at line 1
 abbrev pub first_line : Code → Reason

@@ -10,7 +10,7 @@ ghost use Rattle.spelled_files.specs.Excess.{excess};
 ghost use Rattle.spelled_files.specs.Places.{cause_places, least};
 ghost use Rattle.spelled_files.specs.Unspelled.{disorder, unspelled};
 ghost use Rattle.file_text.specs.Whole.{IsFront};
-ghost use Rattle.kmx_decompiler.specs.Refusals.{Tells, TellsWhy, told};
+ghost use Rattle.kmx_decompiler.specs.Refusals.{IsRefusal};
 
 use crate::counts::{count_all, passed};
 use crate::order::disorder;
@@ -26,19 +26,6 @@ use kmx_verifier::Verified;
 use rule_model::Tables;
 use spelled_files::NoSpelling;
 use std::alloc::Global;
-
-/// The error that tells why a file has no text.
-fn refusal(why: NoSpelling) -> DecompileError
-    ensures { told result ≡ Some why }
-{
-    match why {
-        NoSpelling::Order { group, rule } => DecompileError::Order { group, rule },
-        NoSpelling::Unspelled { at } => DecompileError::NoSpelling { at },
-        NoSpelling::TooLarge { size } => DecompileError::TooLarge { size },
-        NoSpelling::TooManyStores { stores } => DecompileError::TooManyStores { stores },
-        NoSpelling::TooManyElements { elements } => DecompileError::TooManyElements { elements },
-    }
-}
 
 /// The text of tables, unless it or what compiling it gives is too large.
 #[tactic(auto, using(crate::proofs::Refusing::larger_text, crate::proofs::Refusing::text_within))]
@@ -57,15 +44,15 @@ fn text_within(
     requires keys { All IsUtf8 (tab_dictionary tables.now.stores) }
     ensures text { IfOk result (λ text. text ≡ program_text (back tables.now)) }
     ensures within { OnOk result (excess (back tables.now) ≡ None) }
-    ensures refused { IfErr result (λ why. Tells (excess (back tables.now)) why) }
+    ensures refused { IfErr result (λ error. IsRefusal error (λ why. excess (back tables.now) ≡ Some why)) }
 {
     let page = page_of(alloc, front, names, tables, free)?;
     if (TEXT_BYTES as u64) < page.size {
-        return Err(DecompileError::TooLarge { size: page.size });
+        return Err(DecompileError::Refused(NoSpelling::TooLarge { size: page.size }));
     }
     let counts = count_all(alloc, front, names, tables)?;
     match passed(counts) {
-        Some(why) => Err(refusal(why)),
+        Some(why) => Err(DecompileError::Refused(why)),
         None => Ok(page.text),
     }
 }
@@ -78,7 +65,7 @@ fn text_in_order(alloc: Global, bytes: &[u8], tables: &Tables) -> Result<Text, D
     requires order { disorder 0 tables.now.groups ≡ None }
     ensures text { IfOk result (λ text. text ≡ program_text (back tables.now)) }
     ensures spelled { OnOk result (unspelled bytes.now ≡ None) }
-    ensures refused { IfErr result (λ why. TellsWhy bytes.now why) }
+    ensures refused { IfErr result (λ error. IsRefusal error (λ why. unspelled bytes.now ≡ Some why)) }
 {
     let free = free_stores(alloc, tables)?;
     let indexed = IndexedTables::new(alloc, tables)?;
@@ -86,7 +73,7 @@ fn text_in_order(alloc: Global, bytes: &[u8], tables: &Tables) -> Result<Text, D
     let left = behind(free.as_slice(), front_count(&front, tables));
     let names = called_by(alloc, &indexed, tables, left)?;
     match least_cause(alloc, bytes, &indexed, &names, tables)? {
-        Some(at) => Err(DecompileError::NoSpelling { at }),
+        Some(at) => Err(DecompileError::Refused(NoSpelling::Unspelled { at })),
         None => text_within(alloc, &front, &names, tables, free.as_slice()),
     }
 }
@@ -97,11 +84,11 @@ fn text_in_order(alloc: Global, bytes: &[u8], tables: &Tables) -> Result<Text, D
 pub fn decompile(alloc: Global, file: &Verified<'_>) -> Result<Text, DecompileError>
     ensures text { IfOk result (λ text. text ≡ program_text (back (tables_of file.now))) }
     ensures spelled { OnOk result (unspelled file.now ≡ None) }
-    ensures refused { IfErr result (λ why. TellsWhy file.now why) }
+    ensures refused { IfErr result (λ error. IsRefusal error (λ why. unspelled file.now ≡ Some why)) }
 {
     let tables = file.copied_tables(alloc)?;
     if let Some(why) = disorder(tables.groups.as_slice())? {
-        return Err(refusal(why));
+        return Err(DecompileError::Refused(why));
     }
     text_in_order(alloc, file.bytes(), &tables)
 }
