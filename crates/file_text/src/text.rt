@@ -42,7 +42,7 @@ impl From<Memory> for TextError {
 }
 
 /// The text of tables, where it is within the limit of a text, and its size.
-#[tactic(auto, using(crate::proofs::FewParts::few_stores, crate::proofs::FewParts::few_groups))]
+#[tactic(auto, using(crate::proofs::FewParts::few_stores, crate::proofs::FewParts::few_groups, crate::proofs::FewParts::few_keys))]
 fn page_of_tables(alloc: Global, tables: &Tables) -> Result<Page, Memory>
     requires { IsPlayable tables.now }
     ensures size { IfOk result (λ page. page.size ≡ length (program_text (back tables.now))) }

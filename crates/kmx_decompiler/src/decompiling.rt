@@ -71,7 +71,7 @@ fn text_within(
 }
 
 /// The text of a file, whose tables these are, where its records are in order.
-#[tactic(auto, using(crate::proofs::Refusing::few_stores, crate::proofs::Refusing::few_groups, crate::proofs::Refusing::unspelled_excess))]
+#[tactic(auto, using(crate::proofs::Refusing::few_stores, crate::proofs::Refusing::few_groups, file_text::proofs::FewParts::few_keys, crate::proofs::Refusing::unspelled_excess))]
 fn text_in_order(alloc: Global, bytes: &[u8], tables: &Tables) -> Result<Text, DecompileError>
     requires tables { tables.now ≡ tables_of bytes.now }
     requires playable { IsPlayable tables.now }
