@@ -93,14 +93,14 @@ fn text_in_order(alloc: Global, bytes: &[u8], tables: &Tables) -> Result<Text, D
 
 /// The source of a valid file: the text of the program that its tables go back to, one statement to a line. It is refused
 /// exactly for why the file has no text that a source could be, and else only for want of memory.
-#[tactic(auto, using(crate::proofs::Refusing::unspelled_order))]
+#[tactic(auto, using(crate::proofs::Refusing::few_groups, crate::proofs::Refusing::few_rules, crate::proofs::Refusing::unspelled_order))]
 pub fn decompile(alloc: Global, file: &Verified<'_>) -> Result<Text, DecompileError>
     ensures text { IfOk result (λ text. text ≡ program_text (back (tables_of file.now))) }
     ensures spelled { OnOk result (unspelled file.now ≡ None) }
     ensures refused { IfErr result (λ why. TellsWhy file.now why) }
 {
     let tables = file.copied_tables(alloc)?;
-    if let Some(why) = disorder(tables.groups.as_slice())? {
+    if let Some(why) = disorder(tables.groups.as_slice()) {
         return Err(refusal(why));
     }
     text_in_order(alloc, file.bytes(), &tables)
