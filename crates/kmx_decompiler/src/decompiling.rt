@@ -3,6 +3,7 @@ ghost use Rattle.std.specs.Str.{IsUtf8};
 ghost use Rattle.rule_model.specs.Tab.{tab_dictionary};
 ghost use Rattle.kmx_format.specs.Playable.{IsPlayable};
 ghost use Rattle.kmx_format.specs.TablesOf.{tables_of};
+ghost use Rattle.kmx_verifier.specs.FaultOf.{IsValid};
 ghost use Rattle.program_text.specs.Programs.{program_text};
 ghost use Rattle.decompile_laws.specs.Back.{back, free_stores, names_for};
 ghost use Rattle.decompile_laws.specs.WrittenOut.{CanBeWrittenOut};
@@ -75,6 +76,7 @@ fn text_within(
 fn text_in_order(alloc: Global, bytes: &[u8], tables: &Tables) -> Result<Text, DecompileError>
     requires tables { tables.now ≡ tables_of bytes.now }
     requires playable { IsPlayable tables.now }
+    requires valid { IsValid bytes.now }
     requires order { disorder 0 tables.now.groups ≡ None }
     ensures text { IfOk result (λ text. text ≡ program_text (back tables.now)) }
     ensures spelled { OnOk result (unspelled bytes.now ≡ None) }
