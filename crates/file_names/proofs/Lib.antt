@@ -1,4 +1,5 @@
 pub mod Calls
+pub mod FewNames
 pub mod FlagLaws
 pub mod Folds
 pub mod FreeNames

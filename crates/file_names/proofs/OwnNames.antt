@@ -46,3 +46,7 @@ pub all_names : (names keys : List (List ℕ)) (place : ℕ) → name_in names (
 all_names names keys place e h =
     let none : drop place names ≡ [] = none_left names place (past names place (sym (name_read names place) ∙ e)) in
     sym (append-nil keys) ∙ sym (ap (λ more. keys ++ more) none) ∙ h
+
+-- nor is one past the last code
+pub names_ended : (names keys : List (List ℕ)) (place : ℕ) → length names ≤ place → keys ++ drop place names ≡ names → keys ≡ names
+names_ended names keys place few h = sym (append-nil keys) ∙ sym (ap (λ more. keys ++ more) (none_left names place few)) ∙ h

@@ -1,6 +1,7 @@
 //! The names of the keys that tables have for themselves.
 
-ghost use Rattle.std.specs.Prelude.{◌≡◌, IfOk};
+ghost use Rattle.std.specs.Prelude.{◌≡◌, ◌≤◌, IfOk, length};
+ghost use Rattle.kmn_base.specs.declared.limits.TheConstants.{KEY_NAMES};
 ghost use Rattle.rule_model.specs.Tab.{tab};
 
 use indexed_tables::IndexedTables;
@@ -11,9 +12,10 @@ use std::alloc::Global;
 /// The code of the first name.
 const FIRST_CODE: u16 = 256;
 
-/// The names of tables' own keys. The one store that they stand in is too short for more names than there are codes.
-#[tactic(auto, using(crate::proofs::OwnNames::next_name, crate::proofs::OwnNames::all_names))]
+/// The names of tables' own keys, of which there are no more than codes.
+#[tactic(auto, using(crate::proofs::OwnNames::next_name, crate::proofs::OwnNames::all_names, crate::proofs::OwnNames::names_ended))]
 pub fn own_keys(alloc: Global, tables: &IndexedTables<'_>) -> Result<Vec<Text>, Memory>
+    requires { length (tab tables.now).dictionary ≤ KEY_NAMES }
     ensures { IfOk result (λ keys. keys.items ≡ (tab tables.now).dictionary) }
 {
     let mut keys = Vec::new(alloc);
@@ -23,5 +25,5 @@ pub fn own_keys(alloc: Global, tables: &IndexedTables<'_>) -> Result<Vec<Text>, 
         };
         keys.push(Text::from_slice(alloc, name)?)?;
     }
-    Err(Memory)
+    Ok(keys)
 }

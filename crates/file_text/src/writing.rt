@@ -1,7 +1,8 @@
 //! The text of tables as a whole.
 
-ghost use Rattle.std.specs.Prelude.{◌≡◌, ◌++◌, [], false, length, nat_lt, unwrap_or, slice_get, if◌then◌else◌, IfOk, OnOk};
-ghost use Rattle.kmn_base.specs.declared.limits.TheConstants.{TEXT_BYTES};
+ghost use Rattle.std.specs.Prelude.{◌≡◌, ◌≤◌, ◌++◌, [], false, length, nat_lt, unwrap_or, slice_get, if◌then◌else◌, IfOk, OnOk};
+ghost use Rattle.kmn_base.specs.declared.limits.TheConstants.{KEY_NAMES, TEXT_BYTES};
+ghost use Rattle.rule_model.specs.Tab.{tab_dictionary};
 ghost use Rattle.program_text.specs.Programs.{program_text};
 ghost use Rattle.decompile_laws.specs.Back.{back, names_for, free_stores, mark_stores, key_stores};
 ghost use Rattle.file_text.specs.Pages.{with_text};
@@ -47,7 +48,8 @@ pub fn front_of(
     indexed: &IndexedTables<'_>,
     tables: &Tables,
 ) -> Result<Front, Memory>
-    requires { indexed.now ≡ tables.now }
+    requires indexed { indexed.now ≡ tables.now }
+    requires few { length (tab_dictionary tables.now.stores) ≤ KEY_NAMES }
     ensures { IfOk result (λ front. IsFront tables.now front) }
 {
     Ok(Front {

@@ -3,6 +3,7 @@ pub mod LeastPlaces
 pub mod Lengths
 pub mod NoCauses
 pub mod OptionStores
+pub mod RecordPlaces
 pub mod Refusing
 pub mod StoreLengths
 pub mod TextCounts

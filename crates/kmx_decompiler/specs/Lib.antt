@@ -1,5 +1,6 @@
 pub mod Counting
 pub mod Least
+pub mod RecordPlaces
 pub mod Refusals
 pub mod Values
 pub mod Words

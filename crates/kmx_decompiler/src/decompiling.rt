@@ -3,6 +3,7 @@ ghost use Rattle.std.specs.Str.{IsUtf8};
 ghost use Rattle.rule_model.specs.Tab.{tab_dictionary};
 ghost use Rattle.kmx_format.specs.Playable.{IsPlayable};
 ghost use Rattle.kmx_format.specs.TablesOf.{tables_of};
+ghost use Rattle.kmx_verifier.specs.FaultOf.{IsValid};
 ghost use Rattle.program_text.specs.Programs.{program_text};
 ghost use Rattle.decompile_laws.specs.Back.{back, free_stores, names_for};
 ghost use Rattle.decompile_laws.specs.WrittenOut.{CanBeWrittenOut};
@@ -58,10 +59,11 @@ fn text_within(
 }
 
 /// The text of a file, whose tables these are, where its records are in order.
-#[tactic(auto, using(crate::proofs::Refusing::few_stores, crate::proofs::Refusing::few_groups, crate::proofs::Refusing::unspelled_excess))]
+#[tactic(auto, using(crate::proofs::Refusing::few_stores, crate::proofs::Refusing::few_groups, crate::proofs::Refusing::few_keys, crate::proofs::Refusing::unspelled_excess))]
 fn text_in_order(alloc: Global, bytes: &[u8], tables: &Tables) -> Result<Text, DecompileError>
     requires tables { tables.now ≡ tables_of bytes.now }
     requires playable { IsPlayable tables.now }
+    requires valid { IsValid bytes.now }
     requires order { disorder 0 tables.now.groups ≡ None }
     ensures text { IfOk result (λ text. text ≡ program_text (back tables.now)) }
     ensures spelled { OnOk result (unspelled bytes.now ≡ None) }
@@ -80,14 +82,14 @@ fn text_in_order(alloc: Global, bytes: &[u8], tables: &Tables) -> Result<Text, D
 
 /// The source of a valid file: the text of the program that its tables go back to, one statement to a line. It is refused
 /// exactly for why the file has no text that a source could be, and else only for want of memory.
-#[tactic(auto, using(crate::proofs::Refusing::unspelled_order))]
+#[tactic(auto, using(crate::proofs::Refusing::few_groups, crate::proofs::Refusing::few_rules, crate::proofs::Refusing::unspelled_order))]
 pub fn decompile(alloc: Global, file: &Verified<'_>) -> Result<Text, DecompileError>
     ensures text { IfOk result (λ text. text ≡ program_text (back (tables_of file.now))) }
     ensures spelled { OnOk result (unspelled file.now ≡ None) }
     ensures refused { IfErr result (λ error. IsRefusal error (λ why. unspelled file.now ≡ Some why)) }
 {
     let tables = file.copied_tables(alloc)?;
-    if let Some(why) = disorder(tables.groups.as_slice())? {
+    if let Some(why) = disorder(tables.groups.as_slice()) {
         return Err(DecompileError::Refused(why));
     }
     text_in_order(alloc, file.bytes(), &tables)

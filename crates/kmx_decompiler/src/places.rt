@@ -1,12 +1,15 @@
 //! The least place of what no source can say.
 
-ghost use Rattle.std.specs.Prelude.{◌≡◌, ◌+◌, ◌<◌, ◌^◌, [], ◌∷◌, IfOk, None, length, position};
+ghost use Rattle.std.specs.Prelude.{◌≡◌, ◌+◌, ◌*◌, ◌<◌, ◌^◌, [], ◌∷◌, IfOk, None, length, position};
 ghost use Rattle.rule_model.specs.Tab.{is_dictionary, tab_options};
-ghost use Rattle.kmx_format.specs.TablesOf.{tables_of};
+ghost use Rattle.kmx_format.specs.declared.sizes.TheConstants.{GROUP_BYTES, RULE_BYTES, STORE_BYTES};
+ghost use Rattle.kmx_format.specs.TablesOf.{tables_of, word_at};
+ghost use Rattle.kmx_verifier.specs.FaultOf.{IsValid};
 ghost use Rattle.decompile_laws.specs.Back.{names_for};
 ghost use Rattle.spelled_files.specs.Causes.{is_number};
 ghost use Rattle.spelled_files.specs.Places.{at_cause, cause_places, group_causes, least, rule_causes, store_causes};
 ghost use Rattle.kmx_decompiler.specs.Least.{lesser};
+ghost use Rattle.kmx_decompiler.specs.RecordPlaces.{HaveNearRecords};
 
 use crate::causes::{are_unspelled_outputs, is_unspelled_context, is_unspelled_key};
 use crate::store_causes::is_unspelled_store;
@@ -20,14 +23,6 @@ use std::alloc::Global;
 
 /// The system id of the store that has the key dictionary.
 const DICTIONARY: u32 = 34;
-
-/// A place so many bytes behind another. Files are too short for places past the type.
-fn place_behind(place: u32, bytes: usize) -> Result<u32, Memory>
-    requires { bytes < 64 }
-    ensures { IfOk result (λ sum. sum ≡ place + bytes) }
-{
-    place.checked_add(bytes as u32).ok_or(Memory)
-}
 
 /// The lesser of the least place and another, where a cause stands there.
 fn lesser(least: Option<u32>, place: u32, cause: bool) -> Option<u32>
@@ -44,38 +39,30 @@ fn lesser(least: Option<u32>, place: u32, cause: bool) -> Option<u32>
 
 /// The lesser of the least place and those of a record that stands at a place.
 #[tactic(auto, using(crate::proofs::LeastPlaces::lesser_append))]
-fn in_rule(
-    names: &Called<'_>,
-    least: Option<u32>,
-    place: u32,
-    rule: &Rule,
-) -> Result<Option<u32>, Memory>
-    ensures { IfOk result (λ found. found ≡ lesser (rule_causes names.now place (rule.now ∷ [])) least) }
+fn in_rule(names: &Called<'_>, least: Option<u32>, place: u32, rule: &Rule) -> Option<u32>
+    requires { place + RULE_BYTES < 2 ^ 32 }
+    ensures { result ≡ lesser (rule_causes names.now place (rule.now ∷ [])) least }
 {
     let key = is_unspelled_key(names, &rule.key);
     let least = lesser(least, place, key);
     let outputs = are_unspelled_outputs(names, rule.output.as_slice());
-    let least = lesser(least, place_behind(place, 12)?, outputs);
+    let least = lesser(least, place + 12, outputs);
     let context = is_unspelled_context(names, rule.context.as_slice());
-    Ok(lesser(least, place_behind(place, 16)?, context))
+    lesser(least, place + 16, context)
 }
 
 /// The same of records that stand from a place on.
-fn in_rules(
-    names: &Called<'_>,
-    least: Option<u32>,
-    place: u32,
-    rules: &[Rule],
-) -> Result<Option<u32>, Memory>
-    ensures { IfOk result (λ found. found ≡ lesser (rule_causes names.now place rules.now) least) }
+fn in_rules(names: &Called<'_>, least: Option<u32>, place: u32, rules: &[Rule]) -> Option<u32>
+    requires { place + RULE_BYTES * length rules.now < 2 ^ 32 }
+    ensures { result ≡ lesser (rule_causes names.now place rules.now) least }
 {
     let mut least = least;
     let mut place = place;
     for rule in rules {
-        least = in_rule(names, least, place, rule)?;
-        place = place_behind(place, RULE_BYTES)?;
+        least = in_rule(names, least, place, rule);
+        place += RULE_BYTES as u32;
     }
-    Ok(least)
+    least
 }
 
 /// The same of a group that stands at a place.
@@ -86,14 +73,16 @@ fn in_group(
     least: Option<u32>,
     place: u32,
     group: &Group,
-) -> Result<Option<u32>, Memory>
-    ensures { IfOk result (λ found. found ≡ lesser (group_causes bytes.now names.now place (group.now ∷ [])) least) }
+) -> Option<u32>
+    requires own { place + GROUP_BYTES < 2 ^ 32 }
+    requires rules { word_at bytes.now (place + 4) + RULE_BYTES * length group.now.rules < 2 ^ 32 }
+    ensures { result ≡ lesser (group_causes bytes.now names.now place (group.now ∷ [])) least }
 {
     let on_match = are_unspelled_outputs(names, group.on_match.as_slice());
-    let least = lesser(least, place_behind(place, 8)?, on_match);
+    let least = lesser(least, place + 8, on_match);
     let on_nomatch = are_unspelled_outputs(names, group.on_nomatch.as_slice());
-    let least = lesser(least, place_behind(place, 12)?, on_nomatch);
-    let rules = word_at(bytes, place_behind(place, 4)? as usize);
+    let least = lesser(least, place + 12, on_nomatch);
+    let rules = word_at(bytes, place as usize + 4);
     in_rules(names, least, rules, group.rules.as_slice())
 }
 
@@ -104,16 +93,17 @@ fn in_groups(
     least: Option<u32>,
     place: u32,
     groups: &[Group],
-) -> Result<Option<u32>, Memory>
-    ensures { IfOk result (λ found. found ≡ lesser (group_causes bytes.now names.now place groups.now) least) }
+) -> Option<u32>
+    requires { HaveNearRecords bytes.now place groups.now }
+    ensures { result ≡ lesser (group_causes bytes.now names.now place groups.now) least }
 {
     let mut least = least;
     let mut place = place;
     for group in groups {
-        least = in_group(bytes, names, least, place, group)?;
-        place = place_behind(place, GROUP_BYTES)?;
+        least = in_group(bytes, names, least, place, group);
+        place += GROUP_BYTES as u32;
     }
-    Ok(least)
+    least
 }
 
 /// The number of the store that has the key dictionary: of several the first.
@@ -144,7 +134,7 @@ fn in_stores(
 ) -> Result<Option<u32>, Memory>
     requires stores { stores.now ≡ indexed.now.stores }
     requires elements { names.now.elements ≡ indexed.now.stores }
-    requires few { length stores.now < 2 ^ 32 }
+    requires near { place + STORE_BYTES * length stores.now < 2 ^ 32 }
     ensures { IfOk result (λ found. found ≡ lesser (store_causes names.now (tab_options indexed.now) place 0 stores.now) None) }
 {
     let dictionary = dictionary_number(stores);
@@ -153,8 +143,8 @@ fn in_stores(
     for (number, store) in stores.iter().enumerate() {
         let is_dictionary = is_number(number, dictionary);
         let cause = is_unspelled_store(alloc, indexed, names, number as u32, store, is_dictionary)?;
-        least = lesser(least, place_behind(place, 8)?, cause);
-        place = place_behind(place, STORE_BYTES)?;
+        least = lesser(least, place + 8, cause);
+        place += STORE_BYTES as u32;
     }
     Ok(least)
 }
@@ -170,11 +160,12 @@ pub(crate) fn least_cause(
     requires tables { tables.now ≡ tables_of bytes.now }
     requires indexed { indexed.now ≡ tables.now }
     requires names { names.now ≡ names_for tables.now }
-    requires few { length tables.now.stores < 2 ^ 32 }
+    requires valid { IsValid bytes.now }
     ensures { IfOk result (λ place. place ≡ least (cause_places bytes.now)) }
 {
     let stores = word_at(bytes, 32);
     let least = in_stores(alloc, indexed, names, stores, tables.stores.as_slice())?;
     let groups = word_at(bytes, 36);
-    in_groups(bytes, names, least, groups, tables.groups.as_slice())
+    let all = tables.groups.as_slice();
+    Ok(in_groups(bytes, names, least, groups, all))
 }

@@ -13,7 +13,7 @@ size_fits bytes h =
     let fits : nat_lt FILE_BYTES (length bytes) ≡ false = broken-none _ 0 _ (or_else-none _ _ h).0 in
     grind (arith, fits)
 
-array_stands : (bytes : List ℕ) (place size count : ℕ) → (nat_lt 0 count && not (is_within bytes place (size * count))) ≡ false → (count ≡ 0) ⊎ (place + size * count ≤ length bytes)
+pub array_stands : (bytes : List ℕ) (place size count : ℕ) → (nat_lt 0 count && not (is_within bytes place (size * count))) ≡ false → (count ≡ 0) ⊎ (place + size * count ≤ length bytes)
 array_stands bytes place size count h = grind (arith, h)
 
 pub arrays_stand : (bytes : List ℕ) → arrays_fault bytes ≡ None

@@ -56,15 +56,15 @@ key_playable true code flags small h =
     key_by_flags (nat_eq flags 0) code flags (some flags) small (eqb-true (bit_and flags SHIFT_FLAGS) flags (not-false (nat_eq (bit_and flags SHIFT_FLAGS) flags) h))
 
 -- as many records are read as there are
-length-stores_from : (bytes : List ℕ) (place count : ℕ) → length (stores_from bytes place count) ≡ count
+pub length-stores_from : (bytes : List ℕ) (place count : ℕ) → length (stores_from bytes place count) ≡ count
 length-stores_from bytes place zero = refl
 length-stores_from bytes place (suc count) = ap suc (length-stores_from bytes (place + 12) count)
 
-length-rules_from : (bytes : List ℕ) (using_keys : Bool) (place count : ℕ) → length (rules_from bytes using_keys place count) ≡ count
+pub length-rules_from : (bytes : List ℕ) (using_keys : Bool) (place count : ℕ) → length (rules_from bytes using_keys place count) ≡ count
 length-rules_from bytes using_keys place zero = refl
 length-rules_from bytes using_keys place (suc count) = ap suc (length-rules_from bytes using_keys (place + 20) count)
 
-length-groups_from : (bytes : List ℕ) (place count : ℕ) → length (groups_from bytes place count) ≡ count
+pub length-groups_from : (bytes : List ℕ) (place count : ℕ) → length (groups_from bytes place count) ≡ count
 length-groups_from bytes place zero = refl
 length-groups_from bytes place (suc count) = ap suc (length-groups_from bytes (place + 24) count)
 

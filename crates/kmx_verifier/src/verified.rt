@@ -25,12 +25,13 @@ impl<'a> Model for Verified<'a> {
     ghost use Rattle.kmn_base.specs.declared.limits.TheConstants.{FILE_BYTES};
     ghost use Rattle.kmx_format.specs.TablesOf.{tables_of};
     ghost use Rattle.kmx_format.specs.Playable.{IsPlayable};
+    ghost use Rattle.kmx_verifier.specs.FaultOf.{IsValid};
 
     ghost Value = { List ℕ };
 
     ghost view = { λ file. file.bytes.now };
 
-    ghost invariant = { λ file. (length file.bytes.now ≤ FILE_BYTES) × IsPlayable (tables_of file.bytes.now) };
+    ghost invariant = { λ file. (length file.bytes.now ≤ FILE_BYTES) × IsPlayable (tables_of file.bytes.now) × IsValid file.bytes.now };
 }
 
 impl<'a> Verified<'a> {
@@ -40,10 +41,12 @@ impl<'a> Verified<'a> {
     ghost use Rattle.kmx_format.specs.File.{all_rules};
     ghost use Rattle.kmx_format.specs.TablesOf.{tables_of};
     ghost use Rattle.kmx_format.specs.Playable.{IsPlayable};
+    ghost use Rattle.kmx_verifier.specs.FaultOf.{IsValid};
 
     /// The bytes of the file.
     pub fn bytes(&self) -> &'a [u8]
-        ensures { result.now ≡ self.now }
+        ensures value { result.now ≡ self.now }
+        ensures valid { IsValid self.now }
     {
         self.bytes
     }
