@@ -9,10 +9,8 @@ use Rattle.std.proofs.lemmas.List.{map-append, length-map}
 use Rattle.std.proofs.lemmas.List.Elements.{All-head, All-tail}
 use Rattle.std.proofs.lemmas.List.FromFn.{length-range_with_len}
 use Rattle.std.proofs.lemmas.Str.{chars-append, encode_ascii}
-use Rattle.kmn_base.specs.declared.items.Element.{Element}
 use Rattle.kmn_base.specs.declared.items.Element.TheVariants as element
 use Rattle.kmn_parser.proofs.CleanTexts.{counted-characters}
-use Rattle.rule_model.specs.declared.program.SrcItem.{SrcItem}
 use Rattle.rule_model.specs.declared.program.SrcItem.TheVariants as source
 use Rattle.rule_model.specs.declared.program.StoreDef.{StoreDef}
 use Rattle.rule_model.specs.declared.tables.Store.{Store}
@@ -26,6 +24,7 @@ use Rattle.decompile_laws.specs.Items.{Names, back_element}
 use Rattle.decompile_laws.specs.Back.{back_stores, numbered, stated_marks, stated_key, mark_store, key_store, version_text, mark_stores, key_stores, front_stores, free_stores, names_for, written_stores}
 use Rattle.file_text.proofs.WholeTexts.{first_left, one_less}
 use Rattle.kmx_decompiler.specs.Counting.{some_length, called_lengths, spaced_size, joined_length}
+use Rattle.spelled_files.proofs.ShortStores.{singles, element-single}
 
 abbrev pub length_of : Store → ℕ
 length_of store = length store.elements
@@ -38,14 +37,6 @@ module _ (names : SourceNames) where
   lengths-append : (xs ys : List StoreDef) → lengths (xs ++ ys) ≡ lengths xs ++ lengths ys
   lengths-append xs ys = ap (map length_of) (map-append (store_of names []) xs ys) ∙ map-append length_of (map (store_of names []) xs) (map (store_of names []) ys)
 
-  singles : {X : Type 0} (f : X → SrcItem) → ((x : X) → length (item_elements names [] (f x)) ≡ 1) → (xs : List X) → length (flat_map (item_elements names []) (map f xs)) ≡ length xs
-  singles f one [] = refl
-  singles f one (x ∷ xs) =
-      let here = one x in
-      let rest = singles f one xs in
-      let both = length-append (item_elements names [] (f x)) (flat_map (item_elements names []) (map f xs)) in
-      omega (arith, here, rest, both)
-
   some-more : (n : ℕ) → some_length (suc n) ≡ suc n ∷ []
   some-more n = by (nat_eq (suc n) 0) (grind (arith, nat_tests))
     where
@@ -55,14 +46,14 @@ module _ (names : SourceNames) where
 
   key-length : (line : ℕ) (name : List ℕ) (keys : List (List ℕ)) → lengths (numbered line (key_store name keys)) ≡ some_length (length keys)
   key-length line name [] = refl
-  key-length line name (key ∷ keys) = ap (λ (n : ℕ). n ∷ []) (singles stated_key (λ k. refl) (key ∷ keys)) ∙ sym (some-more (length keys))
+  key-length line name (key ∷ keys) = ap (λ (n : ℕ). n ∷ []) (singles names stated_key (λ k. refl) (key ∷ keys)) ∙ sym (some-more (length keys))
 
   mark-length : (line count : ℕ) (name : List ℕ) (more : List (ℕ → StoreDef)) (found : List ℕ) → ((line : ℕ) → lengths (numbered line more) ≡ found)
       → lengths (numbered line (mark_store name count ++ more)) ≡ some_length count ++ found
   mark-length line count name more found h = by (nat_eq count 0)
     where
       all : length (flat_map (item_elements names []) (map (λ m. source.Dead (decimal m)) (range_with_len 1 count))) ≡ count
-      all = singles (λ m. source.Dead (decimal m)) (λ m. refl) (range_with_len 1 count) ∙ length-range_with_len 1 count
+      all = singles names (λ m. source.Dead (decimal m)) (λ m. refl) (range_with_len 1 count) ∙ length-range_with_len 1 count
 
       by : (b : Bool) → lengths (numbered line ((if b then [] else stated_marks name count ∷ []) ++ more)) ≡ (if b then [] else count ∷ []) ++ found
       by true = h line
@@ -74,13 +65,8 @@ module _ (names : SourceNames) where
   front_lengths tables =
       let keys : List ℕ = unwrap_or (slice_get (free_stores tables) (length (mark_stores tables))) [] in
       let marks : List ℕ = unwrap_or (slice_get (free_stores tables) 0) [] in
-      λ j. singles source.Char (λ c. refl) (version_text tables.version) j
+      λ j. singles names source.Char (λ c. refl) (version_text tables.version) j
       ∷ mark-length (1 + 1) (greatest_mark tables) marks (key_stores tables) (some_length (length (tab_dictionary tables.stores))) (λ line. key-length line keys (tab_dictionary tables.stores)) j
-
-  element-single : (called : Names) (e : Element) → length (item_elements names [] (back_element called e)) ≡ 1
-  element-single called (element.Char c) = refl
-  element-single called (element.Mark m) = refl
-  element-single called (element.Key flags code) = refl
 
   -- the stores of the file, by what they are called
   abbrev listed : List (Option (List ℕ)) → List Store → List ℕ
@@ -97,7 +83,7 @@ module _ (names : SourceNames) where
   back-listed called line (Some name ∷ calls) [] = refl
   back-listed called line (None ∷ calls) (store ∷ stores) = back-listed called line calls stores
   back-listed called line (Some name ∷ calls) (store ∷ stores) =
-      λ j. singles (back_element called) (element-single called) store.elements j ∷ back-listed called (line + 1) calls stores j
+      λ j. singles names (back_element called) (element-single names called) store.elements j ∷ back-listed called (line + 1) calls stores j
 
   from_number : (all : List (Option (List ℕ))) (n : ℕ) (calls : List (Option (List ℕ))) (stores : List Store) → calls ≡ drop n all → listed calls stores ≡ called_lengths all n stores
   from_number all n calls [] e = refl
