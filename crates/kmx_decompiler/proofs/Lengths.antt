@@ -1,14 +1,14 @@
 -- Counts by the lengths of stores, one after the other.
-use Rattle.std.proofs.Common.{◌≡◌, ℕ, ◌+◌, List, [], ◌∷◌, ◌++◌, length, drop, map, Some, refl, sym, ap, ◌∙◌, arith}
+use Rattle.std.proofs.Common.{◌≡◌, ℕ, ◌+◌, ◌≤◌, List, [], ◌∷◌, ◌++◌, length, drop, map, Some, refl, sym, ap, ◌∙◌, arith}
 use Rattle.std.specs.Prelude.{sum, slice_get}
 use Rattle.std.proofs.lemmas.List.{drop_more}
 use Rattle.std.proofs.lemmas.List.Sums.{sum_by-cons}
 use Rattle.std.proofs.lemmas.Option.{slice_get_within, get_or_from_slice_get}
 use Rattle.kmx_decompiler.specs.declared.counts.Counts.{Counts}
-use Rattle.kmx_decompiler.specs.Counting.{none_counted, with_lengths}
+use Rattle.kmx_decompiler.specs.Counting.{capped, none_counted, with_lengths}
 
 abbrev next : Counts → ℕ → Counts
-next counts n = record { stores = counts.stores + 1; elements = counts.elements + n }
+next counts n = record { stores = capped (counts.stores + 1); elements = capped (counts.elements + n) }
 
 -- some lengths and others
 pub with_lengths_append : (counts : Counts) (first second : List ℕ) → with_lengths (with_lengths counts first) second ≡ with_lengths counts (first ++ second)
@@ -26,20 +26,27 @@ next_length counts more whole values place value at is so_far =
     ap (λ (c : Counts). with_lengths c (map length rest)) is
     ∙ (sym (ap (λ (vs : List (List ℕ)). with_lengths counts (map length vs)) all) ∙ so_far)
 
-stores_from : (counts : Counts) (ns : List ℕ) → (with_lengths counts ns).stores ≡ counts.stores + length ns
-stores_from counts [] = omega arith
-stores_from counts (n ∷ ns) = let rest = stores_from (next counts n) ns in omega (arith, rest)
+within : (n : ℕ) → n ≤ 0xFFFF_FFFF → capped n ≡ n
+within n few = omega (arith, few)
 
-elements_from : (counts : Counts) (ns : List ℕ) → (with_lengths counts ns).elements ≡ counts.elements + sum ns
-elements_from counts [] = omega arith
-elements_from counts (n ∷ ns) =
-    let rest = elements_from (next counts n) ns in
+stores_from : (counts : Counts) (ns : List ℕ) → counts.stores + length ns ≤ 0xFFFF_FFFF → (with_lengths counts ns).stores ≡ counts.stores + length ns
+stores_from counts [] few = omega arith
+stores_from counts (n ∷ ns) few =
+    let one = within (counts.stores + 1) (omega (arith, few)) in
+    let rest = stores_from (next counts n) ns (omega (arith, few, one)) in
+    omega (arith, rest, one)
+
+elements_from : (counts : Counts) (ns : List ℕ) → counts.elements + sum ns ≤ 0xFFFF_FFFF → (with_lengths counts ns).elements ≡ counts.elements + sum ns
+elements_from counts [] few = omega arith
+elements_from counts (n ∷ ns) few =
     let all : sum (n ∷ ns) ≡ n + sum ns = sum_by-cons (λ m. m) n ns in
-    omega (arith, rest, all)
+    let more = within (counts.elements + n) (omega (arith, few, all)) in
+    let rest = elements_from (next counts n) ns (omega (arith, few, all, more)) in
+    omega (arith, rest, all, more)
 
 -- from nothing on the stores are as many as the lengths, and the elements their sum
-pub stores_are : (ns : List ℕ) → (with_lengths none_counted ns).stores ≡ length ns
-stores_are ns = let all = stores_from none_counted ns in omega (arith, all)
+pub stores_are : (ns : List ℕ) → length ns ≤ 0xFFFF_FFFF → (with_lengths none_counted ns).stores ≡ length ns
+stores_are ns few = let all = stores_from none_counted ns (omega (arith, few)) in omega (arith, all)
 
-pub elements_are : (ns : List ℕ) → (with_lengths none_counted ns).elements ≡ sum ns
-elements_are ns = let all = elements_from none_counted ns in omega (arith, all)
+pub elements_are : (ns : List ℕ) → sum ns ≤ 0xFFFF_FFFF → (with_lengths none_counted ns).elements ≡ sum ns
+elements_are ns few = let all = elements_from none_counted ns (omega (arith, few)) in omega (arith, all)

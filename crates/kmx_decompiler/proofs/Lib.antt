@@ -1,4 +1,5 @@
 pub mod DictionaryWords
+pub mod FewCounts
 pub mod LeastPlaces
 pub mod Lengths
 pub mod NoCauses

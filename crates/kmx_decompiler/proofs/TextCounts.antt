@@ -23,6 +23,7 @@ use Rattle.spelled_files.proofs.CountedSizes.{simple}
 use Rattle.kmx_decompiler.specs.declared.counts.Counts.{Counts}
 use Rattle.kmx_decompiler.specs.Values.{with_values}
 use Rattle.kmx_decompiler.specs.Counting.{none_counted, with_lengths, some_length, called_lengths, joined_length, text_lengths}
+use Rattle.kmx_decompiler.proofs.FewCounts.{few_lengths, few_in_all}
 use Rattle.kmx_decompiler.proofs.Lengths.{stores_are, elements_are}
 use Rattle.kmx_decompiler.proofs.StoreLengths.{length_of, written_lengths, dictionary_length, value_lengths}
 use Rattle.kmx_decompiler.proofs.TextValues.{text_values}
@@ -58,7 +59,7 @@ pub stores_counted : (tables : Tables) (counts : Counts) → IsPlayable tables �
 unfolding store_count
 stores_counted tables counts can out utf8 is =
     ap (λ (c : Counts). c.stores) is
-    ∙ stores_are (text_lengths tables)
+    ∙ stores_are (text_lengths tables) (few_lengths tables can)
     ∙ ap length (sym (lengths_counted tables can out utf8))
     ∙ length-map (compiled_stores (back tables)) length_of
 
@@ -67,7 +68,7 @@ pub elements_counted : (tables : Tables) (counts : Counts) → IsPlayable tables
 unfolding element_count
 elements_counted tables counts can out utf8 is =
     ap (λ (c : Counts). c.elements) is
-    ∙ elements_are (text_lengths tables)
+    ∙ elements_are (text_lengths tables) (few_in_all tables can)
     ∙ ap sum (sym (lengths_counted tables can out utf8))
     ∙ sum-map length_of (compiled_stores (back tables))
     ∙ sym (length-flat_map elements_of (compiled_stores (back tables)))

@@ -1,5 +1,5 @@
 -- How many stores, and how many elements of all of them, a text compiles to.
-use Rattle.std.specs.Prelude.{ℕ, ◌+◌, ◌-◌, nat_eq, if◌then◌else◌, List, [], ◌∷◌, ◌++◌, length, map, Option, None, is_some, unwrap_or, slice_get}
+use Rattle.std.specs.Prelude.{ℕ, ◌+◌, ◌-◌, min, nat_eq, if◌then◌else◌, List, [], ◌∷◌, ◌++◌, length, map, Option, None, is_some, unwrap_or, slice_get}
 use Rattle.kmn_base.specs.Texts.{character_count}
 use Rattle.rule_model.specs.declared.tables.Store.{Store}
 use Rattle.rule_model.specs.declared.tables.Tables.{Tables}
@@ -14,10 +14,14 @@ use Rattle.kmx_decompiler.specs.Values.{with_values}
 abbrev pub none_counted : Counts
 none_counted = record { stores = 0; elements = 0 }
 
+-- a count, which stays at the end of its type
+abbrev pub capped : ℕ → ℕ
+capped count = min count 0xFFFF_FFFF
+
 -- counts with one store more for each of these lengths
 abbrev pub with_lengths : Counts → List ℕ → Counts
 with_lengths counts [] = counts
-with_lengths counts (n ∷ ns) = with_lengths (record { stores = counts.stores + 1; elements = counts.elements + n }) ns
+with_lengths counts (n ∷ ns) = with_lengths (record { stores = capped (counts.stores + 1); elements = capped (counts.elements + n) }) ns
 
 -- the length of a store, where it has an element
 abbrev pub some_length : ℕ → List ℕ

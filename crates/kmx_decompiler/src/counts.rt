@@ -1,6 +1,6 @@
 //! How many stores, and how many elements of all stores, compiling a text gives.
 
-ghost use Rattle.std.specs.Prelude.{◌≡◌, ◌+◌, ◌∷◌, [], map, length, if◌then◌else◌, All, IfOk};
+ghost use Rattle.std.specs.Prelude.{◌≡◌, ◌+◌, ◌<◌, ◌^◌, ◌∷◌, [], map, length, if◌then◌else◌, All, IfOk};
 ghost use Rattle.std.specs.Str.{IsUtf8};
 ghost use Rattle.rule_model.specs.Tab.{tab_dictionary};
 ghost use Rattle.kmx_format.specs.Playable.{IsPlayable};
@@ -9,7 +9,7 @@ ghost use Rattle.decompile_laws.specs.WrittenOut.{CanBeWrittenOut};
 ghost use Rattle.spelled_files.specs.Excess.{store_count, element_count};
 ghost use Rattle.file_text.specs.Whole.{IsFront};
 ghost use Rattle.kmx_decompiler.specs.Refusals.{too_many};
-ghost use Rattle.kmx_decompiler.specs.Counting.{none_counted, with_lengths, some_length, called_lengths, spaced_size, joined_length, text_lengths};
+ghost use Rattle.kmx_decompiler.specs.Counting.{capped, none_counted, with_lengths, some_length, called_lengths, spaced_size, joined_length, text_lengths};
 
 use crate::values::{Values, values_of};
 use file_names::Called;
@@ -34,39 +34,49 @@ const NONE: Counts = Counts {
     elements: 0,
 };
 
-/// A count with so much more. One that no number of the type tells is that of a file that wants more memory than there is.
-fn larger(count: u32, more: usize) -> Result<u32, Memory>
-    ensures { IfOk result (λ sum. sum ≡ count + more) }
+/// A length as a count.
+fn size_of(len: usize) -> u32
+    ensures { result ≡ capped len }
 {
-    let more = u32::try_from(more).map_err(|_| Memory)?;
-    count.checked_add(more).ok_or(Memory)
+    if len < 0xFFFF_FFFF {
+        len as u32
+    } else {
+        0xFFFF_FFFF
+    }
+}
+
+/// A count with so much more, which stays at the end of its type.
+fn larger(count: u32, more: usize) -> u32
+    ensures { result ≡ capped (count + more) }
+{
+    count.saturating_add(size_of(more))
 }
 
 impl Counts {
     /// One store more, of so many elements.
-    fn with(self, elements: usize) -> Result<Counts, Memory>
-        ensures { IfOk result (λ counts. counts ≡ with_lengths self (elements ∷ [])) }
+    fn with(self, elements: usize) -> Counts
+        ensures { result ≡ with_lengths self (elements ∷ []) }
     {
-        Ok(Counts {
-            stores: larger(self.stores, 1)?,
-            elements: larger(self.elements, elements)?,
-        })
+        Counts {
+            stores: larger(self.stores, 1),
+            elements: larger(self.elements, elements),
+        }
     }
 
     /// The counts where the store is one of the text's.
-    fn with_if(self, is_written: bool, elements: usize) -> Result<Counts, Memory>
-        ensures { IfOk result (λ counts. counts ≡ with_lengths self (if is_written then elements ∷ [] else [])) }
+    fn with_if(self, is_written: bool, elements: usize) -> Counts
+        ensures { result ≡ with_lengths self (if is_written then elements ∷ [] else []) }
     {
         if is_written {
             self.with(elements)
         } else {
-            Ok(self)
+            self
         }
     }
 
     /// The counts with a store in front, where it has an element.
-    fn with_some(self, elements: usize) -> Result<Counts, Memory>
-        ensures { IfOk result (λ counts. counts ≡ with_lengths self (some_length elements)) }
+    fn with_some(self, elements: usize) -> Counts
+        ensures { result ≡ with_lengths self (some_length elements) }
     {
         self.with_if(elements != 0, elements)
     }
@@ -74,55 +84,53 @@ impl Counts {
 
 /// The counts with those stores of a file that are called something.
 #[tactic(auto, using(crate::proofs::Lengths::with_lengths_append))]
-fn with_stores(counts: Counts, names: &Called<'_>, stores: &[Store]) -> Result<Counts, Memory>
-    ensures { IfOk result (λ sum. sum ≡ with_lengths counts (called_lengths names.now.stores 0 stores.now)) }
+fn with_stores(counts: Counts, names: &Called<'_>, stores: &[Store]) -> Counts
+    ensures { result ≡ with_lengths counts (called_lengths names.now.stores 0 stores.now) }
 {
     let mut counts = counts;
     for (number, store) in stores.iter().enumerate() {
         let is_written = names.store_at(number).is_some();
-        counts = counts.with_if(is_written, store.elements.len())?;
+        counts = counts.with_if(is_written, store.elements.len());
     }
-    Ok(counts)
+    counts
 }
 
-/// How many characters names have, and one more for each. No number of the type tells more than memory has.
-fn spaced_size(names: &[Text]) -> Result<usize, Memory>
-    ensures { IfOk result (λ size. size ≡ spaced_size names.now) }
+/// How many characters names have, and one more for each.
+fn spaced_size(names: &[Text]) -> usize
+    requires { spaced_size names.now < 2 ^ 32 }
+    ensures { result ≡ spaced_size names.now }
 {
     let mut size: usize = 0;
     for name in names {
-        let more = character_count(name.as_slice());
-        size = size
-            .checked_add(more)
-            .and_then(|sum| sum.checked_add(1))
-            .ok_or(Memory)?;
+        size += character_count(name.as_slice()) + 1;
     }
-    Ok(size)
+    size
 }
 
 /// The counts with the store of the key dictionary, where it has a name.
-fn with_dictionary(counts: Counts, keys: &[Text]) -> Result<Counts, Memory>
-    ensures { IfOk result (λ sum. sum ≡ with_lengths counts (joined_length keys.now)) }
+fn with_dictionary(counts: Counts, keys: &[Text]) -> Counts
+    requires { spaced_size keys.now < 2 ^ 32 }
+    ensures { result ≡ with_lengths counts (joined_length keys.now) }
 {
     match keys {
-        [] => Ok(counts),
-        [_, ..] => counts.with(spaced_size(keys)?.saturating_sub(1)),
+        [] => counts,
+        [_, ..] => counts.with(spaced_size(keys).saturating_sub(1)),
     }
 }
 
 /// The counts with the stores of values.
 #[tactic(auto, using(crate::proofs::Lengths::with_lengths_append))]
-fn with_values(counts: Counts, values: &Values) -> Result<Counts, Memory>
-    ensures { IfOk result (λ sum. sum ≡ with_lengths counts (map length values.now)) }
+fn with_values(counts: Counts, values: &Values) -> Counts
+    ensures { result ≡ with_lengths counts (map length values.now) }
 {
     let mut counts = counts;
     for place in 0..values.len() {
         let Some(value) = values.at(place) else {
-            return Ok(counts);
+            return counts;
         };
-        counts = counts.with(value.len())?;
+        counts = counts.with(value.len());
     }
-    Ok(counts)
+    counts
 }
 
 /// What the stores of tables' text come to, by their lengths.
@@ -135,18 +143,20 @@ fn count_lengths(
 ) -> Result<Counts, Memory>
     requires front { IsFront tables.now front.now }
     requires names { names.now ≡ names_for tables.now }
+    requires keys { spaced_size (tab_dictionary tables.now.stores) < 2 ^ 32 }
     ensures { IfOk result (λ counts. counts ≡ with_lengths none_counted (text_lengths tables.now)) }
 {
-    let counts = NONE.with(version_text(tables.version).len())?;
-    let counts = counts.with_some(usize::from(front.marks))?;
-    let counts = counts.with_some(front.keys.len())?;
-    let counts = with_stores(counts, names, tables.stores.as_slice())?;
-    let counts = with_dictionary(counts, front.keys.as_slice())?;
+    let counts = NONE.with(version_text(tables.version).len());
+    let counts = counts.with_some(usize::from(front.marks));
+    let counts = counts.with_some(front.keys.len());
+    let counts = with_stores(counts, names, tables.stores.as_slice());
+    let counts = with_dictionary(counts, front.keys.as_slice());
     let values = values_of(alloc, names, tables.groups.as_slice())?;
-    with_values(counts, &values)
+    Ok(with_values(counts, &values))
 }
 
 /// How many stores, and how many elements of all of them, compiling the text of tables gives.
+#[tactic(auto, using(crate::proofs::FewCounts::few_characters))]
 pub(crate) fn count_all(
     alloc: Global,
     front: &Front,

@@ -27,7 +27,7 @@ use Rattle.spelled_files.proofs.ShortValues.{filtered}
 use Rattle.spelled_files.proofs.ShortTexts.{IsShortStore}
 
 -- the characters of texts, and one for each text
-abbrev total : List (List ℕ) → ℕ
+abbrev pub total : List (List ℕ) → ℕ
 total [] = 0
 total (text ∷ texts) = suc (character_count text + total texts)
 
