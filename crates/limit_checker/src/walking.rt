@@ -1,10 +1,8 @@
 //! The limits, statement by statement in the order of their lines.
 
-ghost use Rattle.std.specs.Prelude.{◌≡◌, ◌≤◌, ◌++◌, List, length, nat_lt, map, flat_map, IfOk, OnOk};
-ghost use Rattle.std.specs.List.{prefix_len};
+ghost use Rattle.std.specs.Prelude.{◌≡◌, ◌++◌, List, map, flat_map, IfOk, OnOk};
 ghost use Rattle.rule_model.specs.declared.program.RuleDef.{RuleDef};
 ghost use Rattle.rule_model.specs.declared.program.GroupDef.{GroupDef};
-ghost use Rattle.rule_model.specs.declared.program.StoreDef.{StoreDef};
 ghost use Rattle.rule_model.specs.Naming.{all_rules, stores_after, stores_before};
 ghost use Rattle.limit_checker.specs.Limits.{in_line_order, OfStore};
 ghost use Rattle.limit_checker.specs.Walking.{after_rule_walk, after_store_walk, no_walk, walked};
@@ -15,7 +13,7 @@ use kmn_base::limits::CONTEXT_ITEMS;
 use kmn_base::{Memory, Refusal};
 use rule_model::{GroupDef, Program, RuleDef, StoreDef};
 use std::alloc::Global;
-use store_table::{at_line, earlier};
+use store_table::{at_line, earlier, parted_by_line};
 
 /// What was counted up to a statement, and the first refusal so far.
 #[derive(Drop)]
@@ -57,19 +55,6 @@ fn walk_stores(walk: &mut Walk, counted: &StoreCounts, stores: &[StoreDef]) -> R
     Ok(())
 }
 
-/// How many of stores stand before a line.
-fn front_len(stores: &[StoreDef], line: u32) -> usize
-    ensures len { result ≡ prefix_len (λ (store : StoreDef). nat_lt store.line line) stores.now }
-    ensures within { result ≤ length stores.now }
-{
-    for (count, store) in stores.iter().enumerate() {
-        if store.line >= line {
-            return count;
-        }
-    }
-    stores.len()
-}
-
 /// Counts the stores before a line, and hands on the others.
 fn walk_before<'a>(
     walk: &mut Walk,
@@ -80,9 +65,9 @@ fn walk_before<'a>(
     ensures rest { IfOk result (λ rest. rest.now ≡ stores_after line stores.now) }
     ensures walked { OnOk result (walk.new ≡ walked counted.now walk.old (map OfStore (stores_before line stores.now))) }
 {
-    let count = front_len(stores, line);
-    walk_stores(walk, counted, &stores[..count])?;
-    Ok(&stores[count..])
+    let (before, others) = parted_by_line(stores, line);
+    walk_stores(walk, counted, before)?;
+    Ok(others)
 }
 
 /// Counts the rules of a group, each behind the stores before it, and hands on the other stores.

@@ -1,14 +1,13 @@
 //! The names of marks and keys by first appearance, over stores and rules in the order of their lines.
 
-ghost use Rattle.std.specs.Prelude.{◌≡◌, ◌≤◌, ◌++◌, List, [], length, nat_lt, flat_map, IfOk, OnOk, option_to_list};
-ghost use Rattle.std.specs.List.{prefix_len};
+ghost use Rattle.std.specs.Prelude.{◌≡◌, ◌++◌, List, [], flat_map, IfOk, OnOk, option_to_list};
 ghost use Rattle.virtual_keys.specs.Dictionary.{with_name};
 ghost use Rattle.rule_model.specs.declared.program.GroupDef.{GroupDef};
 ghost use Rattle.rule_model.specs.declared.program.RuleDef.{RuleDef};
-ghost use Rattle.rule_model.specs.declared.program.StoreDef.{StoreDef};
 ghost use Rattle.rule_model.specs.Naming.{items_from, rule_items, source_items, store_items, stores_after, stores_before};
 ghost use Rattle.store_table.specs.Numbering.{none_appeared, with_item, with_items, with_key};
 
+use crate::by_line::parted_by_line;
 use crate::name_table::NameTable;
 use kmn_base::Memory;
 use rule_model::{GroupDef, Program, RuleDef, SrcItem, StoreDef};
@@ -102,19 +101,6 @@ fn add_stores(appeared: &mut Appeared, stores: &[StoreDef]) -> Result<(), Memory
     Ok(())
 }
 
-/// How many of stores stand before a line.
-fn front_len(stores: &[StoreDef], line: u32) -> usize
-    ensures len { result ≡ prefix_len (λ (store : StoreDef). nat_lt store.line line) stores.now }
-    ensures within { result ≤ length stores.now }
-{
-    for (count, store) in stores.iter().enumerate() {
-        if store.line >= line {
-            return count;
-        }
-    }
-    stores.len()
-}
-
 /// Adds what the stores before a line name, and hands on the others.
 fn add_before<'a>(
     appeared: &mut Appeared,
@@ -124,9 +110,9 @@ fn add_before<'a>(
     ensures rest { IfOk result (λ rest. rest.now ≡ stores_after line stores.now) }
     ensures added { OnOk result (appeared.new ≡ with_items appeared.old (store_items (stores_before line stores.now))) }
 {
-    let count = front_len(stores, line);
-    add_stores(appeared, &stores[..count])?;
-    Ok(&stores[count..])
+    let (before, others) = parted_by_line(stores, line);
+    add_stores(appeared, before)?;
+    Ok(others)
 }
 
 /// Adds what the rules of a group name, each behind the stores before it, and hands on the other stores.

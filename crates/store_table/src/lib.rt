@@ -4,16 +4,19 @@
 //! the first (`names_refusal`), by the words of `specs/First`, and `specs/Numbering` which numbers names get. The layer
 //! above calls `number`, which answers `numbered` of a program, and looks names up in the `Names` that it gives. The
 //! checkers above say their own refusals by the words of `specs/First` too, take `earlier` and `at_line` for them, and look
-//! at a program with what is `known` of it (`specs/Known`).
+//! at a program with what is `known` of it (`specs/Known`). `parted_by_line` gives the stores that stand before a statement to
+//! those who walk over a program line by line.
 #![tactic(auto)]
 
 mod appearing;
+mod by_line;
 mod first;
 mod name_table;
 mod names;
 mod refusing;
 mod stating;
 
+pub use by_line::parted_by_line;
 pub use first::{at_line, earlier};
 pub use name_table::NameTable;
 pub use names::{Names, number};

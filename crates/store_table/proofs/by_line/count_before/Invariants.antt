@@ -1,7 +1,7 @@
 use Rattle.std.proofs.Common.{◌≡◌, ◌+◌, drop, nat_lt}
 use Rattle.std.specs.List.{prefix_len}
 use Rattle.rule_model.specs.declared.program.StoreDef.{StoreDef}
-use Rattle.store_table.proofs.appearing.front_len.Given as goal
+use Rattle.store_table.proofs.by_line.count_before.Given as goal
 
 abbrev pub invariant-loop-count : goal.invariant-loop-count
 invariant-loop-count l =
