@@ -3,4 +3,3 @@ pub mod Checks
 pub mod Expanded
 pub mod Meaning
 pub mod NoPlaces
-pub mod PictureNames

@@ -2,7 +2,6 @@
 use Rattle.std.specs.Prelude.{ℕ, Bool, nat_eq, if◌then◌else◌, List, length, find, filter_map, Option, Some, None, encode_utf8_all}
 use Rattle.kmn_base.specs.declared.items.Element.{Element}
 use Rattle.rule_model.specs.declared.program.Program.{Program}
-use Rattle.rule_model.specs.declared.program.StoreDef.{StoreDef}
 use Rattle.rule_model.specs.declared.tables.Store.{Store}
 use Rattle.rule_model.specs.Naming.{stores_of}
 use Rattle.rule_model.specs.Tab.{element_char, store_elements}
@@ -10,10 +9,6 @@ use Rattle.rule_model.specs.Tab.{element_char, store_elements}
 -- whether a store is `&bitmap`
 abbrev pub is_bitmap : Store → Bool
 is_bitmap store = nat_eq store.system 1
-
--- whether a statement is one of `&bitmap`
-abbrev pub states_bitmap : StoreDef → Bool
-states_bitmap store = nat_eq store.system 1
 
 -- the characters among elements, as a text; there is none where there are no elements
 abbrev pub picture_text : List Element → Option (List ℕ)

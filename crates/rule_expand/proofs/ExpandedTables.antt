@@ -11,8 +11,9 @@ use Rattle.rule_model.specs.Naming.{SourceNames, names_of, stores_of, stores_ont
 use Rattle.store_table.specs.Numbering.{NameLists, lists_of}
 use Rattle.compile_laws.specs.Numbers.{numbers_of, values_of, value_store, dictionary_stores, compiled_stores, version_of}
 use Rattle.compile_laws.specs.WellNamed.{is_word}
-use Rattle.rule_expand.specs.Lookups.{source_names, AreFew, store_names, AreNumbers}
+use Rattle.rule_expand.specs.Lookups.{source_names, AreFew, BeginWith, store_names, AreNumbers}
 use Rattle.rule_expand.specs.Expanded.{HasTables, expanded_tables, without_stores}
+use Rattle.rule_expand.proofs.NumberLaws.{all_begin}
 
 module _ (program : Program) (has : HasTables program) where
   all_keys : (lists_of program).keys ≡ (names_of program).keys
@@ -42,7 +43,7 @@ module _ (program : Program) (has : HasTables program) where
   pub few_lists : (lists : NameLists) → lists ≡ lists_of program → AreFew lists
   few_lists lists e = subst AreFew (sym e) few
 
-  names_are : (lists : NameLists) → lists ≡ lists_of program → source_names lists ≡ names_of program
+  pub names_are : (lists : NameLists) → lists ≡ lists_of program → source_names lists ≡ names_of program
   names_are lists e = ap source_names e ∙ names_same
 
   -- the stores of the statements, and their names
@@ -54,8 +55,9 @@ module _ (program : Program) (has : HasTables program) where
   unfolding lists_of
   named = refl
 
-  pub statement_names : (lists : NameLists) → lists ≡ lists_of program → lists.stores ≡ store_names (stores_onto (source_names lists) [] program.stores)
-  statement_names lists e = ap (λ (l : NameLists). l.stores) e ∙ (named ∙ ap store_names (sym (stores_are lists e)))
+  pub statements_begin : (lists : NameLists) → lists ≡ lists_of program → BeginWith (stores_onto (source_names lists) [] program.stores) lists.stores
+  statements_begin lists e =
+      all_begin lists (stores_onto (source_names lists) [] program.stores) (ap (λ (l : NameLists). l.stores) e ∙ (named ∙ ap store_names (sym (stores_are lists e))))
 
   keys_are : (lists : NameLists) → lists ≡ lists_of program → lists.keys ≡ (names_of program).keys
   keys_are lists e = ap (λ (l : NameLists). l.keys) e ∙ all_keys

@@ -5,3 +5,4 @@ pub mod PieceLaws
 pub mod RuleRecords
 pub mod ExpandedTables
 pub mod AcceptedTables
+pub mod SystemStores

@@ -10,7 +10,7 @@ use Rattle.virtual_keys.specs.Dictionary.{name_in}
 use Rattle.kmn_base.specs.Texts.{decoded}
 use Rattle.rule_model.specs.declared.program.StoreDef.{StoreDef}
 use Rattle.rule_model.specs.declared.tables.Store.{Store}
-use Rattle.rule_model.specs.Naming.{SourceNames, stores_onto}
+use Rattle.rule_model.specs.Naming.{SourceNames, is_dropped, store_of, stores_onto}
 use Rattle.store_table.specs.Names.{store_names as kept_names}
 use Rattle.store_table.proofs.Naming.{names_onto}
 use Rattle.rule_model.specs.Src.{value_elements}
@@ -26,10 +26,27 @@ next_store names made stores i store h e =
     ap (stores_onto names made) (drop_more stores i store h ∙ ap (λ s. s ∷ drop (i + 1) stores) (sym e))
 
 -- the stores made so far are the first ones
-pub first_stores : (names : SourceNames) (lists : List (List ℕ)) (made : List Store) (stores rest : List StoreDef) → lists ≡ store_names (stores_onto names [] stores)
+pub first_stores : (names : SourceNames) (lists : List (List ℕ)) (made : List Store) (stores rest : List StoreDef) → BeginWith (stores_onto names [] stores) lists
     → stores_onto names made rest ≡ stores_onto names [] stores → BeginWith made lists
-first_stores names lists made stores rest named so_far =
-    record { rest = kept_names rest; is = named ∙ ap store_names (sym so_far) ∙ names_onto names made rest }
+first_stores names lists made stores rest first so_far =
+    record {
+      rest = kept_names rest ++ first.rest;
+      is =
+          first.is
+          ∙ ap (λ (ss : List Store). store_names ss ++ first.rest) (sym so_far)
+          ∙ ap (λ ns. ns ++ first.rest) (names_onto names made rest)
+          ∙ append_assoc (store_names made) (kept_names rest) first.rest;
+    }
+
+onto_parted : (names : SourceNames) (before : List Store) (k : ℕ) (stores : List StoreDef) → stores_onto names (stores_onto names before (take k stores)) (drop k stores) ≡ stores_onto names before stores
+onto_parted names before zero stores = refl
+onto_parted names before (suc k) [] = refl
+onto_parted names before (suc k) (store ∷ stores) = onto_parted names (if is_dropped store then before else before ++ store_of names before store ∷ []) k stores
+
+-- so are the stores of the first statements
+pub first_statements : (names : SourceNames) (lists : List (List ℕ)) (stores : List StoreDef) (k : ℕ) → BeginWith (stores_onto names [] stores) lists
+    → BeginWith (stores_onto names [] (take k stores)) lists
+first_statements names lists stores k first = first_stores names lists (stores_onto names [] (take k stores)) stores (drop k stores) first (onto_parted names [] k stores)
 
 past : {X : Type 0} (xs : List X) (i : ℕ) → slice_get xs i ≡ None → length xs ≤ i
 past [] i e = omega arith

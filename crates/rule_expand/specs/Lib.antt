@@ -3,3 +3,4 @@ pub mod Lookups
 pub mod Pieces
 pub mod Groups
 pub mod Expanded
+pub mod Stated

@@ -86,7 +86,7 @@ fn numbers_of<'a>(
 }
 
 /// The stores of the statements of a program, with room for those that are added.
-#[tactic(auto, using(crate::proofs::ExpandedTables::statement_names, crate::proofs::ExpandedTables::stores_are))]
+#[tactic(auto, using(crate::proofs::ExpandedTables::stores_are))]
 fn stores_of(
     alloc: Global,
     program: &Program,

@@ -6,7 +6,7 @@ ghost use Rattle.rule_model.specs.Naming.{item_elements, store_of, stores_onto};
 ghost use Rattle.rule_model.specs.Src.{value_elements};
 ghost use Rattle.compile_laws.specs.Numbers.{dictionary_stores, value_store};
 ghost use Rattle.compile_laws.specs.WellNamed.{is_word};
-ghost use Rattle.rule_expand.specs.Lookups.{source_names, store_names, AreFew, BeginWith};
+ghost use Rattle.rule_expand.specs.Lookups.{source_names, AreFew, BeginWith};
 
 use crate::lookups::{elements_named, key_number, mark_number};
 use crate::values::Values;
@@ -19,7 +19,7 @@ use store_table::Names;
 use virtual_keys::KeyDictionary;
 
 /// The system id of a store statement that is read and dropped.
-const DROPPED: u32 = 0xFFFF;
+pub const DROPPED: u32 = 0xFFFF;
 /// The system id of the key dictionary's store.
 const DICTIONARY: u32 = 34;
 /// The code of a dictionary's first name.
@@ -52,7 +52,7 @@ fn add_elements(
 }
 
 /// The store of a statement, behind these stores.
-fn store_of(
+pub fn store_of(
     alloc: Global,
     names: &Names,
     before: &[Store],
@@ -101,7 +101,7 @@ pub fn statement_stores(
     room: usize,
 ) -> Result<Vec<Store>, Memory>
     requires few { AreFew names.now }
-    requires names { names.now.stores ≡ store_names (stores_onto (source_names names.now) [] stores.now) }
+    requires first { BeginWith (stores_onto (source_names names.now) [] stores.now) names.now.stores }
     ensures { IfOk result (λ made. made.items ≡ stores_onto (source_names names.now) [] stores.now) }
 {
     let mut made = Vec::with_capacity(alloc, stores.len().saturating_add(room))?;
