@@ -9,8 +9,11 @@ use Rattle.rule_model.specs.declared.tables.Tables.{Tables}
 use Rattle.kmx_format.specs.TablesOf.{tables_of}
 use Rattle.kmx_format.specs.Writable.{IsFile}
 use Rattle.kmx_verifier.specs.declared.faults.Fault.{Fault}
-use Rattle.kmx_verifier.specs.FaultOf.{fault_of}
+use Rattle.kmx_verifier.specs.declared.faults.VerifyError.{VerifyError}
+use Rattle.kmx_verifier.specs.declared.faults.VerifyError.TheVariants as verify
+use Rattle.kmx_verifier.specs.FaultOf.{fault_of, IsRefusal}
 use Rattle.kmx_verifier.proofs.FileValid.{file_valid}
+use Rattle.keyman_run.specs.declared.preparing.Stop.{Stop}
 use Rattle.keyman_run.specs.declared.reason.Reason.{Reason}
 use Rattle.keyman_run.specs.declared.reason.Reason.TheVariants as reason
 use Rattle.keyman_run.specs.declared.status.Status.{Status}
@@ -21,7 +24,7 @@ use Rattle.keyman_run.specs.Orders.{bytes_play_work, tables_play_work}
 use Rattle.keyman_run.specs.Reasons.{fault_line}
 use Rattle.keyman_run.specs.Run.{Does}
 use Rattle.keyman_run.specs.Seen.{FolderView, SinkView}
-use Rattle.keyman_run.specs.Steps.{Tells, TellsFile}
+use Rattle.keyman_run.specs.Steps.{Tells, TellsFile, TellsStop, verify_stop}
 use Rattle.keyman_run.specs.Work.{Work, given, and_then, reads}
 use Rattle.keyman_run.specs.Work.Work.{Give, Refuse}
 use Rattle.keyman_run.proofs.AskedLaws.{first_none}
@@ -45,7 +48,7 @@ does_file slice bytes folders folder sinks out out_after how same tells =
     (does_tables (tables_of_file slice) folders folder sinks out out_after how tells)
 
 -- for want of memory nothing is printed
-pub tells_nothing : {S : Type 0} (read : Result Tables Reason) (sinks : SinkView S) (out : S) → TellsFile read sinks out out status.Memory
+tells_nothing : {S : Type 0} (read : Result Tables Reason) (sinks : SinkView S) (out : S) → TellsFile read sinks out out status.Memory
 tells_nothing (Ok tables) sinks out = record { counts = refl; told = refl; prints = λ told. none_begun (sinks.written out) _ }
 tells_nothing (Err why) sinks out = record { counts = refl; told = refl; prints = λ told. none_begun (sinks.written out) _ }
 
@@ -56,10 +59,22 @@ tells_valid bytes file sinks out out_after how none same tells =
     subst (λ (found : Option Fault). TellsFile (unless_faulty (tables_of bytes) found) sinks out out_after how) (sym none)
     (subst (λ (b : List ℕ). Tells status.Done (valid_line (tables_of b)) sinks out out_after how) same tells)
 
-pub tells_faulty : {S : Type 0} (bytes : List ℕ) (fault : Fault) (sinks : SinkView S) (out out_after : S) (how : Status) → fault_of bytes ≡ Some fault
+tells_faulty : {S : Type 0} (bytes : List ℕ) (fault : Fault) (sinks : SinkView S) (out out_after : S) (how : Status) → fault_of bytes ≡ Some fault
     → Tells status.Refused (fault_line fault) sinks out out_after how → TellsFile (tables_of_file bytes) sinks out out_after how
 tells_faulty bytes fault sinks out out_after how is tells =
     subst (λ (found : Option Fault). TellsFile (unless_faulty (tables_of bytes) found) sinks out out_after how) (sym is) tells
+
+-- the same stop as another value
+pub as_stop : {S : Type 0} (s other : Stop) (sinks : SinkView S) (out out_after : S) (how : Status) → s ≡ other → TellsStop s sinks out out_after how → TellsStop other sinks out out_after how
+as_stop s other sinks out out_after how same tells = subst (λ (t : Stop). TellsStop t sinks out out_after how) same tells
+
+-- what stops the opening of bytes is told
+pub tells_unread : {S : Type 0} (bytes : List ℕ) (error : VerifyError) (sinks : SinkView S) (out out_after : S) (how : Status) → IsRefusal error (λ fault. fault_of bytes ≡ Some fault)
+    → TellsStop (verify_stop error) sinks out out_after how → TellsFile (tables_of_file bytes) sinks out out_after how
+tells_unread bytes (verify.Refused fault) sinks out out_after how is tells = tells_faulty bytes fault sinks out out_after how is tells
+tells_unread {S} bytes verify.Memory sinks out out_after how is tells =
+    subst (λ (o : S). TellsFile (tables_of_file bytes) sinks out o how) (sym tells.1)
+    (subst (λ (s : Status). TellsFile (tables_of_file bytes) sinks out out s) (sym tells.0) (tells_nothing (tables_of_file bytes) sinks out))
 
 -- the file of tables that a file can have is not refused
 pub never_refused : (bytes : List ℕ) (fault : Fault) → IsFile bytes → fault_of bytes ≡ Some fault → ⊥
@@ -67,6 +82,15 @@ never_refused bytes fault file is =
     let valid : fault_of bytes ≡ None = file_valid bytes file in
     let both : None ≡ Some fault = sym valid ∙ is in
     absurd (cc)
+
+-- so what stops its opening is want of memory, for which nothing is printed
+pub tells_unopened : {S : Type 0} (bytes : List ℕ) (error : VerifyError) (good : Status) (printed : List ℕ) (sinks : SinkView S) (out out_after : S) (how : Status) → IsFile bytes
+    → IsRefusal error (λ fault. fault_of bytes ≡ Some fault) → TellsStop (verify_stop error) sinks out out_after how → Tells good printed sinks out out_after how
+tells_unopened bytes (verify.Refused fault) good printed sinks out out_after how file is tells = absurd (never_refused bytes fault file is)
+tells_unopened {S} bytes verify.Memory good printed sinks out out_after how file is tells =
+    subst (λ (o : S). Tells good printed sinks out o how) (sym tells.1)
+    (subst (λ (s : Status). Tells good printed sinks out out s) (sym tells.0)
+    (record { counts = refl; told = refl; prints = λ told. none_begun (sinks.written out) printed }))
 
 -- work that wants memory before it reads or prints anything
 pub does_no_memory : {F S : Type 0} (work : Work Ending) (folders : FolderView F) (folder : F) (sinks : SinkView S) (out : S) → Does work folders folder folder sinks out out status.Memory
@@ -84,12 +108,20 @@ plays_valid bytes file keys folders folder after sinks out out_after how none sa
     subst (λ (found : Option Fault). Does (and_then (given (unless_faulty (tables_of bytes) found)) (λ tables. tables_play_work tables keys)) folders folder after sinks out out_after how) (sym none)
     (subst (λ (b : List ℕ). Does (tables_play_work (tables_of b) keys) folders folder after sinks out out_after how) same does)
 
-pub plays_faulty : {F S : Type 0} (bytes keys : List ℕ) (fault : Fault) (folders : FolderView F) (folder : F) (sinks : SinkView S) (out out_after : S) (how : Status) → fault_of bytes ≡ Some fault
+plays_faulty : {F S : Type 0} (bytes keys : List ℕ) (fault : Fault) (folders : FolderView F) (folder : F) (sinks : SinkView S) (out out_after : S) (how : Status) → fault_of bytes ≡ Some fault
     → Tells status.Refused (fault_line fault) sinks out out_after how → Does (bytes_play_work bytes keys) folders folder folder sinks out out_after how
 plays_faulty bytes keys fault folders folder sinks out out_after how is tells =
     subst (λ (found : Option Fault). Does (and_then (given (unless_faulty (tables_of bytes) found)) (λ tables. tables_play_work tables keys)) folders folder folder sinks out out_after how) (sym is)
     (does_told (Refuse (reason.File fault)) (refused_ending (reason.File fault)) folders folder folder sinks out out_after how refl refl
     (λ told. (refl, record { asked = sym (append-nil (folders.calls folder)); files = λ name. refl })) tells)
+
+-- and on bytes whose opening stopped
+pub plays_unread : {F S : Type 0} (bytes keys : List ℕ) (error : VerifyError) (folders : FolderView F) (folder : F) (sinks : SinkView S) (out out_after : S) (how : Status)
+    → IsRefusal error (λ fault. fault_of bytes ≡ Some fault) → TellsStop (verify_stop error) sinks out out_after how → Does (bytes_play_work bytes keys) folders folder folder sinks out out_after how
+plays_unread bytes keys (verify.Refused fault) folders folder sinks out out_after how is tells = plays_faulty bytes keys fault folders folder sinks out out_after how is tells
+plays_unread {F} {S} bytes keys verify.Memory folders folder sinks out out_after how is tells =
+    subst (λ (o : S). Does (bytes_play_work bytes keys) folders folder folder sinks out o how) (sym tells.1)
+    (subst (λ (s : Status). Does (bytes_play_work bytes keys) folders folder folder sinks out out s) (sym tells.0) (does_no_memory (bytes_play_work bytes keys) folders folder sinks out))
 
 -- playing the entries of a script
 pub plays_entries : {F S : Type 0} (kb : Keyboard) (slice entries : List Entry) (folders : FolderView F) (folder : F) (sinks : SinkView S) (out out_after : S) (how : Status) → slice ≡ entries

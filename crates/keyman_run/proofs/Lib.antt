@@ -9,4 +9,5 @@ pub mod MeaningLaws
 pub mod RunLaws
 mod StatedLoads
 mod TextLaws
+pub mod WordsLaws
 pub mod WorkLaws

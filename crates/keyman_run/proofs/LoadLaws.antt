@@ -11,6 +11,10 @@ use Rattle.kmn_base.specs.declared.refusals.CompileError.TheVariants as compile
 use Rattle.kmn_compiler.specs.Source.{CompilesTo}
 use Rattle.kmn_compiler.specs.declared.compiling.Compiled.{Compiled}
 use Rattle.kmx_format.specs.File.{all_rules, file_of}
+use Rattle.kmx_format.specs.Writable.{IsFile}
+use Rattle.kmx_verifier.specs.declared.faults.VerifyError.{VerifyError}
+use Rattle.kmx_verifier.specs.declared.faults.VerifyError.TheVariants as verify
+use Rattle.kmx_verifier.specs.FaultOf.{fault_of, IsRefusal}
 use Rattle.play_session.specs.Session.{SessionState, first_session, happened, after_step}
 use Rattle.rule_model.specs.Act.{one_more}
 use Rattle.rule_model.specs.Event.{Happening, happening, event_of, event_refusal, unless_refused, whole_text}
@@ -29,6 +33,8 @@ use Rattle.keyman_run.specs.declared.reason.Reason.{Reason}
 use Rattle.keyman_run.specs.declared.reason.Reason.TheVariants as reason
 use Rattle.keyman_run.specs.Inputs.{file_from, pictured_within, unless_large}
 use Rattle.load_laws.specs.Plays.{items_put, last_state}
+use Rattle.load_maker.specs.declared.load.LoadError.{LoadError}
+use Rattle.load_maker.specs.declared.load.LoadError.TheVariants as load
 use Rattle.load_maker.specs.Loads.{is_in_range, load_source, load_script}
 use Rattle.keyman_run.specs.Loads.{compiled_within, job_of, load_job, load_line, load_text, played_load, sums_behind, sums_from, sums_of, sums_left, unless_stopped, no_progress, LeadsTo}
 use Rattle.keyman_run.specs.declared.status.Status.{Status}
@@ -39,10 +45,11 @@ use Rattle.keyman_run.specs.Command.Request.{Load}
 use Rattle.keyman_run.specs.Orders.{work_of}
 use Rattle.keyman_run.specs.Run.{Does}
 use Rattle.keyman_run.specs.Seen.{FolderView, SinkView}
-use Rattle.keyman_run.specs.Steps.{States, Tells, TellsLoad, TellsStop, compile_stop, itself}
+use Rattle.keyman_run.specs.Steps.{States, Tells, TellsLoad, TellsStop, compile_stop, load_stop, verify_stop, itself}
 use Rattle.keyman_run.specs.Work.{given, and_then}
 use Rattle.keyman_run.specs.Work.Work.{Give, Refuse}
 use Rattle.play_transcript.proofs.PrintingLaws.{none_begun}
+use Rattle.keyman_run.proofs.FileRuns.{never_refused}
 use Rattle.keyman_run.proofs.RunLaws.{does_told}
 use Rattle.keyman_run.proofs.StatedLoads.{load_stated}
 
@@ -94,8 +101,15 @@ made_states {A} seen number source script result inside is_source is_script stat
     by_range true never = refl
     by_range false never = absurd (never refl)
 
-pub unmade_states : (number : ℕ) → is_in_range number ≡ false → load_job number ≡ Err reason.Number
-unmade_states number is = ap (λ (is_in : Bool). if is_in then job_of (load_source number) (load_script number) else Err reason.Number) is
+pub unmade_states : {A : Type 0} (seen : A → Job) (number : ℕ) (error : LoadError) → (error ≡ load.Range → is_in_range number ≡ false) → States {A = A} seen (load_job number) (Err (load_stop error))
+unmade_states seen number load.Range range = ap (λ (is_in : Bool). if is_in then job_of (load_source number) (load_script number) else Err reason.Number) (range refl)
+unmade_states seen number load.Memory range = tt
+
+-- the file of tables that a file can have is not refused, so that what stops its opening is want of memory
+pub unopened_states : {A B : Type 0} (seen : A → B) (stated : Result B Reason) (bytes : List ℕ) (error : VerifyError) → IsFile bytes → IsRefusal error (λ fault. fault_of bytes ≡ Some fault)
+    → States {A = A} seen stated (Err (verify_stop error))
+unopened_states seen stated bytes (verify.Refused fault) file is = absurd (never_refused bytes fault file is)
+unopened_states seen stated bytes verify.Memory file is = tt
 
 -- the play behind a job, and the line behind its sums
 abbrev pub line_behind : ℕ → Compiled → Sums → Result (List ℕ) Reason

@@ -1,5 +1,5 @@
 -- A run ends as the meaning of its source wants it, and the file that it writes means the source.
-use Rattle.std.proofs.Common.{◌≡◌, ◌⊎◌, inl, inr, ℕ, Bool, true, false, ◌||◌, IsTrue, List, [], ◌∷◌, ◌++◌, map, Option, Some, None, Result, Ok, Err, refl, ap, sym, ◌∙◌, subst, append-nil}
+use Rattle.std.proofs.Common.{◌≡◌, ◌⊎◌, inl, inr, ℕ, Bool, true, false, ◌||◌, IsTrue, List, [], ◌∷◌, ◌++◌, map, Option, Some, None, Result, Ok, Err, refl, ap, sym, ◌∙◌, subst, append_assoc, append-nil}
 use Rattle.std.specs.Prelude.{option_map, IsSomeAnd}
 use Rattle.std.specs.List.{list_any}
 use Rattle.std.specs.Option.{option_map_or}
@@ -7,8 +7,10 @@ use Rattle.std.proofs.lemmas.List.{append_cancel_left, map-append, take_all}
 use Rattle.std.proofs.lemmas.List.Folds.{list_any-append}
 use Rattle.kmn_base.specs.declared.codes.Code.{Code}
 use Rattle.kmn_base.specs.declared.refusals.Refusal.{Refusal}
-use Rattle.kmn_outside.specs.Outside.{Files, Rose}
+use Rattle.kmn_outside.specs.Outside.{Files, Rose, Writes}
 use Rattle.kmn_outside.specs.declared.traits.Call.{Call}
+use Rattle.kmn_outside.specs.declared.traits.WriteError.{WriteError}
+use Rattle.kmn_outside.specs.declared.traits.WriteError.TheVariants as write
 use Rattle.kmx_writer.specs.Excess.{excess}
 use Rattle.rule_model.specs.declared.program.Program.{Program}
 use Rattle.rule_model.specs.declared.script.Entry.{Entry}
@@ -25,17 +27,18 @@ use Rattle.rule_expand.proofs.AcceptedTables.{has_tables}
 use Rattle.kmn_compiler.specs.Picture.{picture_name}
 use Rattle.kmn_compiler.specs.declared.compiling.Compiled.{Compiled}
 use Rattle.kmn_compiler.proofs.Checks.{checked_means, checked_steps, checked_prints}
+use Rattle.keyman_run.specs.declared.preparing.Stop.{Stop}
+use Rattle.keyman_run.specs.declared.preparing.Stop.TheVariants as stop
 use Rattle.keyman_run.specs.declared.reason.Reason.{Reason}
 use Rattle.keyman_run.specs.declared.status.Status.{Status}
 use Rattle.keyman_run.specs.declared.status.Status.TheVariants as status
 use Rattle.keyman_run.specs.Asked.{Ask, write_of, answered, failed, AsksAll, AsksUntil, AsksBy, has_written, HasWritten}
-use Rattle.keyman_run.specs.Command.{Request}
-use Rattle.keyman_run.specs.Command.Request.{Compile, Decompile, Layout, Load, Play, Test, Verify}
-use Rattle.keyman_run.specs.Endings.{Ending, Job, asked, conclusion, refused_ending, compile_ending, test_ending, play_status, ends, file_asks, writes}
+use Rattle.keyman_run.specs.Endings.{Ending, Job, conclusion, refused_ending, compile_ending, test_ending, play_status, ends, file_asks, writes}
 use Rattle.keyman_run.specs.Inputs.{Pictured, by_line, file_from, picture_of, pictured_within, program_of, unless_large}
-use Rattle.keyman_run.specs.Orders.{source_work, picture_work, pictured_work, program_work, file_work, compiled_work, script_work, job_work, compile_work, test_work, work_of}
-use Rattle.keyman_run.specs.Run.{Written, HasWorked, HasFailedToWrite, LeavesBy, Does, SourceMeans, FileMeans}
+use Rattle.keyman_run.specs.Orders.{source_work, picture_work, pictured_work, program_work, file_work, compiled_work, script_work, job_work, compile_work, test_work}
+use Rattle.keyman_run.specs.Run.{Written, HasRead, HasWorked, HasFailedToWrite, LeavesBy, Does, SourceMeans}
 use Rattle.keyman_run.specs.Seen.{FolderView, SinkView, FolderState, SinkState, seen_folder, seen_sink}
+use Rattle.keyman_run.specs.Steps.{GivesBy}
 use Rattle.keyman_run.specs.Work.{Reading, Work, given, and_then, reading_of, reads, comes_to}
 use Rattle.keyman_run.specs.Work.Reading.{Bytes, Over}
 use Rattle.keyman_run.specs.Work.Work.{Give, Refuse, Read}
@@ -190,6 +193,34 @@ none_in_front front rest none = left (list_any has_written front) (list_any has_
 none_of_both : (front rest : List Call) → list_any has_written front ≡ false → list_any has_written rest ≡ false → list_any has_written (front ++ rest) ≡ false
 none_of_both front rest none other = list_any-append has_written front rest ∙ (λ i. none i || other i)
 
+reads_begun : (wanted front rest : List Ask) → list_any has_written (map answered wanted) ≡ false → wanted ≡ front ++ rest → list_any has_written (map answered front) ≡ false
+reads_begun wanted front rest none parts = none_in_front (map answered front) (map answered rest)
+    (ap (list_any has_written) (sym (map-append answered front rest)) ∙ ap (λ asks. list_any has_written (map answered asks)) (sym parts) ∙ none)
+
+-- work that was stopped wrote nothing
+pub stopped_unwritten : {A B R : Type 0} (seen : A → B) (work : Work B) (before after : FolderState) (s : Stop) → GivesBy seen (reads before.files work) (comes_to before.files work) before after (Err s)
+    → HasWritten before.calls after.calls → R
+stopped_unwritten seen work before after (stop.Refused why) g written =
+    never_written before.calls after.calls (map answered (reads before.files work)) g.1.asked (reads_none before.files work) written
+stopped_unwritten seen work before after stop.ReadFault g written =
+    let h = g.asked in
+    never_written before.calls after.calls (map answered h.front ++ failed (h.name, false) ∷ []) h.made
+    (none_of_both (map answered h.front) (failed (h.name, false) ∷ []) (reads_begun (reads before.files work) h.front ((h.name, false) ∷ h.rest) (reads_none before.files work) h.parts) refl) written
+stopped_unwritten seen work before after stop.Memory g written =
+    let h = g.asked in
+    never_written before.calls after.calls (map answered h.front) h.made (reads_begun (reads before.files work) h.front h.rest (reads_none before.files work) h.parts) written
+
+-- nor did work whose write failed
+pub failed_unwritten : {B R : Type 0} (work : Work B) (before middle : FolderState) (files_after : Files) (after : List Call) (name bytes : List ℕ) (error : WriteError) → HasRead (reads before.files work) before middle
+    → Writes middle.files files_after middle.calls after name bytes (Err error) → HasWritten before.calls after → R
+failed_unwritten work before middle files_after after name bytes write.Failed h w written =
+    let wanted : List Ask = reads before.files work in
+    never_written before.calls after (map answered wanted ++ failed (write_of name) ∷ [])
+    (w.1 ∙ ap (λ (calls : List Call). calls ++ failed (write_of name) ∷ []) h.asked ∙ append_assoc before.calls (map answered wanted) (failed (write_of name) ∷ []))
+    (none_of_both (map answered wanted) (failed (write_of name) ∷ []) (reads_none before.files work) refl) written
+failed_unwritten work before middle files_after after name bytes write.Memory h w written =
+    never_written before.calls after (map answered (reads before.files work)) (w.1 ∙ h.asked) (reads_none before.files work) written
+
 -- the ending whose file was written, and the file
 pub record WrittenEnding (end : Option Ending) (after : Files) : Type 0 where
   pub ending : Ending
@@ -208,15 +239,11 @@ module _ (wanted : List Ask) (none : list_any has_written (map answered wanted) 
   by_work : (ending : Ending) → end ≡ Some ending → HasWorked wanted ending before after → WrittenEnding end after.files
   by_work ending is worked = by_file ending ending.file refl is worked.asked worked.files
 
-  begun_none : (front rest : List Ask) → wanted ≡ front ++ rest → list_any has_written (map answered front) ≡ false
-  begun_none front rest parts = none_in_front (map answered front) (map answered rest)
-      (ap (list_any has_written) (sym (map-append answered front rest)) ∙ ap (λ asks. list_any has_written (map answered asks)) (sym parts) ∙ none)
-
   pub written_ending : (sink sink_after : SinkState) (how : Status) → LeavesBy wanted end before after sink sink_after how → WrittenEnding end after.files
   written_ending sink sink_after status.ReadFault l =
       let h = l.1.asked in
       never_written before.calls after.calls (map answered h.front ++ failed (h.name, false) ∷ []) h.made
-      (none_of_both (map answered h.front) (failed (h.name, false) ∷ []) (begun_none h.front ((h.name, false) ∷ h.rest) h.parts) refl) written
+      (none_of_both (map answered h.front) (failed (h.name, false) ∷ []) (reads_begun wanted h.front ((h.name, false) ∷ h.rest) none h.parts) refl) written
   written_ending sink sink_after status.WriteFault (inl l) =
       let h = l.1.spoilt in
       never_written before.calls after.calls (map answered wanted ++ failed (write_of h.name) ∷ []) h.asked
@@ -224,7 +251,7 @@ module _ (wanted : List Ask) (none : list_any has_written (map answered wanted) 
   written_ending sink sink_after status.WriteFault (inr l) = by_work l.1.ending l.1.is l.1.worked
   written_ending sink sink_after status.Memory (inl l) =
       let h = l.0.asked in
-      never_written before.calls after.calls (map answered h.front) h.made (begun_none h.front h.rest h.parts) written
+      never_written before.calls after.calls (map answered h.front) h.made (reads_begun wanted h.front h.rest none h.parts) written
   written_ending sink sink_after status.Memory (inr l) = by_work l.ending l.is l.worked
   written_ending sink sink_after status.Done l = by_work l.ending l.is l.worked
   written_ending sink sink_after status.Refused l = by_work l.ending l.is l.worked
@@ -327,27 +354,3 @@ ends_as_wanted wanted end before after sink sink_after status.Done l no_folder n
 ends_as_wanted wanted end before after sink sink_after status.Refused l no_folder no_sink = inr (some_ending end l.ending status.Refused l.is l.how_is)
 ends_as_wanted wanted end before after sink sink_after status.Words l no_folder no_sink = inr (some_ending end l.ending status.Words l.is l.how_is)
 ends_as_wanted wanted end before after sink sink_after status.ExpectFailed l no_folder no_sink = inr (some_ending end l.ending status.ExpectFailed l.is l.how_is)
-
--- the clauses of a run on its words, from those of the command that they are
-pub run_asks : {F S : Type 0} (request found : Option Request) (folders : FolderView F) (folder after : F) (sinks : SinkView S) (out out_after : S) (how : Status)
-    → request ≡ found → Does (work_of request) folders folder after sinks out out_after how → IsTrue (folders.told folder)
-    → AsksBy (Rose (sinks.faults out) (sinks.faults out_after)) (asked (folders.files folder) (work_of found)) (folders.calls folder) (folders.calls after) how
-run_asks request found folders folder after sinks out out_after how is does told =
-    subst (λ (r : Option Request). AsksBy (Rose (sinks.faults out) (sinks.faults out_after)) (asked (folders.files folder) (work_of r)) (folders.calls folder) (folders.calls after) how) is
-    (asks_by (reads (folders.files folder) (work_of request)) (ends (folders.files folder) (work_of request)) (seen_folder folders folder) (seen_folder folders after) (seen_sink sinks out) (seen_sink sinks out_after) how (does.leaves told))
-
-request_means : {F S : Type 0} (request : Option Request) (folders : FolderView F) (folder after : F) (sinks : SinkView S) (out out_after : S) (how : Status)
-    → Does (work_of request) folders folder after sinks out out_after how → IsTrue (folders.told folder) → FileMeans (seen_folder folders folder) (seen_folder folders after) request
-request_means None folders folder after sinks out out_after how does told = tt
-request_means (Some (Compile source file)) folders folder after sinks out out_after how does told = λ written. compile_means source file folders folder after sinks out out_after how does told written
-request_means (Some (Decompile file source)) folders folder after sinks out out_after how does told = tt
-request_means (Some (Verify file)) folders folder after sinks out out_after how does told = tt
-request_means (Some (Play file keys)) folders folder after sinks out out_after how does told = tt
-request_means (Some (Layout source layout)) folders folder after sinks out out_after how does told = tt
-request_means (Some (Load number)) folders folder after sinks out out_after how does told = tt
-request_means (Some (Test source file keys)) folders folder after sinks out out_after how does told = λ written. test_means source file keys folders folder after sinks out out_after how does told written
-
-pub run_means : {F S : Type 0} (request found : Option Request) (folders : FolderView F) (folder after : F) (sinks : SinkView S) (out out_after : S) (how : Status)
-    → request ≡ found → Does (work_of request) folders folder after sinks out out_after how → IsTrue (folders.told folder) → FileMeans (seen_folder folders folder) (seen_folder folders after) found
-run_means request found folders folder after sinks out out_after how is does told =
-    subst (λ (r : Option Request). FileMeans (seen_folder folders folder) (seen_folder folders after) r) is (request_means request folders folder after sinks out out_after how does told)

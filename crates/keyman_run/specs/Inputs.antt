@@ -1,5 +1,5 @@
 -- What the inputs of a command state.
-use Rattle.std.specs.Prelude.{ℕ, List, Option, Some, None, Result, Ok, Err}
+use Rattle.std.specs.Prelude.{◌≡◌, ℕ, List, Option, Some, None, Result, Ok, Err}
 use Rattle.kmn_base.specs.Answers.{and_then}
 use Rattle.kmn_base.specs.declared.codes.Code.{Code}
 use Rattle.kmn_base.specs.declared.codes.Code.TheVariants.{C24, L05, P06, T7, V15}
@@ -18,6 +18,7 @@ use Rattle.kmx_verifier.specs.declared.faults.Fault.{Fault}
 use Rattle.kmx_verifier.specs.FaultOf.{fault_of}
 use Rattle.program_text.specs.Programs.{program_text}
 use Rattle.decompile_laws.specs.Back.{back}
+use Rattle.spelled_files.specs.Laws.{HasText}
 use Rattle.spelled_files.specs.Unspelled.{unspelled}
 use Rattle.spelled_files.specs.declared.no_spelling.NoSpelling.{NoSpelling}
 use Rattle.touch_layout.specs.Faults.{fault, whole_layout}
@@ -87,6 +88,11 @@ unless_unspelled tables (Some why) = Err (reason.Text why)
 -- the text of a file, or its first fault, or why it has no text
 abbrev pub text_of_file : List ℕ → Result (List ℕ) Reason
 text_of_file bytes = and_then (tables_of_file bytes) (λ tables. unless_unspelled tables (unspelled bytes))
+
+-- a text is the one of bytes, which are a valid file that has one
+pub record IsTextOf (bytes text : List ℕ) : Type 0 where
+  pub has : HasText bytes
+  pub is : text ≡ program_text (back (tables_of bytes))
 
 -- the count of a layout's keys, unless a rule is broken
 abbrev pub unless_broken : ℕ → Option LayoutFault → Result ℕ Reason

@@ -7,6 +7,7 @@ pub mod Loads
 pub mod Orders
 pub mod Reasons
 pub mod Run
+pub mod Runs
 pub mod Seen
 pub mod Status
 pub mod Steps

@@ -1,7 +1,12 @@
 -- What a run of work does to a folder and a sink.
-use Rattle.std.specs.Prelude.{◌≡◌, ◌≢◌, ◌⊎◌, ℕ, false, IsTrue, List, [], ◌∷◌, ◌++◌, map, Option, Some, None, IsSomeAnd, Ok}
+use Rattle.std.specs.Prelude.{◌≡◌, ◌≢◌, ◌⊎◌, ℕ, false, IsTrue, List, [], ◌∷◌, ◌++◌, map, Option, Some, None, IsSomeAnd, Result, Ok}
+use Rattle.kmn_base.specs.declared.refusals.CompileError.{CompileError}
 use Rattle.kmn_outside.specs.Outside.{Files, Rose, SameFiles, SameOthers}
 use Rattle.compile_laws.specs.Means.{Means}
+use Rattle.rule_checker.specs.Refused.{checked}
+use Rattle.kmn_compiler.specs.Source.{CompilesTo}
+use Rattle.kmn_compiler.specs.declared.compiling.Compiled.{Compiled}
+use Rattle.round_trips.specs.Laws.{TakesStepsOf}
 use Rattle.keyman_run.specs.declared.status.Status.{Status}
 use Rattle.keyman_run.specs.declared.status.Status.TheVariants as status
 use Rattle.keyman_run.specs.Asked.{Ask, write_of, answered, failed, AsksAll, AsksFirst, AsksUntil, HasWritten}
@@ -108,13 +113,21 @@ pub record SourceMeans (before after : Files) (source file : List ℕ) : Type 0 
   pub is : comes_to before (program_work source) ≡ Some (Ok pictured)
   pub means : IsSomeAnd (after file) (λ bytes. Means bytes pictured.program)
 
--- where a request's compiled file was written, it means the source; the other requests write none
+-- the text in place of the source compiles, with no picture and but for want of memory, to a file that takes the same steps as
+-- the file that was given, whatever the events
+pub record TextMeans (before after : Files) (file source : List ℕ) : Type 0 where
+  pub bytes : List ℕ
+  pub is : before file ≡ Some bytes
+  pub means : IsSomeAnd (after source) (λ text. (result : Result Compiled CompileError) → CompilesTo (checked text) [] result → TakesStepsOf bytes result)
+
+-- where a request's file was written, it means the source, and where its source was, that means the file; the other requests
+-- write none
 abbrev pub FileMeans : FolderState → FolderState → Option Request → Type 0
 FileMeans before after None = Unit {0}
 FileMeans before after (Some (Compile source file)) = HasWritten before.calls after.calls → SourceMeans before.files after.files source file
 FileMeans before after (Some (Test source file keys)) = HasWritten before.calls after.calls → SourceMeans before.files after.files source file
 FileMeans before after (Some (Verify file)) = Unit {0}
-FileMeans before after (Some (Decompile file source)) = Unit {0}
+FileMeans before after (Some (Decompile file source)) = HasWritten before.calls after.calls → TextMeans before.files after.files file source
 FileMeans before after (Some (Play file keys)) = Unit {0}
 FileMeans before after (Some (Layout source layout)) = Unit {0}
 FileMeans before after (Some (Load number)) = Unit {0}

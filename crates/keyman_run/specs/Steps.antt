@@ -12,6 +12,10 @@ use Rattle.rule_model.specs.Tab.{tab}
 use Rattle.rule_model.specs.declared.tables.Tables.{Tables}
 use Rattle.kmx_format.specs.TablesOf.{tables_of}
 use Rattle.kmx_format.specs.Writable.{IsFile, IsWritable}
+use Rattle.kmx_verifier.specs.declared.faults.VerifyError.{VerifyError}
+use Rattle.kmx_verifier.specs.declared.faults.VerifyError.TheVariants as verify
+use Rattle.load_maker.specs.declared.load.LoadError.{LoadError}
+use Rattle.load_maker.specs.declared.load.LoadError.TheVariants as load
 use Rattle.play_script.specs.declared.errors.ScriptError.{ScriptError}
 use Rattle.play_script.specs.declared.errors.ScriptError.TheVariants as script
 use Rattle.kmx_decompiler.specs.declared.refusals.DecompileError.{DecompileError}
@@ -49,6 +53,16 @@ script_stop script.Memory = stop.Memory
 abbrev pub layout_stop : LayoutError → Stop
 layout_stop (layout.Refused fault) = stop.Refused (reason.Layout fault)
 layout_stop layout.Memory = stop.Memory
+
+-- why a run stops where bytes are no valid file
+abbrev pub verify_stop : VerifyError → Stop
+verify_stop (verify.Refused fault) = stop.Refused (reason.File fault)
+verify_stop verify.Memory = stop.Memory
+
+-- why a run stops where there is no load
+abbrev pub load_stop : LoadError → Stop
+load_stop load.Range = stop.Refused reason.Number
+load_stop load.Memory = stop.Memory
 
 -- why a run stops where a file has no text
 abbrev pub text_stop : DecompileError → Stop

@@ -1,6 +1,6 @@
 //! The command `load`: a large keyboard is made, compiled, verified and played in memory.
 
-ghost use Rattle.std.specs.Prelude.{◌≡◌, ◌≤◌, ◌<◌, ◌+◌, ◌-◌, ◌^◌, ◌∷◌, ℕ, List, length, IfOk};
+ghost use Rattle.std.specs.Prelude.{◌≡◌, ◌≤◌, ◌<◌, ◌+◌, ◌-◌, ◌*◌, ◌^◌, ◌∷◌, ℕ, List, length, IfOk};
 ghost use Rattle.std.specs.String.{string_bytes};
 ghost use Rattle.kmx_format.specs.File.{all_rules};
 ghost use Rattle.kmx_format.specs.TablesOf.{tables_of};
@@ -19,8 +19,8 @@ use crate::reason::Reason;
 use kmn_base::{Code, Event, Memory, Seq, Text};
 use kmn_compiler::{Compiled, back, front};
 use kmx_format::rule_count;
-use kmx_verifier::{Verified, VerifyError, verify};
-use load_maker::{LoadError, make};
+use kmx_verifier::{Verified, verify};
+use load_maker::make;
 use play_script::read_script;
 use play_session::{Session, StepError};
 use rule_checker::Checked;
@@ -32,7 +32,7 @@ use virtual_keys::KeyDictionary;
 #[derive(Clone, Copy, Debug, PartialEq, Eq)]
 pub struct Sums {
     pub events: usize,
-    pub put: u64,
+    pub put: u128,
     /// In characters.
     pub text: usize,
 }
@@ -43,7 +43,8 @@ pub struct Progress {
     /// Stays at the end of its type.
     pub number: u32,
     pub events: usize,
-    pub put: u64,
+    /// No event puts more than fit in 32 bits, so that the sum always has room.
+    pub put: u128,
 }
 
 /// The line of the load of a number, which is made, compiled, verified and played.
@@ -56,16 +57,12 @@ pub fn played_load(alloc: Global, number: u32) -> Result<Text, Stop>
 }
 
 /// Makes and compiles the load of a number, and reads its script.
-#[tactic(auto, using(crate::proofs::LoadLaws::made_states, crate::proofs::LoadLaws::unmade_states))]
 fn prepare_load(alloc: Global, number: u32) -> Result<Prepared, Stop>
     ensures compiled { IfOk result (λ prepared. IsCompiled prepared.compiled) }
     ensures states { States prepared_job (load_job number) result }
 {
-    match make(alloc, number) {
-        Ok(load) => prepare_texts(alloc, load.source.as_slice(), load.script.as_slice()),
-        Err(LoadError::Range) => Err(Stop::Refused(Reason::Number)),
-        Err(LoadError::Memory) => Err(Stop::Memory),
-    }
+    let load = make(alloc, number)?;
+    prepare_texts(alloc, load.source.as_slice(), load.script.as_slice())
 }
 
 /// Compiles a source without a picture, and reads a script for it.
@@ -106,11 +103,7 @@ fn play_load(alloc: Global, prepared: &Prepared) -> Result<Sums, Stop>
     requires { IsCompiled prepared.now.compiled }
     ensures { States itself (sums_of (trace (tab prepared.now.compiled.tables) (events_of prepared.now.entries))) result }
 {
-    let file = match verify(alloc, prepared.compiled.bytes.as_slice()) {
-        Ok(file) => file,
-        Err(VerifyError::Refused(_)) => unreachable!(),
-        Err(VerifyError::Memory) => return Err(Stop::Memory),
-    };
+    let file = verify(alloc, prepared.compiled.bytes.as_slice())?;
     count_play(alloc, &file, prepared.entries.as_slice())
 }
 
@@ -159,7 +152,9 @@ fn count_entry(
 ) -> Result<Progress, Stop>
     requires numbered { session.old.number ≡ progress.number }
     requires events { progress.events < 2 ^ 64 - 1 }
-    ensures numbered { IfOk result (λ next. (session.new.number ≡ next.number) × (next.events ≤ progress.events + 1)) }
+    requires put { progress.put ≤ progress.events * 2 ^ 32 }
+    ensures numbered { IfOk result (λ next. session.new.number ≡ next.number) }
+    ensures counted { IfOk result (λ next. (next.events ≤ progress.events + 1) × (next.put ≤ next.events * 2 ^ 32)) }
     ensures leads { (entries : List Entry) → LeadsTo (sums_left session.old progress (entry.now ∷ entries)) (λ next. sums_left session.new next entries) result }
 {
     match entry {
@@ -168,7 +163,7 @@ fn count_entry(
     }
 }
 
-/// Does an event, and counts it. More items than the count has room for are want of memory.
+/// Does an event, and counts it.
 #[tactic(auto, using(crate::proofs::LoadLaws::event_counted, crate::proofs::LoadLaws::event_stops))]
 fn count_event(
     alloc: Global,
@@ -178,18 +173,17 @@ fn count_event(
 ) -> Result<Progress, Stop>
     requires numbered { session.old.number ≡ progress.number }
     requires events { progress.events < 2 ^ 64 - 1 }
-    ensures numbered { IfOk result (λ next. (session.new.number ≡ next.number) × (next.events ≤ progress.events + 1)) }
+    requires put { progress.put ≤ progress.events * 2 ^ 32 }
+    ensures numbered { IfOk result (λ next. session.new.number ≡ next.number) }
+    ensures counted { IfOk result (λ next. (next.events ≤ progress.events + 1) × (next.put ≤ next.events * 2 ^ 32)) }
     ensures leads { (line : ℕ) (entries : List Entry) → LeadsTo (sums_left session.old progress (Act line event.now ∷ entries)) (λ next. sums_left session.new next entries) result }
 {
     match session.step(alloc, event) {
-        Ok(step) => match progress.put.checked_add(u64::from(step.outcome.put)) {
-            Some(put) => Ok(Progress {
-                number: step.number,
-                events: progress.events + 1,
-                put,
-            }),
-            None => Err(Stop::Memory),
-        },
+        Ok(step) => Ok(Progress {
+            number: step.number,
+            events: progress.events + 1,
+            put: progress.put + u128::from(step.outcome.put),
+        }),
         Err(StepError::Place) => Err(event_stop(progress.number, Code::E1)),
         Err(StepError::Length) => Err(event_stop(progress.number, Code::E2)),
         Err(StepError::Memory) => Err(Stop::Memory),

@@ -11,7 +11,8 @@ use kmn_base::limits::{FILE_BYTES, PICTURE_BYTES, TEXT_BYTES};
 use kmn_base::{Code, CompileError, Memory, Refusal, Seq};
 use kmn_compiler::{Compiled, back, front, picture_name};
 use kmn_outside::{Folder, ReadError};
-use kmx_verifier::Fault;
+use kmx_verifier::{Fault, VerifyError};
+use load_maker::LoadError;
 use play_script::{ScriptError, read_script};
 use play_session::Session;
 use rule_checker::Checked;
@@ -60,6 +61,32 @@ impl From<ScriptError> for Stop {
         match error {
             ScriptError::Refused(refusal) => Stop::Refused(Reason::Line(refusal)),
             ScriptError::Memory => Stop::Memory,
+        }
+    }
+}
+
+impl From<VerifyError> for Stop {
+    ghost use Rattle.keyman_run.specs.Steps.{verify_stop};
+
+    ghost from_gives = { λ error given. given ≡ verify_stop error };
+
+    fn from(error: VerifyError) -> Stop {
+        match error {
+            VerifyError::Refused(fault) => Stop::Refused(Reason::File(fault)),
+            VerifyError::Memory => Stop::Memory,
+        }
+    }
+}
+
+impl From<LoadError> for Stop {
+    ghost use Rattle.keyman_run.specs.Steps.{load_stop};
+
+    ghost from_gives = { λ error given. given ≡ load_stop error };
+
+    fn from(error: LoadError) -> Stop {
+        match error {
+            LoadError::Range => Stop::Refused(Reason::Number),
+            LoadError::Memory => Stop::Memory,
         }
     }
 }

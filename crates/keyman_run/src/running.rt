@@ -1,19 +1,17 @@
-ghost use Rattle.std.specs.Prelude.{◌≡◌, ◌⊎◌, ◌↔◌, false, IsTrue, IsSomeAnd};
-ghost use Rattle.kmn_outside.specs.Outside.{Rose};
+ghost use Rattle.std.specs.Prelude.{◌≡◌, ◌⊎◌, IsTrue};
 ghost use Rattle.kmx_format.specs.TablesOf.{tables_of};
 ghost use Rattle.rule_model.specs.Tab.{tab};
 ghost use Rattle.rule_model.specs.Trace.{trace};
 ghost use Rattle.rule_model.specs.Transcript.{events_of, transcript};
 ghost use Rattle.play_session.specs.Session.{first_session};
-ghost use Rattle.keyman_run.specs.Asked.{AsksBy};
-ghost use Rattle.keyman_run.specs.Command.{is_form, request_of};
-ghost use Rattle.keyman_run.specs.Endings.{asked, ends, compiled_line, decompiled_line, sound_line, valid_line, end_status, play_status};
-ghost use Rattle.keyman_run.specs.Orders.{bytes_play_work, compile_work, decompile_work, layout_work, play_work, tables_layout_work, tables_play_work, test_work, verify_work, work_of};
+ghost use Rattle.keyman_run.specs.Asked.{HasWritten};
+ghost use Rattle.keyman_run.specs.Endings.{compiled_line, decompiled_line, sound_line, valid_line, end_status, play_status};
+ghost use Rattle.keyman_run.specs.Orders.{bytes_play_work, compile_work, decompile_work, layout_work, play_work, tables_layout_work, tables_play_work, test_work, verify_work};
 ghost use Rattle.keyman_run.specs.Inputs.{tables_of_file};
 ghost use Rattle.keyman_run.specs.Loads.{load_text};
 ghost use Rattle.keyman_run.specs.Reasons.{reason_line};
-ghost use Rattle.keyman_run.specs.Run.{Does, FaultCounts, FileMeans, Leaves};
-ghost use Rattle.keyman_run.specs.Seen.{seen_folder, seen_sink};
+ghost use Rattle.keyman_run.specs.Run.{Does, TextMeans};
+ghost use Rattle.keyman_run.specs.Runs.{Runs};
 ghost use Rattle.keyman_run.specs.Steps.{IsCompiled, Tells, TellsFile, TellsLoad, TellsStop, write_status};
 
 use crate::command::{Command, command_of};
@@ -28,30 +26,15 @@ use crate::texts::{decompiled_line, read_text};
 use kmn_base::{Memory, Text};
 use kmn_compiler::Compiled;
 use kmn_outside::{Folder, Sink, WriteError};
-use kmx_verifier::{Verified, VerifyError, verify};
+use kmx_verifier::{Verified, verify};
 use play_session::Session;
 use play_transcript::{PlayEnd, play, put_all};
 use rule_model::{Entry, Tables};
 use std::alloc::Global;
 
-/// Runs the command that the words are, over a folder and a sink. The order of its work is `work_of` of the words.
+/// Runs the command that the words are, over a folder and a sink. Its clauses are the fields of `Runs`.
 pub fn run<F: Folder, S: Sink>(alloc: Global, words: &[Text], folder: &mut F, out: &mut S) -> Status
-    ensures words { (result ≡ Status.Words) ↔ (is_form words.now ≡ false) }
-    ensures counts { FaultCounts (F.faults folder.old) (F.faults folder.new) (S.faults out.old) (S.faults out.new) result }
-    ensures told { (F.told folder.new ≡ F.told folder.old) × (S.told out.new ≡ S.told out.old) }
-    ensures asked { IsTrue (F.told folder.old)
-        → AsksBy (Rose (S.faults out.old) (S.faults out.new)) (asked (F.files folder.old) (work_of (request_of words.now)))
-        (F.calls folder.old) (F.calls folder.new) result }
-    ensures leaves { IsTrue (F.told folder.old)
-        → Leaves (work_of (request_of words.now)) (seen_folder F.Folder folder.old) (seen_folder F.Folder folder.new)
-        (seen_sink S.Sink out.old) (seen_sink S.Sink out.new) result }
-    // Where no count of faults rose, the run ends as its words and files want it.
-    ensures complete { IsTrue (F.told folder.old)
-        → ¬ Rose (F.faults folder.old) (F.faults folder.new) → ¬ Rose (S.faults out.old) (S.faults out.new)
-        → (result ≡ Status.Memory) ⊎ IsSomeAnd (ends (F.files folder.old) (work_of (request_of words.now))) (λ ending. result ≡ ending.status) }
-    // The file that was written takes the steps that the source means, whatever events come and however the run ended.
-    ensures means { IsTrue (F.told folder.old)
-        → FileMeans (seen_folder F.Folder folder.old) (seen_folder F.Folder folder.new) (request_of words.now) }
+    ensures { Runs words.now F.Folder folder.old folder.new S.Sink out.old out.new result }
 {
     match command_of(words) {
         Some(Command::Compile { source, file }) => compile(alloc, source, file, folder, out),
@@ -122,14 +105,13 @@ fn verify_file<F: Folder, S: Sink>(
 }
 
 /// Prints the version and counts of a file, or its first fault.
-#[tactic(auto, using(crate::proofs::FileRuns::tells_valid, crate::proofs::FileRuns::tells_faulty, crate::proofs::FileRuns::tells_nothing))]
+#[tactic(auto, using(crate::proofs::FileRuns::tells_valid))]
 fn tell_file<S: Sink>(alloc: Global, bytes: &[u8], out: &mut S) -> Status
     ensures { TellsFile (tables_of_file bytes.now) S.Sink out.old out.new result }
 {
     match verify(alloc, bytes) {
         Ok(file) => tell_valid(alloc, &file, out),
-        Err(VerifyError::Refused(fault)) => refuse(alloc, Reason::File(fault), out),
-        Err(VerifyError::Memory) => Status::Memory,
+        Err(error) => tell_stop(alloc, Stop::from(error), out),
     }
 }
 
@@ -152,7 +134,9 @@ fn decompile<F: Folder, S: Sink>(
     folder: &mut F,
     out: &mut S,
 ) -> Status
-    ensures { Does (decompile_work file.now source.now) F.Folder folder.old folder.new S.Sink out.old out.new result }
+    ensures does { Does (decompile_work file.now source.now) F.Folder folder.old folder.new S.Sink out.old out.new result }
+    ensures means { IsTrue (F.told folder.old) → HasWritten (F.calls folder.old) (F.calls folder.new)
+        → TextMeans (F.files folder.old) (F.files folder.new) file.now source.now }
 {
     match read_text(alloc, file, folder) {
         Ok(text) => match folder.write(alloc, source, text.as_slice()) {
@@ -191,7 +175,7 @@ fn play_on_file<F: Folder, S: Sink>(
 }
 
 /// Plays a script on the bytes of a file, or prints the file's first fault.
-#[tactic(auto, using(crate::proofs::FileRuns::plays_valid, crate::proofs::FileRuns::plays_faulty, crate::proofs::FileRuns::does_no_memory))]
+#[tactic(auto, using(crate::proofs::FileRuns::plays_valid))]
 fn play_on_bytes<F: Folder, S: Sink>(
     alloc: Global,
     bytes: &[u8],
@@ -203,8 +187,7 @@ fn play_on_bytes<F: Folder, S: Sink>(
 {
     match verify(alloc, bytes) {
         Ok(file) => play_on_valid(alloc, &file, keys, folder, out),
-        Err(VerifyError::Refused(fault)) => refuse(alloc, Reason::File(fault), out),
-        Err(VerifyError::Memory) => Status::Memory,
+        Err(error) => tell_stop(alloc, Stop::from(error), out),
     }
 }
 
@@ -365,18 +348,16 @@ fn tell_compiled<S: Sink>(alloc: Global, compiled: &Compiled, out: &mut S) -> St
 }
 
 /// Plays the script on the file that was written.
-#[tactic(auto, using(play_transcript::proofs::PrintingLaws::none_begun, crate::proofs::FileRuns::plays_written))]
+#[tactic(auto, using(crate::proofs::FileRuns::plays_written))]
 fn play_file<S: Sink>(alloc: Global, prepared: &Prepared, out: &mut S) -> Status
     requires { IsCompiled prepared.now.compiled }
     ensures { Tells (play_status (trace (tab prepared.now.compiled.tables) (events_of prepared.now.entries)) prepared.now.entries)
         (transcript (tab prepared.now.compiled.tables) prepared.now.entries) S.Sink out.old out.new result }
 {
-    let file = match verify(alloc, prepared.compiled.bytes.as_slice()) {
-        Ok(file) => file,
-        Err(VerifyError::Refused(_)) => unreachable!(),
-        Err(VerifyError::Memory) => return Status::Memory,
-    };
-    tell_played(alloc, &file, prepared.entries.as_slice(), out)
+    match verify(alloc, prepared.compiled.bytes.as_slice()) {
+        Ok(file) => tell_played(alloc, &file, prepared.entries.as_slice(), out),
+        Err(error) => tell_stop(alloc, Stop::from(error), out),
+    }
 }
 
 /// Prints the line of a reason.

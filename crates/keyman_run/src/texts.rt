@@ -1,8 +1,8 @@
 //! The texts of compiled files: the one that a file is decompiled to, and the lines of it.
 
-ghost use Rattle.std.specs.Prelude.{◌≡◌, IfOk};
+ghost use Rattle.std.specs.Prelude.{◌≡◌, IfOk, IsSomeAnd, IsTrue};
 ghost use Rattle.keyman_run.specs.Endings.{decompiled_line};
-ghost use Rattle.keyman_run.specs.Inputs.{text_of_file};
+ghost use Rattle.keyman_run.specs.Inputs.{IsTextOf, text_of_file};
 ghost use Rattle.keyman_run.specs.Orders.{text_work};
 ghost use Rattle.keyman_run.specs.Reasons.{spelling_line};
 ghost use Rattle.keyman_run.specs.Steps.{Gives, States, itself};
@@ -12,13 +12,14 @@ use crate::reason::Reason;
 use kmn_base::{Memory, Seq, Text};
 use kmn_outside::Folder;
 use kmx_decompiler::{DecompileError, decompile};
-use kmx_verifier::{VerifyError, verify};
+use kmx_verifier::verify;
 use spelled_files::NoSpelling;
 use std::alloc::Global;
 
 /// Reads the compiled file of a name, and gives the text that it goes back to.
 pub fn read_text<F: Folder>(alloc: Global, name: &[u8], folder: &mut F) -> Result<Text, Stop>
-    ensures { Gives itself (text_work name.now) F.Folder folder.old folder.new result }
+    ensures gives { Gives itself (text_work name.now) F.Folder folder.old folder.new result }
+    ensures text { IsTrue (F.told folder.old) → IfOk result (λ text. IsSomeAnd (F.files folder.old name.now) (λ bytes. IsTextOf bytes text)) }
 {
     let bytes = read_file(alloc, name, folder)?;
     text_of(alloc, bytes.as_slice())
@@ -26,13 +27,11 @@ pub fn read_text<F: Folder>(alloc: Global, name: &[u8], folder: &mut F) -> Resul
 
 /// The text that the bytes of a file go back to.
 fn text_of(alloc: Global, bytes: &[u8]) -> Result<Text, Stop>
-    ensures { States itself (text_of_file bytes.now) result }
+    ensures states { States itself (text_of_file bytes.now) result }
+    ensures text { IfOk result (λ text. IsTextOf bytes.now text) }
 {
-    match verify(alloc, bytes) {
-        Ok(file) => Ok(decompile(alloc, &file)?),
-        Err(VerifyError::Refused(fault)) => Err(Stop::Refused(Reason::File(fault))),
-        Err(VerifyError::Memory) => Err(Stop::Memory),
-    }
+    let file = verify(alloc, bytes)?;
+    Ok(decompile(alloc, &file)?)
 }
 
 impl From<DecompileError> for Stop {

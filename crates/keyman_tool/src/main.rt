@@ -4,7 +4,8 @@
 //! standard output with the words of the call.
 #![tactic(auto)]
 
-ghost use Rattle.std.specs.Prelude.{◌≡◌, IfErr};
+ghost use Rattle.std.specs.Prelude.{◌≡◌, IfErr, IfOk};
+ghost use Rattle.keyman_run.specs.Runs.{Runs};
 
 mod words;
 
@@ -22,7 +23,8 @@ fn run_words<F: Folder, S: Sink>(
     folder: &mut F,
     out: &mut S,
 ) -> Status
-    ensures { IfErr words (λ _. (result ≡ Status.Memory) × (folder.new ≡ folder.old) × (out.new ≡ out.old)) }
+    ensures runs { IfOk words (λ said. Runs said F.Folder folder.old folder.new S.Sink out.old out.new result) }
+    ensures unread { IfErr words (λ _. (result ≡ Status.Memory) × (folder.new ≡ folder.old) × (out.new ≡ out.old)) }
 {
     match words {
         Ok(words) => run(alloc, words.as_slice(), folder, out),

@@ -3,7 +3,8 @@ use std::alloc::Global;
 use std::env::FillError;
 use std::rt::Env;
 
-/// The words behind the program's name, which is not looked at. A word is bytes; it need not be UTF-8.
+/// The words behind the program's name, which is not looked at. A word is bytes; it need not be UTF-8. That they are the words
+/// of the call is no clause: the contract of `Env::arg` tells nothing but that an answer fits in its room.
 pub fn words(rt: &(impl Env + Alloc<A = Global>)) -> Result<Seq<Text>, Memory> {
     let mut words = Seq::new(rt.alloc());
     for place in 1..usize::MAX {

@@ -1,4 +1,5 @@
-//! Runs in which a call of the folder or the sink fails, and files of the greatest size and of one byte more.
+//! Runs in which a call of the folder or the sink fails, lines that the sink gets as one piece, and files of the greatest size
+//! and of one byte more.
 
 use super::rows::FILE;
 use super::{ended, folder};
@@ -24,6 +25,23 @@ const FAULTS: &[(&str, (u32, u32), Status, &str, Option<usize>)] = &[
         "1 del=0 ins=0062 pass=0 beep=0 ent=1 ctx=0062\n",
         Some(122),
     ),
+];
+
+/// A source and a script, and the lines of the play of each kind but a refusal's.
+const EACH_KIND: (&str, &str) = (
+    "store(o) \"0\"~@+ 'a' > 'y'~+ 's' > set(o = \"1\") save(o)~",
+    "[K_A] [K_S]~expect 'z'~caret 0~",
+);
+
+const LINES: &[&str] = &[
+    "1 del=0 ins=0079 pass=0 beep=0 ent=1 ctx=0079\n",
+    "2 del=0 ins=- pass=0 beep=0 ent=1 ctx=0079\n",
+    "opt o 0031\n",
+    "save o 0031\n",
+    "expect failed line=2\n",
+    "3 del=0 ins=- pass=0 beep=0 ent=0 ctx=-\n",
+    "text -|0079\n",
+    "end events=3 failed=1\n",
 ];
 
 /// A command on a file `a` of so many equal bytes, and the line that refuses it.
@@ -66,6 +84,29 @@ fn wrong_fault(alloc: Global) -> Result<Option<&'static str>, Fail> {
     Ok(None)
 }
 
+/// Whether just this is printed of that play where the sink's call of a number fails, 0 for none.
+fn is_begun(alloc: Global, failing: u32, printed: &str) -> Result<bool, Fail> {
+    let (source, script) = EACH_KIND;
+    let mut folder = folder(alloc, source, b"", script, 0)?;
+    let fails = Vec::from_slice(alloc, &[failing])?;
+    let mut sink = MemorySink::new(alloc, Seq::from_vec(fails));
+    ended(alloc, "test a.kmn out a.keys", &mut folder, &mut sink)?;
+    Ok(sink.written() == printed.as_bytes())
+}
+
+/// The first of its lines that the sink doesn't get as one piece, behind those before it.
+fn broken_line(alloc: Global) -> Result<Option<&'static str>, Fail> {
+    let mut lines = String::new(alloc);
+    for (number, line) in (1..).zip(LINES) {
+        if !is_begun(alloc, number, lines.as_str())? {
+            return Ok(Some(line));
+        }
+        lines.push_str(line)?;
+    }
+    let whole = is_begun(alloc, 0, lines.as_str())?;
+    Ok(if whole { None } else { Some("") })
+}
+
 /// So many equal bytes.
 fn equal_bytes(alloc: Global, byte: u8, size: usize) -> Result<Seq<u8>, Fail> {
     let block = [byte; BLOCK];
@@ -105,6 +146,13 @@ fn wrong_size(alloc: Global) -> Result<Option<&'static str>, Fail> {
 fn faults(rt: HostRuntime) -> Result<(), Fail> {
     let wrong = wrong_fault(rt.alloc())?;
     assert!(rt; wrong.is_none(), "{}", wrong.unwrap_or(""));
+    Ok(())
+}
+
+#[test]
+fn whole_lines(rt: HostRuntime) -> Result<(), Fail> {
+    let broken = broken_line(rt.alloc())?;
+    assert!(rt; broken.is_none(), "{}", broken.unwrap_or(""));
     Ok(())
 }
 

@@ -14,6 +14,7 @@ loop-entry-init c =
     rw c.no_progress-progress.ensures (record {
       numbered = ap (λ (s : SessionState). s.number) c.in_ok-session.ensures;
       events = omega arith;
+      put = omega arith;
       left = sums_begin c.in_ok-session.session (tables_of c.args.file.now) c.args.entries.now c.in_ok-session.ensures;
     })
 
@@ -27,8 +28,9 @@ returns-in_err-progress c =
 pub loop-entry-preserved : goal.loop-entry-preserved
 loop-entry-preserved c =
     record {
-      numbered = c.in_ok-progress.ensures.numbered.0;
-      events = omega (arith, c.in_ok-progress.ensures.numbered.1, c.loop-entry.invariant.events);
+      numbered = c.in_ok-progress.ensures.numbered;
+      events = omega (arith, c.in_ok-progress.ensures.counted.0, c.loop-entry.invariant.events);
+      put = c.in_ok-progress.ensures.counted.1;
       left = goes_on c.loop-entry.session c.loop-entry.progress c.args.entries.now _ c.loop-entry.entry-index c.loop-entry.invariant.left c.entry-item.result c.entry-item.result (omega arith) c.entry-item.is c.count_entry.new.session c.in_ok-progress.progress
           (c.in_ok-progress.ensures.leads _);
     }

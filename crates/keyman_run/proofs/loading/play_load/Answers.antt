@@ -1,11 +1,16 @@
 use Rattle.std.proofs.Common.{◌≡◌, List, ℕ, Some, subst}
-use Rattle.kmx_verifier.specs.declared.faults.VerifyError.{VerifyError}
 use Rattle.kmx_verifier.specs.FaultOf.{fault_of, IsRefusal}
-use Rattle.keyman_run.proofs.FileRuns.{never_refused}
+use Rattle.rule_model.specs.Tab.{tab}
+use Rattle.rule_model.specs.Trace.{trace}
+use Rattle.rule_model.specs.Transcript.{events_of}
+use Rattle.keyman_run.specs.Loads.{sums_of}
+use Rattle.keyman_run.specs.Steps.{itself, verify_stop}
+use Rattle.keyman_run.proofs.LoadLaws.{states_handed, unopened_states}
 use Rattle.keyman_run.proofs.loading.play_load.Goals as goal
 
-pub unreachable-requires : goal.unreachable-requires
-unreachable-requires c =
-    never_refused c.args.prepared.now.compiled.bytes c.in-Err-Refused.field-0-0 c.requires.file
-    (subst (λ (bytes : List ℕ). fault_of bytes ≡ Some c.in-Err-Refused.field-0-0) c.as_slice.ensures
-    (subst (λ (error : VerifyError). IsRefusal error (λ found. fault_of c.as_slice.result.now ≡ Some found)) c.in-Err-Refused.field-0-is c.in-Err-Refused.ensures))
+pub returns-in_err-file : goal.returns-in_err-file
+returns-in_err-file c =
+    let stated = sums_of (trace (tab c.args.prepared.now.compiled.tables) (events_of c.args.prepared.now.entries)) in
+    states_handed itself stated (verify_stop c.in_err-file.field-0.0) c.from_residual.result c.from_residual.ensures.1
+    (unopened_states itself stated c.args.prepared.now.compiled.bytes c.in_err-file.field-0.0 c.requires.file
+    (subst (λ (bytes : List ℕ). IsRefusal c.in_err-file.field-0.0 (λ fault. fault_of bytes ≡ Some fault)) c.as_slice.ensures c.in_err-file.ensures))

@@ -1,11 +1,11 @@
 use Rattle.std.proofs.Common.{◌≡◌, List, ℕ, Some, subst}
-use Rattle.kmx_verifier.specs.declared.faults.VerifyError.{VerifyError}
 use Rattle.kmx_verifier.specs.FaultOf.{fault_of, IsRefusal}
-use Rattle.keyman_run.proofs.FileRuns.{never_refused}
+use Rattle.keyman_run.specs.Steps.{verify_stop}
+use Rattle.keyman_run.proofs.FileRuns.{as_stop, tells_unopened}
 use Rattle.keyman_run.proofs.running.play_file.Goals as goal
 
-pub unreachable-requires : goal.unreachable-requires
-unreachable-requires g c =
-    never_refused c.args.prepared.now.compiled.bytes c.in-Err-Refused.field-0-0 c.requires.file
-    (subst (λ (bytes : List ℕ). fault_of bytes ≡ Some c.in-Err-Refused.field-0-0) c.as_slice.ensures
-    (subst (λ (error : VerifyError). IsRefusal error (λ found. fault_of c.as_slice.result.now ≡ Some found)) c.in-Err-Refused.field-0-is c.in-Err-Refused.ensures))
+pub returns-in-Err : goal.returns-in-Err
+returns-in-Err g c =
+    tells_unopened c.args.prepared.now.compiled.bytes c.in-Err.error _ _ g.S.Sink _ _ c.tell_stop.result c.requires.file
+    (subst (λ (bytes : List ℕ). IsRefusal c.in-Err.error (λ fault. fault_of bytes ≡ Some fault)) c.as_slice.ensures c.in-Err.ensures)
+    (as_stop _ (verify_stop c.in-Err.error) g.S.Sink _ _ c.tell_stop.result c.from.ensures c.tell_stop.ensures)

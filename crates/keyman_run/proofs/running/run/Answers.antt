@@ -1,117 +1,57 @@
-use Rattle.std.proofs.Common.{◌≡◌, Option, Some, refl, rules}
+use Rattle.std.proofs.Common.{◌≡◌, Option, Some, None, refl, rules}
 use Rattle.keyman_run.specs.Command.{Request, request_of}
 use Rattle.keyman_run.specs.Command.Request.{Compile, Decompile, Layout, Load, Play, Test, Verify}
-use Rattle.keyman_run.proofs.LoadLaws.{is_asked, load_runs}
-use Rattle.keyman_run.proofs.MeaningLaws.{ends_as_wanted, run_asks, run_means}
+use Rattle.keyman_run.proofs.LoadLaws.{load_runs}
+use Rattle.keyman_run.proofs.MeaningLaws.{compile_means, test_means}
+use Rattle.keyman_run.proofs.WordsLaws.{runs_asked, runs_nothing}
 use Rattle.keyman_run.proofs.running.run.Goals as goal
 
-pub returns-in-Some-Compile-clause-asked : goal.returns-in-Some-Compile-clause-asked
-returns-in-Some-Compile-clause-asked g c =
-    let request : Option Request = Some (Compile c.in-Some-Compile.source.now c.in-Some-Compile.file.now) in
-    let is : request ≡ request_of c.args.words.now = search rules in
-    run_asks request (request_of c.args.words.now) g.F.Folder _ _ g.S.Sink _ _ c.compile.result is c.compile.ensures
+pub returns-in-Some-Compile : goal.returns-in-Some-Compile
+returns-in-Some-Compile g c =
+    let request : Request = Compile c.in-Some-Compile.source.now c.in-Some-Compile.file.now in
+    let is : Some request ≡ request_of c.args.words.now = search rules in
+    runs_asked c.args.words.now request g.F.Folder _ _ g.S.Sink _ _ c.compile.result is c.compile.ensures
+    (λ told written. compile_means c.in-Some-Compile.source.now c.in-Some-Compile.file.now g.F.Folder _ _ g.S.Sink _ _ c.compile.result c.compile.ensures told written)
 
-pub returns-in-Some-Compile-clause-means : goal.returns-in-Some-Compile-clause-means
-returns-in-Some-Compile-clause-means g c =
-    let request : Option Request = Some (Compile c.in-Some-Compile.source.now c.in-Some-Compile.file.now) in
-    let is : request ≡ request_of c.args.words.now = search rules in
-    run_means request (request_of c.args.words.now) g.F.Folder _ _ g.S.Sink _ _ c.compile.result is c.compile.ensures
+pub returns-in-Some-Test : goal.returns-in-Some-Test
+returns-in-Some-Test g c =
+    let request : Request = Test c.in-Some-Test.source.now c.in-Some-Test.file.now c.in-Some-Test.keys.now in
+    let is : Some request ≡ request_of c.args.words.now = search rules in
+    runs_asked c.args.words.now request g.F.Folder _ _ g.S.Sink _ _ c.test.result is c.test.ensures
+    (λ told written. test_means c.in-Some-Test.source.now c.in-Some-Test.file.now c.in-Some-Test.keys.now g.F.Folder _ _ g.S.Sink _ _ c.test.result c.test.ensures told written)
 
-pub returns-in-Some-Test-clause-asked : goal.returns-in-Some-Test-clause-asked
-returns-in-Some-Test-clause-asked g c =
-    let request : Option Request = Some (Test c.in-Some-Test.source.now c.in-Some-Test.file.now c.in-Some-Test.keys.now) in
-    let is : request ≡ request_of c.args.words.now = search rules in
-    run_asks request (request_of c.args.words.now) g.F.Folder _ _ g.S.Sink _ _ c.test.result is c.test.ensures
+pub returns-in-Some-Verify : goal.returns-in-Some-Verify
+returns-in-Some-Verify g c =
+    let request : Request = Verify c.in-Some-Verify.file.now in
+    let is : Some request ≡ request_of c.args.words.now = search rules in
+    runs_asked c.args.words.now request g.F.Folder _ _ g.S.Sink _ _ c.verify_file.result is c.verify_file.ensures (λ told. tt)
 
-pub returns-in-Some-Test-clause-means : goal.returns-in-Some-Test-clause-means
-returns-in-Some-Test-clause-means g c =
-    let request : Option Request = Some (Test c.in-Some-Test.source.now c.in-Some-Test.file.now c.in-Some-Test.keys.now) in
-    let is : request ≡ request_of c.args.words.now = search rules in
-    run_means request (request_of c.args.words.now) g.F.Folder _ _ g.S.Sink _ _ c.test.result is c.test.ensures
+pub returns-in-Some-Decompile : goal.returns-in-Some-Decompile
+returns-in-Some-Decompile g c =
+    let request : Request = Decompile c.in-Some-Decompile.file.now c.in-Some-Decompile.source.now in
+    let is : Some request ≡ request_of c.args.words.now = search rules in
+    runs_asked c.args.words.now request g.F.Folder _ _ g.S.Sink _ _ c.decompile.result is c.decompile.ensures.does c.decompile.ensures.means
 
-pub returns-in-Some-Verify-clause-asked : goal.returns-in-Some-Verify-clause-asked
-returns-in-Some-Verify-clause-asked g c =
-    let request : Option Request = Some (Verify c.in-Some-Verify.file.now) in
-    let is : request ≡ request_of c.args.words.now = search rules in
-    run_asks request (request_of c.args.words.now) g.F.Folder _ _ g.S.Sink _ _ c.verify_file.result is c.verify_file.ensures
+pub returns-in-Some-Play : goal.returns-in-Some-Play
+returns-in-Some-Play g c =
+    let request : Request = Play c.in-Some-Play.file.now c.in-Some-Play.keys.now in
+    let is : Some request ≡ request_of c.args.words.now = search rules in
+    runs_asked c.args.words.now request g.F.Folder _ _ g.S.Sink _ _ c.play_on_file.result is c.play_on_file.ensures (λ told. tt)
 
-pub returns-in-Some-Verify-clause-means : goal.returns-in-Some-Verify-clause-means
-returns-in-Some-Verify-clause-means g c =
-    let request : Option Request = Some (Verify c.in-Some-Verify.file.now) in
-    let is : request ≡ request_of c.args.words.now = search rules in
-    run_means request (request_of c.args.words.now) g.F.Folder _ _ g.S.Sink _ _ c.verify_file.result is c.verify_file.ensures
+pub returns-in-Some-Layout : goal.returns-in-Some-Layout
+returns-in-Some-Layout g c =
+    let request : Request = Layout c.in-Some-Layout.source.now c.in-Some-Layout.layout.now in
+    let is : Some request ≡ request_of c.args.words.now = search rules in
+    runs_asked c.args.words.now request g.F.Folder _ _ g.S.Sink _ _ c.check_layout.result is c.check_layout.ensures (λ told. tt)
 
-pub returns-in-Some-Decompile-clause-asked : goal.returns-in-Some-Decompile-clause-asked
-returns-in-Some-Decompile-clause-asked g c =
-    let request : Option Request = Some (Decompile c.in-Some-Decompile.file.now c.in-Some-Decompile.source.now) in
-    let is : request ≡ request_of c.args.words.now = search rules in
-    run_asks request (request_of c.args.words.now) g.F.Folder _ _ g.S.Sink _ _ c.decompile.result is c.decompile.ensures
+pub returns-in-Some-Load : goal.returns-in-Some-Load
+returns-in-Some-Load g c =
+    let request : Request = Load c.in-Some-Load.number in
+    let is : Some request ≡ request_of c.args.words.now = search rules in
+    runs_asked c.args.words.now request g.F.Folder c.args.folder.now _ g.S.Sink _ _ c.load.result is
+    (load_runs c.in-Some-Load.number (Some request) g.F.Folder c.args.folder.now g.S.Sink _ _ c.load.result refl c.load.ensures) (λ told. tt)
 
-pub returns-in-Some-Decompile-clause-means : goal.returns-in-Some-Decompile-clause-means
-returns-in-Some-Decompile-clause-means g c =
-    let request : Option Request = Some (Decompile c.in-Some-Decompile.file.now c.in-Some-Decompile.source.now) in
-    let is : request ≡ request_of c.args.words.now = search rules in
-    run_means request (request_of c.args.words.now) g.F.Folder _ _ g.S.Sink _ _ c.decompile.result is c.decompile.ensures
-
-pub returns-in-Some-Play-clause-asked : goal.returns-in-Some-Play-clause-asked
-returns-in-Some-Play-clause-asked g c =
-    let request : Option Request = Some (Play c.in-Some-Play.file.now c.in-Some-Play.keys.now) in
-    let is : request ≡ request_of c.args.words.now = search rules in
-    run_asks request (request_of c.args.words.now) g.F.Folder _ _ g.S.Sink _ _ c.play_on_file.result is c.play_on_file.ensures
-
-pub returns-in-Some-Play-clause-means : goal.returns-in-Some-Play-clause-means
-returns-in-Some-Play-clause-means g c =
-    let request : Option Request = Some (Play c.in-Some-Play.file.now c.in-Some-Play.keys.now) in
-    let is : request ≡ request_of c.args.words.now = search rules in
-    run_means request (request_of c.args.words.now) g.F.Folder _ _ g.S.Sink _ _ c.play_on_file.result is c.play_on_file.ensures
-
-pub returns-in-Some-Layout-clause-asked : goal.returns-in-Some-Layout-clause-asked
-returns-in-Some-Layout-clause-asked g c =
-    let request : Option Request = Some (Layout c.in-Some-Layout.source.now c.in-Some-Layout.layout.now) in
-    let is : request ≡ request_of c.args.words.now = search rules in
-    run_asks request (request_of c.args.words.now) g.F.Folder _ _ g.S.Sink _ _ c.check_layout.result is c.check_layout.ensures
-
-pub returns-in-Some-Layout-clause-means : goal.returns-in-Some-Layout-clause-means
-returns-in-Some-Layout-clause-means g c =
-    let request : Option Request = Some (Layout c.in-Some-Layout.source.now c.in-Some-Layout.layout.now) in
-    let is : request ≡ request_of c.args.words.now = search rules in
-    run_means request (request_of c.args.words.now) g.F.Folder _ _ g.S.Sink _ _ c.check_layout.result is c.check_layout.ensures
-
-pub returns-in-Some-Load-clause-words : goal.returns-in-Some-Load-clause-words
-returns-in-Some-Load-clause-words g c =
-    let is : Some (Load c.in-Some-Load.number) ≡ request_of c.args.words.now = search rules in
-    is_asked c.args.words.now (Load c.in-Some-Load.number) c.load.result is (load_runs c.in-Some-Load.number _ g.F.Folder c.args.folder.now g.S.Sink _ _ c.load.result is c.load.ensures).form
-
-pub returns-in-Some-Load-clause-counts : goal.returns-in-Some-Load-clause-counts
-returns-in-Some-Load-clause-counts g c =
-    let is : Some (Load c.in-Some-Load.number) ≡ request_of c.args.words.now = search rules in
-    (load_runs c.in-Some-Load.number _ g.F.Folder c.args.folder.now g.S.Sink _ _ c.load.result is c.load.ensures).counts
-
-pub returns-in-Some-Load-clause-told : goal.returns-in-Some-Load-clause-told
-returns-in-Some-Load-clause-told g c =
-    let is : Some (Load c.in-Some-Load.number) ≡ request_of c.args.words.now = search rules in
-    (load_runs c.in-Some-Load.number _ g.F.Folder c.args.folder.now g.S.Sink _ _ c.load.result is c.load.ensures).told
-
-pub returns-in-Some-Load-clause-leaves : goal.returns-in-Some-Load-clause-leaves
-returns-in-Some-Load-clause-leaves g c =
-    let is : Some (Load c.in-Some-Load.number) ≡ request_of c.args.words.now = search rules in
-    (load_runs c.in-Some-Load.number _ g.F.Folder c.args.folder.now g.S.Sink _ _ c.load.result is c.load.ensures).leaves
-
-pub returns-in-Some-Load-clause-complete : goal.returns-in-Some-Load-clause-complete
-returns-in-Some-Load-clause-complete g c = λ told no_folder no_sink.
-    let is : Some (Load c.in-Some-Load.number) ≡ request_of c.args.words.now = search rules in
-    ends_as_wanted _ _ _ _ _ _ c.load.result ((load_runs c.in-Some-Load.number _ g.F.Folder c.args.folder.now g.S.Sink _ _ c.load.result is c.load.ensures).leaves told) no_folder no_sink
-
-pub returns-in-Some-Load-clause-asked : goal.returns-in-Some-Load-clause-asked
-returns-in-Some-Load-clause-asked g c =
-    let request : Option Request = Some (Load c.in-Some-Load.number) in
-    let is : request ≡ request_of c.args.words.now = search rules in
-    run_asks request (request_of c.args.words.now) g.F.Folder _ _ g.S.Sink _ _ c.load.result is
-    (load_runs c.in-Some-Load.number request g.F.Folder c.args.folder.now g.S.Sink _ _ c.load.result refl c.load.ensures)
-
-pub returns-in-Some-Load-clause-means : goal.returns-in-Some-Load-clause-means
-returns-in-Some-Load-clause-means g c =
-    let request : Option Request = Some (Load c.in-Some-Load.number) in
-    let is : request ≡ request_of c.args.words.now = search rules in
-    run_means request (request_of c.args.words.now) g.F.Folder _ _ g.S.Sink _ _ c.load.result is
-    (load_runs c.in-Some-Load.number request g.F.Folder c.args.folder.now g.S.Sink _ _ c.load.result refl c.load.ensures)
+pub returns-in-None : goal.returns-in-None
+returns-in-None g c =
+    let is : None ≡ request_of c.args.words.now = search rules in
+    runs_nothing c.args.words.now g.F.Folder c.args.folder.now g.S.Sink c.args.out.now is

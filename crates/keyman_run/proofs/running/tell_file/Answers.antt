@@ -1,0 +1,8 @@
+use Rattle.keyman_run.specs.Steps.{verify_stop}
+use Rattle.keyman_run.proofs.FileRuns.{as_stop, tells_unread}
+use Rattle.keyman_run.proofs.running.tell_file.Goals as goal
+
+pub returns-in-Err : goal.returns-in-Err
+returns-in-Err g c =
+    tells_unread c.args.bytes.now c.in-Err.error g.S.Sink _ _ c.tell_stop.result c.in-Err.ensures
+    (as_stop _ (verify_stop c.in-Err.error) g.S.Sink _ _ c.tell_stop.result c.from.ensures c.tell_stop.ensures)

@@ -1,0 +1,28 @@
+-- What a run of words does to a folder and a sink: the contract of `run`, clause by clause.
+use Rattle.std.specs.Prelude.{◌≡◌, ◌⊎◌, ◌↔◌, ℕ, false, IsTrue, List, IsSomeAnd}
+use Rattle.kmn_outside.specs.Outside.{Rose}
+use Rattle.keyman_run.specs.declared.status.Status.{Status}
+use Rattle.keyman_run.specs.declared.status.Status.TheVariants as status
+use Rattle.keyman_run.specs.Asked.{AsksBy}
+use Rattle.keyman_run.specs.Command.{is_form, request_of}
+use Rattle.keyman_run.specs.Endings.{asked, ends}
+use Rattle.keyman_run.specs.Orders.{work_of}
+use Rattle.keyman_run.specs.Run.{FaultCounts, FileMeans, Leaves}
+use Rattle.keyman_run.specs.Seen.{FolderView, SinkView, seen_folder, seen_sink}
+
+-- a run of words from one state of a folder and a sink to another, with this status; the order of its work is `work_of` of
+-- what they ask for. Where no count of faults rose, the run ends as its words and files want it (`complete`). The file that
+-- was written means its source, whatever events come and however the run ended (`means`)
+pub record Runs {F S : Type 0} (said : List (List ℕ)) (folders : FolderView F) (folder folder_after : F) (sinks : SinkView S) (out out_after : S) (how : Status) : Type 0 where
+  pub words : (how ≡ status.Words) ↔ (is_form said ≡ false)
+  pub counts : FaultCounts (folders.faults folder) (folders.faults folder_after) (sinks.faults out) (sinks.faults out_after) how
+  pub told : (folders.told folder_after ≡ folders.told folder) × (sinks.told out_after ≡ sinks.told out)
+  pub asked : IsTrue (folders.told folder)
+      → AsksBy (Rose (sinks.faults out) (sinks.faults out_after)) (asked (folders.files folder) (work_of (request_of said))) (folders.calls folder) (folders.calls folder_after) how
+  pub leaves : IsTrue (folders.told folder)
+      → Leaves (work_of (request_of said)) (seen_folder folders folder) (seen_folder folders folder_after) (seen_sink sinks out) (seen_sink sinks out_after) how
+  pub complete : IsTrue (folders.told folder)
+      → ¬ Rose (folders.faults folder) (folders.faults folder_after) → ¬ Rose (sinks.faults out) (sinks.faults out_after)
+      → (how ≡ status.Memory) ⊎ IsSomeAnd (ends (folders.files folder) (work_of (request_of said))) (λ ending. how ≡ ending.status)
+  pub means : IsTrue (folders.told folder)
+      → FileMeans (seen_folder folders folder) (seen_folder folders folder_after) (request_of said)
