@@ -136,12 +136,17 @@ fn wrong_step(
     Ok(None)
 }
 
+/// The engine of a file, which stays when the check of the file is gone.
+fn started(alloc: Global, bytes: &[u8]) -> Result<Engine<'_>, Fail> {
+    let file = verify(alloc, bytes)?;
+    Ok(Engine::start(alloc, &file)?)
+}
+
 /// The first step of a case that ends otherwise.
 fn wrong_in_case(alloc: Global, case: &'static str) -> Result<Option<&'static str>, Fail> {
     let (records, steps) = case.split_once(" ; ").unwrap_or((case, ""));
     let bytes = keyboard(alloc, records)?;
-    let file = verify(alloc, bytes.as_slice())?;
-    let mut engine = Engine::start(alloc, &file)?;
+    let mut engine = started(alloc, bytes.as_slice())?;
     wrong_step(alloc, &mut engine, steps)
 }
 
@@ -177,12 +182,13 @@ fn takes_all(engine: &mut Engine) -> bool {
         && engine.context() == [Item::Char('N')].as_slice()
 }
 
-/// Whether the first press with that keyboard does so.
+/// Whether the first press with that keyboard does so, and the first of a fresh engine too.
 fn takes_all_that_it_puts(alloc: Global) -> Result<bool, Fail> {
     let bytes = takes_what_it_puts(alloc)?;
-    let file = verify(alloc, bytes.as_slice())?;
-    let mut engine = Engine::start(alloc, &file)?;
-    Ok(takes_all(&mut engine))
+    let mut engine = started(alloc, bytes.as_slice())?;
+    let first = takes_all(&mut engine);
+    let mut fresh = engine.fresh(alloc)?;
+    Ok(first && takes_all(&mut fresh))
 }
 
 #[test]

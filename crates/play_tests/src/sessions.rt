@@ -191,11 +191,17 @@ fn puts_b(alloc: Global, session: &mut Session) -> Result<bool, Fail> {
     )
 }
 
-/// Whether the file of one rule puts a b.
+/// Whether a fresh session on the file of another does so too.
+fn fresh_puts_b(alloc: Global, session: &Session) -> Result<bool, Fail> {
+    let mut fresh = session.fresh(alloc)?;
+    puts_b(alloc, &mut fresh)
+}
+
+/// Whether the file of one rule puts a b, in a session and then in a fresh one.
 fn one_rule_puts_b(alloc: Global) -> Result<bool, Fail> {
     let file = verify(alloc, ONE_RULE)?;
     let mut session = Session::start(alloc, &file)?;
-    puts_b(alloc, &mut session)
+    Ok(puts_b(alloc, &mut session)? && fresh_puts_b(alloc, &session)?)
 }
 
 #[test]
