@@ -1,9 +1,9 @@
 -- A run of words, from what the command does that they ask for.
-use Rattle.std.proofs.Common.{◌≡◌, ℕ, IsTrue, false, List, Option, Some, None, refl, sym, ap, subst, append-nil}
+use Rattle.std.proofs.Common.{◌≡◌, ℕ, IsTrue, List, Option, Some, None, refl, sym, ap, subst, append-nil}
 use Rattle.std.specs.Prelude.{is_some}
 use Rattle.keyman_run.specs.declared.status.Status.{Status}
 use Rattle.keyman_run.specs.declared.status.Status.TheVariants as status
-use Rattle.keyman_run.specs.Command.{Request, is_form, request_of}
+use Rattle.keyman_run.specs.Command.{Request, request_of}
 use Rattle.keyman_run.specs.Endings.{Ending, ends, words_ending}
 use Rattle.keyman_run.specs.Orders.{work_of}
 use Rattle.keyman_run.specs.Run.{Does, FileMeans, Leaves}

@@ -24,4 +24,4 @@ returns-clause-gives g c =
 
 pub returns-clause-text : goal.returns-clause-text
 returns-clause-text g c = λ told.
-    text_found _ c.args.name.now c.as_slice.result.now c.in_ok-bytes.bytes c.text_of.result (c.in_ok-bytes.ensures.gives told).0 c.as_slice.ensures c.text_of.ensures.text
+    text_found (g.F.Folder.files c.args.folder.now) c.args.name.now c.as_slice.result.now c.in_ok-bytes.bytes c.text_of.result (c.in_ok-bytes.ensures.gives told).0 c.as_slice.ensures c.text_of.ensures.text
