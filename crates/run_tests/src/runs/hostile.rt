@@ -29,8 +29,8 @@ const FAULTS: &[(&str, (u32, u32), Status, &str, Option<usize>)] = &[
 
 /// A source and a script, and the lines of the play of each kind but a refusal's.
 const EACH_KIND: (&str, &str) = (
-    "store(o) \"0\"~@+ 'a' > 'y'~+ 's' > set(o = \"1\") save(o)~",
-    "[K_A] [K_S]~expect 'z'~caret 0~",
+    "store(o) \"0\"¶@+ 'a' > 'y'¶+ 's' > set(o = \"1\") save(o)¶",
+    "[K_A] [K_S]¶expect 'z'¶caret 0¶",
 );
 
 const LINES: &[&str] = &[
