@@ -19,7 +19,7 @@ use Rattle.compile_laws.specs.WellNamed.{is_store, is_known_pattern}
 use Rattle.compile_laws.proofs.Linked.{is_value}
 use Rattle.compile_laws.proofs.Known.{has_values}
 use Rattle.kmx_format.specs.FileUnits.{unit_item_of_pattern}
-use Rattle.kmx_format.specs.Writable.{stores_of_pattern, is_any, is_matched, PointsTo, PointsBack, IsWritableContext}
+use Rattle.kmx_format.specs.Writable.{stores_of_pattern, has_system_id, is_any, is_matched, PointsTo, PointsBack, IsWritableContext}
 use Rattle.kmn_parser.specs.ProgramLaws.{IsReadItem}
 use Rattle.item_checker.specs.Items.{is_pattern_item, is_any_item, passes, points_to, misses_pattern, misses_any, context_item_code, context_code}
 use Rattle.rule_checker.specs.Refused.{IsRead}
@@ -86,6 +86,16 @@ module _ (numbers : Numbers) where
   pub context_offsets : (context : List SrcItem) → context_code [] context ≡ None → (place : ℕ) (d : Pat) → place < length (map (file_pattern numbers) context)
       → PointsBack (take place (map (file_pattern numbers) context)) (slice_index_or (map (file_pattern numbers) context) place d)
   context_offsets context h place d within = offsets_from [] context h place d (omega (arith, length-map context (file_pattern numbers)))
+
+  -- no item of a source becomes a condition on a system option that a file can't have
+  system_ids : (context : List SrcItem) → All (λ item. has_system_id item ≡ true) (map (file_pattern numbers) context)
+  system_ids [] = All-nil (λ item. has_system_id item ≡ true)
+  system_ids (item ∷ items) =
+      All-cons (λ item. has_system_id item ≡ true) (file_pattern numbers item) (map (file_pattern numbers) items) (one item) (system_ids items)
+    where
+      one : (item : SrcItem) → has_system_id (file_pattern numbers item) ≡ true
+      one (source.Char c) = refl
+      one item = refl
 
 -- an offset that points to an item is that of one
 pub pointed : (test : SrcItem → Bool) (items : List SrcItem) (offset : ℕ) → points_to test items offset ≡ true → (0 < offset) × (offset ≤ length items)
@@ -186,6 +196,7 @@ module _ (program : Program) (read : IsRead program) (whole : IsUnrefused progra
       record {
         items = written.spelled;
         stores = written.stores;
+        systems = system_ids (numbers_of program) context;
         offsets = context_offsets (numbers_of program) context code;
         item_count = omega (arith, length-map context (file_pattern (numbers_of program)));
       }

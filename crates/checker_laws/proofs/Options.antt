@@ -1,6 +1,6 @@
 -- A store that no item uses as an option is none for the meaning of the program.
 use Rattle.std.proofs.Common.{◌≡◌, ℕ, zero, suc, ◌+◌, Bool, true, false, not, cond, List, [], ◌∷◌, ◌++◌, filter, get_or, Option, Some, None, refl, sym, ap, ◌∙◌, arith, is_some, if◌then◌else◌, true≢false}
-use Rattle.std.specs.Prelude.{slice_get, position, option_map, ◌||◌, flat_map, nat_eq, find, option_to_list}
+use Rattle.std.specs.Prelude.{slice_get, position, option_map, ◌&&◌, ◌||◌, flat_map, nat_eq, find, option_to_list}
 use Rattle.std.specs.List.{list_any}
 use Rattle.std.specs.Str.{str_to_ascii_lowercase}
 use Rattle.std.specs.Cmp.Lexicographic.{nat_list_eq_equiv}
@@ -144,10 +144,10 @@ any_use : (xs : List Store) (name : List ℕ) (k : ℕ) (uses : List (List ℕ))
 any_use xs name k uses here h =
     any_implies (λ wanted. list_any (nat_eq k) (numbers_named xs wanted)) (same_name name) (λ wanted. number_is xs name wanted k here) uses (sym (any_flat_map (nat_eq k) (numbers_named xs) uses) ∙ h)
 
-option_place : (options : List ℕ) (n : ℕ) (name : List ℕ) (xs : List Store) → position (λ (s : StoreMeaning). same_name s.name name) (with_options options n xs) ≡ position (named name) xs
+option_place : (options : List ℕ) (n : ℕ) (name : List ℕ) (xs : List Store) → position (λ (s : StoreMeaning). not s.is_system && same_name s.name name) (with_options options n xs) ≡ position (named name) xs
 option_place options n name [] = refl
 option_place options n name (x ∷ xs) =
-    position_cons (λ (s : StoreMeaning). same_name s.name name) (record { name = x.name; elements = x.elements; is_option = list_any (nat_eq n) options }) (with_options options (n + 1) xs)
+    position_cons (λ (s : StoreMeaning). not s.is_system && same_name s.name name) (record { name = x.name; elements = x.elements; is_option = list_any (nat_eq n) options; is_system = false }) (with_options options (n + 1) xs)
     ∙ ap (λ o. cond (same_name x.name name) (Some 0) (option_map suc o)) (option_place options (n + 1) name xs)
     ∙ sym (position_cons (named name) x xs)
 

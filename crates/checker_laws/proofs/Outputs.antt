@@ -25,7 +25,7 @@ use Rattle.compile_laws.specs.Compiles.{file_pattern, file_output, file_outputs,
 use Rattle.compile_laws.specs.WellNamed.{is_store, is_group, is_fixed, is_known_output}
 use Rattle.compile_laws.proofs.Known.{has_values}
 use Rattle.kmx_format.specs.FileUnits.{unit_item_of_output}
-use Rattle.kmx_format.specs.Writable.{stores_of_output, groups_of_output, is_any, is_matched, PointsInto, needs_context, IsWritableOutput, IsWritableMatchOutput}
+use Rattle.kmx_format.specs.Writable.{stores_of_output, groups_of_output, sets_system_id, is_any, is_matched, PointsInto, needs_context, IsWritableOutput, IsWritableMatchOutput}
 use Rattle.kmn_parser.specs.ProgramLaws.{IsReadItem}
 use Rattle.store_table.specs.First.{first_code}
 use Rattle.store_table.specs.Known.{known}
@@ -47,11 +47,12 @@ module _ (program : Program) (read : IsRead program) (whole : IsUnrefused progra
   abbrev groups : ℕ
   groups = length program.groups
 
-  -- items of an output that are written: spelled, naming stores and groups of the file, at most so many, and each with
-  -- a fact
+  -- items of an output that are written: spelled, naming stores and groups of the file and no system option but the layer, at
+  -- most so many, and each with a fact
   record OutsAreWritten (P : Out → Type 0) (most : ℕ) (outs : List Out) : Type 0 where
     spelled : All (λ item. IsSpellable (unit_item_of_output item)) outs
     named : All (λ store. store < stores) (flat_map stores_of_output outs)
+    systems : All (λ item. sets_system_id item ≡ true) outs
     entered : All (λ group. group < groups) (flat_map groups_of_output outs)
     fact : All P outs
     few : length outs ≤ most
@@ -60,6 +61,7 @@ module _ (program : Program) (read : IsRead program) (whole : IsUnrefused progra
   no_outs P most = record {
     spelled = All-nil (λ item. IsSpellable (unit_item_of_output item));
     named = All-nil (λ store. store < stores);
+    systems = All-nil (λ item. sets_system_id item ≡ true);
     entered = All-nil (λ group. group < groups);
     fact = All-nil P;
     few = omega arith;
@@ -69,16 +71,18 @@ module _ (program : Program) (read : IsRead program) (whole : IsUnrefused progra
   more_outs P one more xs ys first rest = record {
     spelled = All-append (λ item. IsSpellable (unit_item_of_output item)) xs ys first.spelled rest.spelled;
     named = subst (All (λ store. store < stores)) (sym (flat_map-append stores_of_output xs ys)) (All-append (λ store. store < stores) (flat_map stores_of_output xs) (flat_map stores_of_output ys) first.named rest.named);
+    systems = All-append (λ item. sets_system_id item ≡ true) xs ys first.systems rest.systems;
     entered = subst (All (λ group. group < groups)) (sym (flat_map-append groups_of_output xs ys)) (All-append (λ group. group < groups) (flat_map groups_of_output xs) (flat_map groups_of_output ys) first.entered rest.entered);
     fact = All-append P xs ys first.fact rest.fact;
     few = let a = first.few in let b = rest.few in omega (arith, length-append xs ys);
   }
 
   -- one item
-  one_out : (P : Out → Type 0) (out : Out) → IsSpellable (unit_item_of_output out) → All (λ store. store < stores) (stores_of_output out) → All (λ group. group < groups) (groups_of_output out) → P out → OutsAreWritten P 1 (out ∷ [])
-  one_out P out spelled named entered fact = record {
+  one_out : (P : Out → Type 0) (out : Out) → IsSpellable (unit_item_of_output out) → All (λ store. store < stores) (stores_of_output out) → All (λ group. group < groups) (groups_of_output out) → P out → sets_system_id out ≡ true → OutsAreWritten P 1 (out ∷ [])
+  one_out P out spelled named entered fact system = record {
     spelled = All-cons (λ item. IsSpellable (unit_item_of_output item)) out [] spelled (All-nil (λ item. IsSpellable (unit_item_of_output item)));
     named = All-append (λ store. store < stores) (stores_of_output out) [] named (All-nil (λ store. store < stores));
+    systems = All-cons (λ item. sets_system_id item ≡ true) out [] system (All-nil (λ item. sets_system_id item ≡ true));
     entered = All-append (λ group. group < groups) (groups_of_output out) [] entered (All-nil (λ group. group < groups));
     fact = All-cons P out [] fact (All-nil P);
     few = omega arith;
@@ -103,8 +107,8 @@ module _ (program : Program) (read : IsRead program) (whole : IsUnrefused progra
     stop : P output.Stop
 
   element_written : (P : Out → Type 0) → IsPlainFact P → (e : Element) → IsSoundElement e → OutsAreWritten P 1 (element_outs e)
-  element_written P plain (element.Char c) is = one_out P (output.Char c) (is.valid, is.not_first, is.not_last) no_store no_group (plain.char c)
-  element_written P plain (element.Mark m) is = one_out P (output.Mark m) is no_store no_group (plain.mark m)
+  element_written P plain (element.Char c) is = one_out P (output.Char c) (is.valid, is.not_first, is.not_last) no_store no_group (plain.char c) refl
+  element_written P plain (element.Mark m) is = one_out P (output.Mark m) is no_store no_group (plain.mark m) refl
   element_written P plain (element.Key flags code) is = no_outs P 1
 
   elements_written : (P : Out → Type 0) → IsPlainFact P → (elements : List Element) → All IsSoundElement elements → OutsAreWritten P (length elements) (flat_map element_outs elements)
@@ -133,28 +137,28 @@ module _ (program : Program) (read : IsRead program) (whole : IsUnrefused progra
   plain_written : (P : Out → Type 0) → IsPlainFact P → (before : ℕ) (place : Option ℕ) (item : SrcItem) → IsReadItem item → is_known_output program before item ≡ true → has_values program item ≡ true
       → ((store : List ℕ) (offset : ℕ) → item ≡ source.Index store offset → ⊥) → (item ≡ source.Context → ⊥) → ((offset : ℕ) → item ≡ source.ContextAt offset → ⊥)
       → OutsAreWritten P (item_size (stores_of program) item) (file_output (numbers_of program) before place item)
-  plain_written P plain before place (source.Char c) is named values no_index no_context no_place = one_out P (output.Char c) (is.valid, is.not_first, is.not_last) no_store no_group (plain.char c)
-  plain_written P plain before place (source.Dead name) is named values no_index no_context no_place = one_out P (output.Mark (mark_number (names_of program) name)) (mark_operand program read whole name) no_store no_group (plain.mark _)
+  plain_written P plain before place (source.Char c) is named values no_index no_context no_place = one_out P (output.Char c) (is.valid, is.not_first, is.not_last) no_store no_group (plain.char c) refl
+  plain_written P plain before place (source.Dead name) is named values no_index no_context no_place = one_out P (output.Mark (mark_number (names_of program) name)) (mark_operand program read whole name) no_store no_group (plain.mark _) refl
   plain_written P plain before place (source.Index store offset) is named values no_index no_context no_place = absurd (no_index store offset refl)
   plain_written P plain before place source.Context is named values no_index no_context no_place = absurd (no_context refl)
   plain_written P plain before place (source.ContextAt offset) is named values no_index no_context no_place = absurd (no_place offset refl)
   plain_written P plain before place (source.Outs store) is named values no_index no_context no_place = elements_written P plain (elements_named (stores_of program) store) (stated_elements store)
   plain_written P plain before place (source.Enter group) is named values no_index no_context no_place =
       let fits = group_fits group named in
-      one_out P (output.Enter (number_of_group (numbers_of program) group)) fits.1 no_store (All-cons (λ g. g < groups) (number_of_group (numbers_of program) group) [] fits.0 no_group) (plain.enter _)
+      one_out P (output.Enter (number_of_group (numbers_of program) group)) fits.1 no_store (All-cons (λ g. g < groups) (number_of_group (numbers_of program) group) [] fits.0 no_group) (plain.enter _) refl
   plain_written P plain before place (source.Set store value) is named values no_index no_context no_place =
       let fits = store_fits program read whole store named in
       let valued = value_fits program read whole value (only_value program read whole value values) in
-      one_out P (output.Set _ _) (fits.1, valued.1) (two_stores program read whole _ _ fits.0 valued.0) no_group (plain.set _ _)
+      one_out P (output.Set _ _) (fits.1, valued.1) (two_stores program read whole _ _ fits.0 valued.0) no_group (plain.set _ _) refl
   plain_written P plain before place (source.Save store) is named values no_index no_context no_place =
       let fits = store_fits program read whole store named in
-      one_out P (output.Save _) fits.1 (one_store program read whole _ fits.0) no_group (plain.save _)
+      one_out P (output.Save _) fits.1 (one_store program read whole _ fits.0) no_group (plain.save _) refl
   plain_written P plain before place (source.Reset store) is named values no_index no_context no_place =
       let fits = store_fits program read whole store named in
-      one_out P (output.Reset _) fits.1 (one_store program read whole _ fits.0) no_group (plain.reset _)
-  plain_written P plain before place source.Beep is named values no_index no_context no_place = one_out P output.Beep tt no_store no_group plain.beep
-  plain_written P plain before place source.Stop is named values no_index no_context no_place = one_out P output.Stop tt no_store no_group plain.stop
-  plain_written P plain before place item is named values no_index no_context no_place = one_out P output.Nul tt no_store no_group plain.nul
+      one_out P (output.Reset _) fits.1 (one_store program read whole _ fits.0) no_group (plain.reset _) refl
+  plain_written P plain before place source.Beep is named values no_index no_context no_place = one_out P output.Beep tt no_store no_group plain.beep refl
+  plain_written P plain before place source.Stop is named values no_index no_context no_place = one_out P output.Stop tt no_store no_group plain.stop refl
+  plain_written P plain before place item is named values no_index no_context no_place = one_out P output.Nul tt no_store no_group plain.nul refl
 
   size_next : (item : SrcItem) (items : List SrcItem) → item_size (stores_of program) item + output_size (stores_of program) items ≡ output_size (stores_of program) (item ∷ items)
   size_next item items =
@@ -165,11 +169,11 @@ module _ (program : Program) (read : IsRead program) (whole : IsUnrefused progra
 
   or_nul_written : (P : Out → Type 0) → P output.Nul → (size : ℕ) (outs : List Out) → size ≤ OUTPUT_ITEMS → OutsAreWritten P size outs → OutsAreWritten P OUTPUT_ITEMS (or_nul outs)
   or_nul_written P nul size [] few written =
-      let one = one_out P output.Nul tt no_store no_group nul in
-      record { spelled = one.spelled; named = one.named; entered = one.entered; fact = one.fact; few = lit≤ tt }
+      let one = one_out P output.Nul tt no_store no_group nul refl in
+      record { spelled = one.spelled; named = one.named; systems = one.systems; entered = one.entered; fact = one.fact; few = lit≤ tt }
   or_nul_written P nul size (out ∷ outs) few written =
       let short = written.few in
-      record { spelled = written.spelled; named = written.named; entered = written.entered; fact = written.fact; few = omega arith }
+      record { spelled = written.spelled; named = written.named; systems = written.systems; entered = written.entered; fact = written.fact; few = omega arith }
 
   -- the output of a rule
   module _ (rule : RuleDef) (short : length rule.context ≤ CONTEXT_ITEMS) (place : Option ℕ) where
@@ -206,20 +210,20 @@ module _ (program : Program) (read : IsRead program) (whole : IsUnrefused progra
         let at = pointed is_any_item rule.context offset points in
         let fits = store_fits program read whole store (named refl) in
         one_out (PointsInto context) (output.Index (number_of_store (numbers_of program) store) offset) (fits.1, (at.0, omega (arith, at.1))) (one_store program read whole _ fits.0) no_group
-        (pointing (numbers_of program) is_any_item is_any (any_there (numbers_of program)) rule.context offset points)
+        (pointing (numbers_of program) is_any_item is_any (any_there (numbers_of program)) rule.context offset points) refl
 
     rule_item_written : (item : SrcItem) → IsReadItem item → is_known_output program (length rule.context) item ≡ true → has_values program item ≡ true → rule_output_code (known program) rule item ≡ None
         → OutsAreWritten (PointsInto context) (item_size (stores_of program) item) (file_output (numbers_of program) (length rule.context) place item)
     rule_item_written (source.Index store offset) is named values code =
         index_written store offset (nat_eq offset (length rule.context + 1)) refl
         (λ (e : nat_eq offset (length rule.context + 1) ≡ false). ap (λ (b : Bool). if b then is_fixed program store else is_store program store) (sym e) ∙ named) code
-    rule_item_written source.Context is named values code = one_out (PointsInto context) output.Context tt no_store no_group tt
+    rule_item_written source.Context is named values code = one_out (PointsInto context) output.Context tt no_store no_group tt refl
     rule_item_written (source.ContextAt offset) is named values code =
         let rows = none_broken C08 (misses_pattern rule.context offset) [] code in
         let points = not-false (points_to is_pattern_item rule.context offset) rows.0 in
         let at = pointed is_pattern_item rule.context offset points in
         one_out (PointsInto context) (output.ContextAt offset) (at.0, omega (arith, at.1)) no_store no_group
-        (pointing (numbers_of program) is_pattern_item is_matched (matched (numbers_of program)) rule.context offset points)
+        (pointing (numbers_of program) is_pattern_item is_matched (matched (numbers_of program)) rule.context offset points) refl
     rule_item_written item is named values code =
         plain_written (PointsInto context) into_context (length rule.context) place item is named values (λ store offset e. cc) (λ e. cc) (λ offset e. cc)
 
@@ -243,7 +247,7 @@ module _ (program : Program) (read : IsRead program) (whole : IsUnrefused progra
     rule_output_written is named values code few =
         let written = or_nul_written (PointsInto context) into_context.nul (output_size (stores_of program) rule.output) (flat_map (file_output (numbers_of program) (length rule.context) place) rule.output)
         few (rule_items_written rule.output is named values code) in
-        (record { items = written.spelled; stores = written.named; groups = written.entered; item_count = written.few }, written.fact)
+        (record { items = written.spelled; stores = written.named; systems = written.systems; groups = written.entered; item_count = written.few }, written.fact)
 
   -- the output of match or nomatch
   abbrev NeedsNone : Out → Type 0
@@ -292,4 +296,4 @@ module _ (program : Program) (read : IsRead program) (whole : IsUnrefused progra
   match_output_written items is named values code few =
       let written = or_nul_written NeedsNone needs_none.nul (output_size (stores_of program) items) (flat_map (file_output (numbers_of program) 0 None) items)
       few (match_items_written items is named values code) in
-      record { itself = record { items = written.spelled; stores = written.named; groups = written.entered; item_count = written.few }; no_context = written.fact }
+      record { itself = record { items = written.spelled; stores = written.named; systems = written.systems; groups = written.entered; item_count = written.few }; no_context = written.fact }

@@ -6,6 +6,7 @@ use Rattle.std.specs.Str.{chars, is_utf8}
 use Rattle.virtual_keys.specs.Keys.{us_characters}
 use Rattle.std.specs.List.Sorted.{IsSortedBy}
 use Rattle.std.proofs.lemmas.List.Sorted.{IsPermutation-to_front, length_permutation}
+use Rattle.kmn_base.specs.Lists.{without_last}
 use Rattle.kmn_base.specs.declared.items.Item.{Item}
 use Rattle.kmn_base.specs.declared.items.Item.TheVariants as item
 use Rattle.kmn_base.specs.declared.items.Element.{Element}
@@ -61,13 +62,14 @@ compiled p =
       groups = map (λ g. ordered (file_group (numbers_of p) g)) p.groups;
     }
 
--- what is seen of each step: what it deleted and inserted, the items before the caret, and the current and saved values
+-- what is seen of each step: what it deleted and inserted, the items before the caret, and the current and saved values but
+-- for the system options
 abbrev Seen : Type 0
 Seen = ℕ × List ℕ × List Item × List (List Element) × List (Option (List Element))
 
 abbrev seen : Step → Seen
 seen step =
-    (step.happened.outcome.delete, step.happened.inserted, step.happened.after.left, step.happened.after.current, step.happened.after.saved)
+    (step.happened.outcome.delete, step.happened.inserted, step.happened.after.left, without_last 2 step.happened.after.current, without_last 2 step.happened.after.saved)
 
 -- a program and its tables, played with the same events
 played : Program → List Event → List Seen × List Seen

@@ -1,12 +1,13 @@
 -- The parts of the keyboards of a program and of tables, which stay shut elsewhere.
 use Rattle.std.proofs.Common.{◌≡◌, refl}
-use Rattle.std.specs.Prelude.{map, find, List}
+use Rattle.std.specs.Prelude.{map, find, List, ◌++◌}
 use Rattle.kmn_base.specs.declared.events.Event.{Event}
 use Rattle.kmn_base.specs.declared.keys.KeyPress.{KeyPress}
 use Rattle.rule_model.specs.declared.event_state.EventState.{EventState}
 use Rattle.rule_model.specs.declared.program.Program.{Program}
 use Rattle.rule_model.specs.declared.tables.Tables.{Tables}
 use Rattle.rule_model.specs.Keyboard.{Keyboard, Numbered, Best, First}
+use Rattle.rule_model.specs.System.{system_options}
 use Rattle.rule_model.specs.Naming.{names_of}
 use Rattle.compile_laws.specs.WellNamed.{stated_stores}
 use Rattle.rule_model.specs.Src.{src, src_group, start_named, is_unicode}
@@ -19,7 +20,7 @@ pub src_start : (p : Program) → (src p).start ≡ start_named (find is_unicode
 unfolding src
 src_start p = refl
 
-pub src_stores : (p : Program) → (src p).stores ≡ stated_stores p
+pub src_stores : (p : Program) → (src p).stores ≡ stated_stores p ++ system_options
 unfolding src
 src_stores p = refl
 
@@ -39,7 +40,7 @@ pub tab_start : (t : Tables) → (tab t).start ≡ Numbered t.start_unicode
 unfolding tab
 tab_start t = refl
 
-pub tab_stores : (t : Tables) → (tab t).stores ≡ with_options (tab_options t) 0 t.stores
+pub tab_stores : (t : Tables) → (tab t).stores ≡ with_options (tab_options t) 0 t.stores ++ system_options
 unfolding tab
 tab_stores t = refl
 

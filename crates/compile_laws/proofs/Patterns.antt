@@ -16,7 +16,8 @@ use Rattle.rule_model.specs.declared.program.SrcItem.TheVariants as source
 use Rattle.rule_model.specs.declared.tables.Tables.{Tables}
 use Rattle.rule_model.specs.Keyboard.{Ref, Pattern, IsAny, IsNotAny, IsIndex, IfEqual, IfUnequal, RuleMeaning}
 use Rattle.rule_model.specs.Content.{content}
-use Rattle.rule_model.specs.Match.{Content, takes_item, matches, place_for, place_of, place_caught, element_at, is_element, nothing_caught, catch_item, catches_from, same_value}
+use Rattle.rule_model.specs.Match.{Content, takes_item, matches, place_for, place_of, place_caught, element_at, is_element, nothing_caught, catch_item, catches_from}
+use Rattle.rule_model.specs.System.{is_equal}
 use Rattle.rule_model.specs.Hold.{is_true, is_at_start, pattern_count, has_room, fitting_place, caught_by, holds}
 use Rattle.rule_model.specs.Naming.{names_of}
 use Rattle.rule_model.specs.Tab.{tab, tab_pattern}
@@ -161,11 +162,11 @@ module _ (ca cb : Content) (a b : Ref) (e : ca a ≡ cb b) where
   index-same offset =
       record { takes = refl; fits = λ seen x i. is_element x (element_at (e i) (place_caught seen offset)); place = λ x. refl; holds = refl; start = refl }
 
-  equal-same : (v w : List Element) → v ≡ w → SamePattern ca cb (IfEqual a v) (IfEqual b w)
-  equal-same v w f = record { takes = refl; fits = λ seen x. refl; place = λ x. refl; holds = λ i. same_value (e i) (f i); start = refl }
+  equal-same : ((c v : List Element) → is_equal a c v ≡ is_equal b c v) → (v w : List Element) → v ≡ w → SamePattern ca cb (IfEqual a v) (IfEqual b w)
+  equal-same alike v w f = record { takes = refl; fits = λ seen x. refl; place = λ x. refl; holds = alike (ca a) v ∙ (λ i. is_equal b (e i) (f i)); start = refl }
 
-  unequal-same : (v w : List Element) → v ≡ w → SamePattern ca cb (IfUnequal a v) (IfUnequal b w)
-  unequal-same v w f = record { takes = refl; fits = λ seen x. refl; place = λ x. refl; holds = λ i. not (same_value (e i) (f i)); start = refl }
+  unequal-same : ((c v : List Element) → is_equal a c v ≡ is_equal b c v) → (v w : List Element) → v ≡ w → SamePattern ca cb (IfUnequal a v) (IfUnequal b w)
+  unequal-same alike v w f = record { takes = refl; fits = λ seen x. refl; place = λ x. refl; holds = ap not (alike (ca a) v ∙ (λ i. is_equal b (e i) (f i))); start = refl }
 
 -- an item of a program's context and the item that it compiles to
 pub pattern-same :
@@ -176,7 +177,7 @@ pattern-same p t l values (source.Any s) known valued = any-same _ _ _ _ (sym (l
 pattern-same p t l values (source.NotAny s) known valued = not_any-same _ _ _ _ (sym (l.same_content s values known))
 pattern-same p t l values (source.Index s offset) known valued = index-same _ _ _ _ (sym (l.same_content s values known)) offset
 pattern-same p t l values (source.Equal s v) known valued =
-    equal-same _ _ _ _ (sym (l.same_content s values known)) _ _ (sym (l.same_value v (and_parts (is_value p v) true valued).0))
+    equal-same _ _ _ _ (sym (l.same_content s values known)) (λ c v. refl) _ _ (sym (l.same_value v (and_parts (is_value p v) true valued).0))
 pattern-same p t l values (source.Unequal s v) known valued =
-    unequal-same _ _ _ _ (sym (l.same_content s values known)) _ _ (sym (l.same_value v (and_parts (is_value p v) true valued).0))
+    unequal-same _ _ _ _ (sym (l.same_content s values known)) (λ c v. refl) _ _ (sym (l.same_value v (and_parts (is_value p v) true valued).0))
 pattern-same p t l values x known valued = record { takes = refl; fits = λ seen x. refl; place = λ x. refl; holds = refl; start = refl }

@@ -1,10 +1,10 @@
--- The stores of a program's tables are those of the program, and more that are no options.
-use Rattle.std.proofs.Common.{◌≡◌, ℕ, zero, suc, ◌+◌, ◌<◌, ◌≤◌, Bool, true, false, List, [], ◌∷◌, ◌++◌, length, map, Option, Some, None, refl, ap, sym, ◌∙◌, arith, is_some, if◌then◌else◌, cond, append-nil}
+-- The stores of a program's tables are those of the program, more that are no options, and the system options.
+use Rattle.std.proofs.Common.{◌≡◌, ℕ, zero, suc, ◌+◌, ◌<◌, ◌≤◌, Bool, true, false, List, [], ◌∷◌, ◌++◌, length, map, not, ◌&&◌, Option, Some, None, refl, ap, sym, ◌∙◌, arith, is_some, if◌then◌else◌, cond, append_assoc}
 use Rattle.std.specs.Prelude.{nat_eq, find, option_map, position, slice_get, unwrap_or}
 use Rattle.std.specs.List.{list_any, AllByRecursion}
 use Rattle.std.specs.Str.{bytes_eq}
 use Rattle.std.specs.Cmp.Lexicographic.{bytes_decides}
-use Rattle.std.proofs.lemmas.Bool.{not-true, true≢false}
+use Rattle.std.proofs.lemmas.Bool.{not-true, true≢false, or_parts}
 use Rattle.std.proofs.lemmas.List.Elements.{filter-append}
 use Rattle.std.proofs.lemmas.Option.{slice_get-map}
 use Rattle.kmn_base.specs.declared.items.Element.{Element}
@@ -21,6 +21,8 @@ use Rattle.compile_laws.specs.Numbers.{numbers_of, values_of, value_store, dicti
 use Rattle.compile_laws.specs.Compiles.{Compiles}
 use Rattle.compile_laws.specs.WellNamed.{IsWellNamed, is_store, is_fixed, stated_stores}
 use Rattle.rule_model.specs.Trace.{options_of, none_saved, first_state}
+use Rattle.rule_model.specs.System.{system_options}
+use Rattle.rule_model.proofs.PlainOptions.{length-with_options}
 use Rattle.compile_laws.proofs.Keyboards.{src_stores, tab_stores}
 use Rattle.compile_laws.proofs.Linked.{Linked, is_value}
 use Rattle.compile_laws.proofs.Options.{options-same, options-within}
@@ -28,7 +30,7 @@ use Rattle.compile_laws.proofs.Places.{position-cons, FirstPlace, first_place, a
 
 with_options-same : (a b : List ℕ) → ((n : ℕ) → list_any (nat_eq n) a ≡ list_any (nat_eq n) b) → (n : ℕ) (xs : List Store) → with_options a n xs ≡ with_options b n xs
 with_options-same a b same n [] = refl
-with_options-same a b same n (x ∷ xs) = λ i. record { name = x.name; elements = x.elements; is_option = same n i } ∷ with_options-same a b same (n + 1) xs i
+with_options-same a b same n (x ∷ xs) = λ i. record { name = x.name; elements = x.elements; is_option = same n i; is_system = false } ∷ with_options-same a b same (n + 1) xs i
 
 with_options-append : (options : List ℕ) (n : ℕ) (xs ys : List Store) → with_options options n (xs ++ ys) ≡ with_options options n xs ++ with_options options (n + length xs) ys
 with_options-append options n [] ys =
@@ -36,12 +38,8 @@ with_options-append options n [] ys =
     ap (λ m. with_options options m ys) e
 with_options-append options n (x ∷ xs) ys =
     let e : n + 1 + length xs ≡ n + suc (length xs) = omega arith in
-    ap (λ rest. record { name = x.name; elements = x.elements; is_option = list_any (nat_eq n) options } ∷ rest)
+    ap (λ rest. record { name = x.name; elements = x.elements; is_option = list_any (nat_eq n) options; is_system = false } ∷ rest)
     (with_options-append options (n + 1) xs ys ∙ ap (λ m. with_options options (n + 1) xs ++ with_options options m ys) e)
-
-length-with_options : (options : List ℕ) (n : ℕ) (xs : List Store) → length (with_options options n xs) ≡ length xs
-length-with_options options n [] = refl
-length-with_options options n (x ∷ xs) = ap suc (length-with_options options (n + 1) xs)
 
 -- none of the stores is an option
 abbrev NoOptions : List StoreMeaning → Type 0
@@ -51,23 +49,30 @@ no_options : (options : List ℕ) (n : ℕ) → ((m : ℕ) → n ≤ m → list_
 no_options options n none [] = tt
 no_options options n none (x ∷ xs) = (none n (omega arith), no_options options (n + 1) (λ m past. none m (omega arith)) xs)
 
--- what stands past the stores of a program
+-- two lists with the same stores and the system options behind them, in the second after more that are no options
 record More (a b : List StoreMeaning) : Type 0 where
+  own : List StoreMeaning
   more : List StoreMeaning
-  is : b ≡ a ++ more
+  first : a ≡ own ++ system_options
+  is : b ≡ own ++ (more ++ system_options)
   none : NoOptions more
 
 tables-more : (p : Program) (t : Tables) → IsWellNamed p → Compiles p t → More (src p).stores (tab t).stores
 tables-more p t ok c =
     let added = dictionary_stores (names_of p).keys ++ map value_store (values_of p) in
+    let own = with_options (src_options p) 0 (stores_of p) in
+    let more = with_options (src_options p) (0 + length (stores_of p)) added in
     record {
-      more = with_options (src_options p) (0 + length (stores_of p)) added;
+      own = own;
+      more = more;
+      first = src_stores p;
       is =
           tab_stores t
-          ∙ (with_options-same (tab_options t) (src_options p) (λ n. options-same p t ok c (nat_eq n)) 0 t.stores
+          ∙ (ap (λ stores. stores ++ system_options)
+          (with_options-same (tab_options t) (src_options p) (λ n. options-same p t ok c (nat_eq n)) 0 t.stores
           ∙ (ap (with_options (src_options p) 0) c.stores
-          ∙ (with_options-append (src_options p) 0 (stores_of p) added
-          ∙ ap (λ stores. stores ++ with_options (src_options p) (0 + length (stores_of p)) added) (sym (src_stores p)))));
+          ∙ with_options-append (src_options p) 0 (stores_of p) added))
+          ∙ append_assoc own more system_options);
       none = no_options (src_options p) (0 + length (stores_of p)) (λ m past. options-within p m (omega arith)) added;
     }
 
@@ -94,7 +99,12 @@ no_more_options (x ∷ more) none = (λ i. cond (none.0 i) (x ∷ options_of mor
 
 options_of-same : (a b : List StoreMeaning) → More a b → options_of a ≡ options_of b
 options_of-same a b m =
-    sym (ap options_of m.is ∙ (filter-append (λ (store : StoreMeaning). store.is_option) a m.more ∙ (ap (λ xs. options_of a ++ xs) (no_more_options m.more m.none) ∙ append-nil (options_of a))))
+    let test = λ (store : StoreMeaning). store.is_option in
+    ap options_of m.first
+    ∙ (filter-append test m.own system_options
+    ∙ (sym (ap (λ xs. options_of m.own ++ (xs ++ options_of system_options)) (no_more_options m.more m.none))
+    ∙ (sym (ap (λ xs. options_of m.own ++ xs) (filter-append test m.more system_options))
+    ∙ (sym (filter-append test m.own (m.more ++ system_options)) ∙ sym (ap options_of m.is)))))
 
 pub first_state-same : (p : Program) (t : Tables) → IsWellNamed p → Compiles p t → first_state (src p) ≡ first_state (tab t)
 first_state-same p t ok c =
@@ -107,12 +117,16 @@ first_state-same p t ok c =
       saved = map none_saved (e i);
     }
 
+-- a name in a rule means a store that is no system option
+abbrev is_called : List ℕ → StoreMeaning → Bool
+is_called name store = not store.is_system && same_name store.name name
+
 place-named : (name : List ℕ) (options : List ℕ) (n : ℕ) (xs : List Store) →
-    position (λ (store : StoreMeaning). same_name store.name name) (with_options options n xs) ≡ position (λ (store : Store). same_name store.name name) xs
+    position (is_called name) (with_options options n xs) ≡ position (λ (store : Store). same_name store.name name) xs
 place-named name options n [] = refl
 place-named name options n (x ∷ xs) =
-    let x' : StoreMeaning = record { name = x.name; elements = x.elements; is_option = list_any (nat_eq n) options } in
-    position-cons (λ (store : StoreMeaning). same_name store.name name) x' (with_options options (n + 1) xs)
+    let x' : StoreMeaning = record { name = x.name; elements = x.elements; is_option = list_any (nat_eq n) options; is_system = false } in
+    position-cons (is_called name) x' (with_options options (n + 1) xs)
     ∙ (ap (λ o. cond (same_name x.name name) (Some 0) (option_map suc o)) (place-named name options (n + 1) xs)
     ∙ sym (position-cons (λ (store : Store). same_name store.name name) x xs))
 
@@ -125,15 +139,30 @@ here_or_there : (b : Bool) (x : StoreMeaning) (xs : List StoreMeaning) (o : Opti
 here_or_there true x xs o y found e h = e
 here_or_there false x xs o y found e h = one_further x xs o ∙ h
 
+-- a name finds the same where system options stand behind the stores
+position-none : {X : Type 0} (p : X → Bool) (xs : List X) → list_any p xs ≡ false → position p xs ≡ None
+position-none p [] h = refl
+position-none p (x ∷ xs) h =
+    let each = or_parts (p x) (list_any p xs) h in
+    position-cons p x xs ∙ λ i. cond (each.0 i) (Some 0) (option_map suc (position-none p xs each.1 i))
+
+behind_none : (p : StoreMeaning → Bool) → list_any p system_options ≡ false → (xs : List StoreMeaning) → position p (xs ++ system_options) ≡ position p xs
+behind_none p none [] = position-none p system_options none
+behind_none p none (x ∷ xs) =
+    position-cons p x (xs ++ system_options) ∙ (ap (λ o. cond (p x) (Some 0) (option_map suc o)) (behind_none p none xs) ∙ sym (position-cons p x xs))
+
+named_behind : (name : List ℕ) (xs : List StoreMeaning) → store_number (xs ++ system_options) (Named name) ≡ store_number xs (Named name)
+named_behind name xs = behind_none (is_called name) refl xs
+
 -- the elements of a named store are those of the first that has the name
 elements-named : (name : List ℕ) (options : List ℕ) (n : ℕ) (xs : List Store) →
     elements_at (with_options options n xs) (store_number (with_options options n xs) (Named name)) ≡ elements_named xs name
 elements-named name options n [] = refl
 elements-named name options n (x ∷ xs) =
-    let x' : StoreMeaning = record { name = x.name; elements = x.elements; is_option = list_any (nat_eq n) options } in
+    let x' : StoreMeaning = record { name = x.name; elements = x.elements; is_option = list_any (nat_eq n) options; is_system = false } in
     let rest = with_options options (n + 1) xs in
-    ap (elements_at (x' ∷ rest)) (position-cons (λ (store : StoreMeaning). same_name store.name name) x' rest)
-    ∙ here_or_there (same_name x.name name) x' rest (position (λ (store : StoreMeaning). same_name store.name name) rest) x
+    ap (elements_at (x' ∷ rest)) (position-cons (is_called name) x' rest)
+    ∙ here_or_there (same_name x.name name) x' rest (position (is_called name) rest) x
     (find (λ (store : Store). same_name store.name name) xs) refl (elements-named name options (n + 1) xs)
 
 -- a store that is no option has its elements
@@ -171,41 +200,62 @@ module _ (p : Program) (t : Tables) (ok : IsWellNamed p) (c : Compiles p t) (s :
   s_numbered = ap (λ o. unwrap_or o 0) at_s.1
 
   s_named : store_number (src p).stores (Named s) ≡ Some at_s.0
-  s_named = (λ i. store_number (src_stores p i) (Named s)) ∙ (place-named s (src_options p) 0 (stores_of p) ∙ at_s.1)
+  s_named = (λ i. store_number (src_stores p i) (Named s)) ∙ (named_behind s (stated_stores p) ∙ (place-named s (src_options p) 0 (stores_of p) ∙ at_s.1))
 
-  s_within : at_s.0 < length (src p).stores
+  s_within : at_s.0 < length (stated_stores p)
   s_within =
       let here = first_place (λ (store : Store). same_name store.name s) (stores_of p) at_s.0 at_s.1 in
-      omega (arith, here.within, ap length (src_stores p), length-with_options (src_options p) 0 (stores_of p))
+      omega (arith, here.within, length-with_options (src_options p) 0 (stores_of p))
 
   content-same : (values : List (List Element)) → content (tab t).stores values (Numbered (number_of_store (numbers_of p) s)) ≡ content (src p).stores values (Named s)
+  unfolding tables-more
   content-same values =
       let m = tables-more p t ok c in
       (λ i. content_at (m.is i) values (Some (s_numbered i)))
-      ∙ (content_at-append (src p).stores m.more at_s.0 s_within values ∙ (λ i. content_at (src p).stores values (sym s_named i)))
+      ∙ (content_at-append m.own (m.more ++ system_options) at_s.0 s_within values
+      ∙ (sym (content_at-append m.own system_options at_s.0 s_within values) ∙ (λ i. content_at (sym m.first i) values (sym s_named i))))
 
   option-same : option_number (tab t).stores (Numbered (number_of_store (numbers_of p) s)) ≡ option_number (src p).stores (Named s)
+  unfolding tables-more
   option-same =
       let m = tables-more p t ok c in
       (λ i. option_at (m.is i) (Some (s_numbered i)))
-      ∙ (option_at-append (src p).stores m.more at_s.0 s_within ∙ (λ i. option_at (src p).stores (sym s_named i)))
+      ∙ (option_at-append m.own (m.more ++ system_options) at_s.0 s_within
+      ∙ (sym (option_at-append m.own system_options at_s.0 s_within) ∙ (λ i. option_at (sym m.first i) (sym s_named i))))
 
   elements-same :
       elements_at (tab t).stores (store_number (tab t).stores (Numbered (number_of_store (numbers_of p) s)))
       ≡ elements_at (src p).stores (store_number (src p).stores (Named s))
+  unfolding tables-more
   elements-same =
       let m = tables-more p t ok c in
       (λ i. elements_at (m.is i) (Some (s_numbered i)))
-      ∙ (elements_at-append (src p).stores m.more at_s.0 s_within ∙ (λ i. elements_at (src p).stores (sym s_named i)))
+      ∙ (elements_at-append m.own (m.more ++ system_options) at_s.0 s_within
+      ∙ (sym (elements_at-append m.own system_options at_s.0 s_within) ∙ (λ i. elements_at (sym m.first i) (sym s_named i))))
+
+-- elements of a place that is found are those with more behind
+elements_before : (xs ys : List StoreMeaning) (p : StoreMeaning → Bool) (o : Option ℕ) → position p xs ≡ o → elements_at (xs ++ ys) o ≡ elements_at xs o
+elements_before xs ys p None e = refl
+elements_before xs ys p (Some n) e = elements_at-append xs ys n (first_place p xs n e).within
+
+content_before : (xs ys : List StoreMeaning) (values : List (List Element)) (p : StoreMeaning → Bool) (o : Option ℕ) → position p xs ≡ o → content_at (xs ++ ys) values o ≡ content_at xs values o
+content_before xs ys values p None e = refl
+content_before xs ys values p (Some n) e = content_at-append xs ys n (first_place p xs n e).within values
 
 stated-elements : (p : Program) (s : List ℕ) → elements_at (src p).stores (store_number (src p).stores (Named s)) ≡ elements_named (stores_of p) s
-stated-elements p s = (λ i. elements_at (src_stores p i) (store_number (src_stores p i) (Named s))) ∙ elements-named s (src_options p) 0 (stores_of p)
+stated-elements p s =
+    (λ i. elements_at (src_stores p i) (store_number (src_stores p i) (Named s)))
+    ∙ (ap (elements_at (stated_stores p ++ system_options)) (named_behind s (stated_stores p))
+    ∙ (elements_before (stated_stores p) system_options (is_called s) (store_number (stated_stores p) (Named s)) refl
+    ∙ elements-named s (src_options p) 0 (stores_of p)))
 
 fixed-elements : (p : Program) (s : List ℕ) (values : List (List Element)) → is_fixed p s ≡ true → content (src p).stores values (Named s) ≡ elements_named (stores_of p) s
 fixed-elements p s values fixed =
     (λ i. content (src_stores p i) values (Named s))
+    ∙ (ap (content_at (stated_stores p ++ system_options) values) (named_behind s (stated_stores p))
+    ∙ (content_before (stated_stores p) system_options values (is_called s) (store_number (stated_stores p) (Named s)) refl
     ∙ (fixed_at (stated_stores p) values (store_number (stated_stores p) (Named s)) (not-true (is_some (option_number (stated_stores p) (Named s))) fixed)
-    ∙ elements-named s (src_options p) 0 (stores_of p))
+    ∙ elements-named s (src_options p) 0 (stores_of p))))
 
 value-same : (p : Program) (t : Tables) → Compiles p t → (v : List ℕ) → is_value p v ≡ true → elements_of t.stores (number_of_value (numbers_of p) v) ≡ value_elements v
 value-same p t c v stated =

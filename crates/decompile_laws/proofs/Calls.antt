@@ -101,7 +101,8 @@ keeps_options f named opts j (None ∷ calls) (s ∷ stores) c keeps =
     )
 keeps_options f named opts j (Some name ∷ calls) (s ∷ stores) c keeps =
     let k : j ≡ j + 0 = omega arith in (
-      (λ e. let kept = keeps 0 s (Some name) refl refl (ap (λ (x : ℕ). list_any (nat_eq x) opts) (sym k) ∙ e) in (same_Some name s.name kept.0, kept.1)),
+      (λ e. let kept = keeps 0 s (Some name) refl refl (ap (λ (x : ℕ). list_any (nat_eq x) opts) (sym k) ∙ e) in
+          (λ i. record { name = same_Some name s.name kept.0 i; elements = kept.1 i; is_option = list_any (nat_eq j) opts; is_system = false })),
       keeps_options f named opts (j + 1) calls stores c.2 (λ n store call a b e. let l : j + suc n ≡ j + 1 + n = omega arith in keeps (suc n) store call a b (ap (λ (x : ℕ). list_any (nat_eq x) opts) l ∙ e)),
     )
 

@@ -11,12 +11,13 @@ use Rattle.rule_model.specs.declared.program.StoreDef.{StoreDef}
 use Rattle.rule_model.specs.Keyboard.{StoreMeaning}
 use Rattle.rule_model.specs.Naming.{SourceNames, store_of, stores_onto, is_dropped, item_elements}
 use Rattle.rule_model.specs.Src.{numbers_named}
+use Rattle.rule_model.specs.System.{system_options}
 use Rattle.rule_model.specs.Tab.{with_options}
 use Rattle.compile_laws.proofs.Places.{position-cons}
 use Rattle.decompile_laws.specs.Items.{Names, back_element}
 use Rattle.decompile_laws.specs.Back.{back_stores}
 use Rattle.decompile_laws.proofs.Apart.{StandsFirst}
-use Rattle.decompile_laws.proofs.Thin.{thin}
+use Rattle.decompile_laws.proofs.Thin.{thin, is_called}
 
 -- the stores of a file that have a name here, under that name
 abbrev pub thin_stores : (Element → Element) → List (Option (List ℕ)) → List Store → List Store
@@ -100,7 +101,7 @@ meanings-thin f new old j n (Some name ∷ calls) (store ∷ stores) agree =
     (let e : j ≡ j + 0 = omega arith in ap (λ (k : ℕ). list_any (nat_eq k) new) e) ∙ agree 0 tt ∙ (let e : n + 0 ≡ n = omega arith in ap (λ (k : ℕ). list_any (nat_eq k) old) e) in
     let rest = meanings-thin f new old (j + 1) (n + 1) calls stores
     (λ i w. (let e : j + 1 + written_before i calls ≡ j + (1 + written_before i calls) = omega arith in ap (λ (k : ℕ). list_any (nat_eq k) new) e) ∙ agree (suc i) w ∙ (let e : n + suc i ≡ n + 1 + i = omega arith in ap (λ (k : ℕ). list_any (nat_eq k) old) e)) in
-    λ i. record { name = name; elements = map f store.elements; is_option = here i } ∷ rest i
+    λ i. record { name = name; elements = map f store.elements; is_option = here i; is_system = false } ∷ rest i
 
 -- the options of a text, by where they stand
 pub options-placed : (stores : List Store) (called : ℕ → List ℕ) (place : ℕ → ℕ) (opts : List ℕ)
@@ -161,7 +162,7 @@ pub options-append : (opts : List ℕ) (n : ℕ) (xs ys : List Store) → with_o
 options-append opts n [] ys = let e : n ≡ n + 0 = omega arith in ap (λ k. with_options opts k ys) e
 options-append opts n (x ∷ xs) ys =
     let e : n + 1 + length xs ≡ n + suc (length xs) = omega arith in
-    λ i. record { name = x.name; elements = x.elements; is_option = list_any (nat_eq n) opts } ∷ (options-append opts (n + 1) xs ys ∙ ap (λ k. with_options opts (n + 1) xs ++ with_options opts k ys) e) i
+    λ i. record { name = x.name; elements = x.elements; is_option = list_any (nat_eq n) opts; is_system = false } ∷ (options-append opts (n + 1) xs ys ∙ ap (λ k. with_options opts (n + 1) xs ++ with_options opts k ys) e) i
 
 none-below : (n front : ℕ) (calls : List (Option (List ℕ))) (opts : List ℕ) → n < front → list_any (nat_eq n) (map (λ k. front + written_before k calls) opts) ≡ false
 none-below n front calls [] less = refl
@@ -175,15 +176,18 @@ front-fixed front calls opts n [] less = tt
 front-fixed front calls opts n (x ∷ xs) less = (none-below n front calls opts (omega arith), front-fixed front calls opts (n + 1) xs (omega arith))
 
 pub front-other : (opts : List ℕ) (name : List ℕ) (n : ℕ) (xs : List Store) → AllByRecursion (λ (store : Store). same_name store.name name ≡ false) xs
-    → AllByRecursion (λ (store : StoreMeaning). same_name store.name name ≡ false) (with_options opts n xs)
+    → AllByRecursion (λ (store : StoreMeaning). is_called name store ≡ false) (with_options opts n xs)
 front-other opts name n [] other = tt
 front-other opts name n (x ∷ xs) other = (other.0, front-other opts name (n + 1) xs other.1)
 
--- a store is an option where its number says so
-pub option-flag : (opts : List ℕ) (j n : ℕ) (stores : List Store) (store : StoreMeaning) → slice_get (with_options opts j stores) n ≡ Some store → store.is_option ≡ list_any (nat_eq (j + n)) opts
-option-flag opts j n [] store at = absurd (none-some store at)
-option-flag opts j zero (s ∷ stores) store at =
+-- a store is an option where its number says so, and where it is a system option
+pub option-flag : (opts : List ℕ) (j n : ℕ) (stores : List Store) (store : StoreMeaning) → slice_get (with_options opts j stores ++ system_options) n ≡ Some store
+    → list_any (nat_eq (j + n)) opts ≡ true → store.is_option ≡ true
+option-flag opts j zero [] store at is = ap (λ (k : StoreMeaning). k.is_option) (sym (same_Some _ store at))
+option-flag opts j (suc zero) [] store at is = ap (λ (k : StoreMeaning). k.is_option) (sym (same_Some _ store at))
+option-flag opts j (suc (suc n)) [] store at is = absurd (none-some store at)
+option-flag opts j zero (s ∷ stores) store at is =
     let e : j ≡ j + 0 = omega arith in
-    ap (λ (k : StoreMeaning). k.is_option) (sym (same_Some _ store at)) ∙ ap (λ (k : ℕ). list_any (nat_eq k) opts) e
-option-flag opts j (suc n) (s ∷ stores) store at =
-    let e : j + 1 + n ≡ j + suc n = omega arith in option-flag opts (j + 1) n stores store at ∙ ap (λ (k : ℕ). list_any (nat_eq k) opts) e
+    ap (λ (k : StoreMeaning). k.is_option) (sym (same_Some _ store at)) ∙ ap (λ (k : ℕ). list_any (nat_eq k) opts) e ∙ is
+option-flag opts j (suc n) (s ∷ stores) store at is =
+    let e : j + 1 + n ≡ j + suc n = omega arith in option-flag opts (j + 1) n stores store at (ap (λ (k : ℕ). list_any (nat_eq k) opts) e ∙ is)

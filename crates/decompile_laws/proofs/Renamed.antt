@@ -114,11 +114,11 @@ module _ (ca cb : Content) (a b : Ref) (e : map plain (ca a) ≡ map plain (cb b
   index-same : (offset : ℕ) → SamePattern ca cb (IsIndex a offset) (IsIndex b offset)
   index-same offset = record { takes = refl; fits = λ seen x. element-like (ca a) (cb b) e x (place_caught seen offset); place = λ x. refl; holds = refl; start = refl }
 
-module _ (ca cb : Content) (a b : Ref) (e : ca a ≡ cb b) where
-  equal-same : (v w : List Element) → v ≡ w → SamePattern ca cb (IfEqual a v) (IfEqual b w)
+module _ (ca cb : Content) (name : List ℕ) (n : ℕ) (e : ca (Named name) ≡ cb (Numbered n)) where
+  equal-same : (v w : List Element) → v ≡ w → SamePattern ca cb (IfEqual (Named name) v) (IfEqual (Numbered n) w)
   equal-same v w f = record { takes = refl; fits = λ seen x. refl; place = λ x. refl; holds = λ i. same_value (e i) (f i); start = refl }
 
-  unequal-same : (v w : List Element) → v ≡ w → SamePattern ca cb (IfUnequal a v) (IfUnequal b w)
+  unequal-same : (v w : List Element) → v ≡ w → SamePattern ca cb (IfUnequal (Named name) v) (IfUnequal (Numbered n) w)
   unequal-same v w f = record { takes = refl; fits = λ seen x. refl; place = λ x. refl; holds = λ i. not (same_value (e i) (f i)); start = refl }
 
 -- a key as a text spells it
@@ -158,6 +158,8 @@ module _ (p : Program) (t : Tables) (names : Names) (r : Renamed p t names) wher
   pattern-same values (pattern.Index s offset) ok = index-same _ _ _ _ (r.like_content s ok.named.0 values) offset
   pattern-same values (pattern.Equal s v) ok = equal-same _ _ _ _ (r.same_content s ok.named.0 ok.options.0 values) _ _ (r.same_value v ok.values.0)
   pattern-same values (pattern.Unequal s v) ok = unequal-same _ _ _ _ (r.same_content s ok.named.0 ok.options.0 values) _ _ (r.same_value v ok.values.0)
+  pattern-same values (pattern.SystemEqual id v) ok = absurd ok.systems.0
+  pattern-same values (pattern.SystemUnequal id v) ok = absurd ok.systems.0
   pattern-same values x ok = record { takes = refl; fits = λ seen x. refl; place = λ x. refl; holds = refl; start = refl }
 
   patterns-same : (values : List (List Element)) (xs : List Pat) → AllByRecursion (GoodPattern t) xs → SameContext (content (src p).stores values) (content (tab t).stores values) (map (src_pattern (names_of p)) (map (back_pattern names) xs)) (map (tab_pattern t.stores) xs)
@@ -170,6 +172,7 @@ module _ (p : Program) (t : Tables) (names : Names) (r : Renamed p t names) wher
     one-same (output.Index store offset) ok s = put-like _ _ (r.like_content store ok.named.0 s.current) (place_for_index c offset) s
     one-same (output.Enter g) ok s = λ i. if nat_le EVENT_ENTRIES s.entered then record s { stopped = true } else same (Named (group_called names g)) (Numbered g) (g, ok.groups.0, refl, refl) s i
     one-same (output.Set store v) ok s = λ i. set_current (r.same_option store ok.named.0 i) (r.same_value v ok.values.0 i) s
+    one-same (output.SetSystem id v) ok s = absurd ok.systems.0
     one-same (output.Save store) ok s = λ i. save_current (r.same_option store ok.named.0 i) s
     one-same (output.Reset store) ok s = λ i. reset_current (r.same_option store ok.named.0 i) (r.same_elements store ok.named.0 ok.options.0 i) s
     one-same x ok s = refl

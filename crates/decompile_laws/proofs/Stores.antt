@@ -1,5 +1,5 @@
 -- The stores of a text correspond to those of the file.
-use Rattle.std.proofs.Common.{◌≡◌, ℕ, ◌+◌, ◌<◌, inr, true, false, List, [], ◌∷◌, ◌++◌, length, drop, map, Option, None, Some, is_some, refl, sym, ◌∙◌, ap, subst, arith, if◌then◌else◌}
+use Rattle.std.proofs.Common.{◌≡◌, ℕ, ◌+◌, ◌<◌, inr, true, false, List, [], ◌∷◌, ◌++◌, length, drop, map, Option, None, Some, is_some, refl, sym, ◌∙◌, ap, subst, arith, append_assoc, if◌then◌else◌}
 use Rattle.std.specs.Prelude.{slice_get, position, unwrap_or, nat_eq, flat_map, bit_or}
 use Rattle.std.specs.List.{list_any, list_all, AllByRecursion}
 use Rattle.std.proofs.lemmas.List.{map-append}
@@ -14,6 +14,7 @@ use Rattle.rule_model.specs.declared.tables.Tables.{Tables}
 use Rattle.rule_model.specs.Keyboard.{StoreMeaning}
 use Rattle.rule_model.specs.Naming.{SourceNames, names_of, stores_of, store_of}
 use Rattle.rule_model.specs.Src.{src, src_options, numbers_named}
+use Rattle.rule_model.specs.System.{system_options}
 use Rattle.rule_model.specs.Tab.{tab, tab_options, with_options, elements_of, store_elements, element_char, tab_dictionary}
 use Rattle.compile_laws.proofs.Keyboards.{src_stores, tab_stores}
 use Rattle.kmx_format.specs.Playable.{IsPlayable}
@@ -177,17 +178,22 @@ module _ (t : Tables) (p : IsPlayable t) (c : CanBeWrittenOut t) where
   pub front-plain : AllByRecursion (λ (s : StoreMeaning). s.is_option ≡ false) front_meanings
   front-plain = front-fixed (length front_file) calls (tab_options t) 0 front_file (omega arith)
 
-  pub meanings-are : (src (back t)).stores ≡ front_meanings ++ thin spelled calls (tab t).stores
+  -- those of the file
+  abbrev pub own_meanings : List StoreMeaning
+  own_meanings = with_options (tab_options t) 0 t.stores
+
+  pub meanings-are : (src (back t)).stores ≡ front_meanings ++ (thin spelled calls own_meanings ++ system_options)
   meanings-are =
       src_stores (back t)
-      ∙ ((λ i. with_options (options-are i) 0 (stores-are i))
+      ∙ (ap (λ (ss : List StoreMeaning). ss ++ system_options)
+      ((λ i. with_options (options-are i) 0 (stores-are i))
       ∙ (options-append (map place (tab_options t)) 0 front_file (thin_stores spelled calls t.stores)
       ∙ ((let e : 0 + length front_file ≡ length front_file = omega arith in ap (λ (k : ℕ). front_meanings ++ with_options (map place (tab_options t)) k (thin_stores spelled calls t.stores)) e)
       ∙ (ap (λ (ss : List StoreMeaning). front_meanings ++ ss)
       (meanings-thin spelled (map place (tab_options t)) (tab_options t) (length front_file) 0 calls t.stores
       (flags_agree (length front_file) calls (tab_options t)
-      (all_weaker (IsOption t) (λ n. Written n calls) (λ n option. let r = ready n (option-named t n option) in first-written r.name n calls r.first) (tab_options t) (members (tab_options t)))))
-      ∙ ap (λ (ss : List StoreMeaning). front_meanings ++ thin spelled calls ss) (sym (tab_stores t))))))
+      (all_weaker (IsOption t) (λ n. Written n calls) (λ n option. let r = ready n (option-named t n option) in first-written r.name n calls r.first) (tab_options t) (members (tab_options t)))))))))
+      ∙ append_assoc front_meanings (thin spelled calls own_meanings) system_options)
 
   -- options keep their names and elements
   same-characters : (es : List Element) → list_all (λ (e : Element). is_some (element_char e)) es ≡ true → map spelled es ≡ es
@@ -209,13 +215,14 @@ module _ (t : Tables) (p : IsPlayable t) (c : CanBeWrittenOut t) where
         same-characters store.elements (ap (list_all (λ (e : Element). is_some (element_char e))) (sym elements) ∙ chars),
       )
 
-  pub keeps : KeepsOptions spelled calls (tab t).stores
-  keeps = subst (KeepsOptions spelled calls) (sym (tab_stores t)) (keeps_options spelled (named_stores t) (tab_options t) 0 calls t.stores the-calls kept)
+  pub keeps : KeepsOptions spelled calls own_meanings
+  keeps = keeps_options spelled (named_stores t) (tab_options t) 0 calls t.stores the-calls kept
 
   -- so each store that an item names stands behind those in front
   pub stands-there : (n : ℕ) (r : Ready n) → Stands spelled r.name n (src (back t)).stores (tab t).stores
   stands-there n r =
       subst (λ (ss : List StoreMeaning). Stands spelled r.name n ss (tab t).stores) (sym meanings-are)
-      (behind spelled r.name n front_meanings (thin spelled calls (tab t).stores) (tab t).stores
+      (subst (Stands spelled r.name n (front_meanings ++ (thin spelled calls own_meanings ++ system_options))) (sym (tab_stores t))
+      (behind spelled r.name n front_meanings (thin spelled calls own_meanings ++ system_options) (own_meanings ++ system_options)
       (front-other (map place (tab_options t)) r.name 0 front_file (other-stores r.name 1 (front_stores t) (front-others n r)))
-      front-plain (stands spelled r.name n calls (tab t).stores r.first keeps))
+      front-plain (stands spelled r.name n calls own_meanings system_options r.first keeps)))

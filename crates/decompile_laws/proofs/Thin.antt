@@ -1,5 +1,5 @@
 -- Stores that are left away and named anew mean the same.
-use Rattle.std.proofs.Common.{◌≡◌, ℕ, zero, suc, ◌+◌, Bool, true, false, List, [], ◌∷◌, ◌++◌, map, Option, None, Some, refl, sym, ◌∙◌, ap, if◌then◌else◌}
+use Rattle.std.proofs.Common.{◌≡◌, ℕ, zero, suc, ◌+◌, Bool, true, false, not, ◌&&◌, List, [], ◌∷◌, ◌++◌, map, Option, None, Some, refl, sym, ◌∙◌, ap, if◌then◌else◌}
 use Rattle.std.specs.Prelude.{position, slice_get, unwrap_or, option_map}
 use Rattle.std.specs.List.{AllByRecursion}
 use Rattle.std.proofs.lemmas.Bool.{cond-true, cond-false}
@@ -11,9 +11,9 @@ use Rattle.rule_model.specs.Trace.{options_of}
 use Rattle.compile_laws.proofs.Places.{position-cons}
 use Rattle.decompile_laws.proofs.Apart.{StandsFirst}
 
--- a store under another name, with each element changed
+-- a store under another name, with each element changed; a name means no system option
 abbrev pub renamed : (Element → Element) → List ℕ → StoreMeaning → StoreMeaning
-renamed f name store = record { name = name; elements = map f store.elements; is_option = store.is_option }
+renamed f name store = record { name = name; elements = map f store.elements; is_option = store.is_option; is_system = false }
 
 -- the stores that have a name here, under that name
 abbrev pub thin : (Element → Element) → List (Option (List ℕ)) → List StoreMeaning → List StoreMeaning
@@ -22,71 +22,75 @@ thin f (name ∷ names) [] = []
 thin f (None ∷ names) (store ∷ stores) = thin f names stores
 thin f (Some name ∷ names) (store ∷ stores) = renamed f name store ∷ thin f names stores
 
--- a store that is left away is no option, and an option keeps its name and its elements
+-- a store that is left away is no option, and an option stays as it is
 abbrev pub KeepsOptions : (Element → Element) → List (Option (List ℕ)) → List StoreMeaning → Type 0
 KeepsOptions f [] [] = Unit {0}
 KeepsOptions f [] (store ∷ stores) = ⊥
 KeepsOptions f (name ∷ names) [] = ⊥
 KeepsOptions f (None ∷ names) (store ∷ stores) = (store.is_option ≡ false) × KeepsOptions f names stores
 KeepsOptions f (Some name ∷ names) (store ∷ stores) =
-    (store.is_option ≡ true → (name ≡ store.name) × (map f store.elements ≡ store.elements)) × KeepsOptions f names stores
+    (store.is_option ≡ true → renamed f name store ≡ store) × KeepsOptions f names stores
+
+-- a store that a name in a rule means
+abbrev pub is_called : List ℕ → StoreMeaning → Bool
+is_called name store = not store.is_system && same_name store.name name
 
 -- where a store stands among others under its name
 pub record Stands (f : Element → Element) (name : List ℕ) (n : ℕ) (new_stores old_stores : List StoreMeaning) : Type 0 where
   pub place : ℕ
-  pub found : position (λ (store : StoreMeaning). same_name store.name name) new_stores ≡ Some place
+  pub found : position (is_called name) new_stores ≡ Some place
   pub store : StoreMeaning
   pub old : slice_get old_stores n ≡ Some store
   pub new : slice_get new_stores place ≡ Some (renamed f name store)
   pub before : options_before place new_stores ≡ options_before n old_stores
   pub kept : store.is_option ≡ true → map f store.elements ≡ store.elements
 
-pub stands : (f : Element → Element) (name : List ℕ) (n : ℕ) (names : List (Option (List ℕ))) (stores : List StoreMeaning) → StandsFirst name n names → KeepsOptions f names stores
-    → Stands f name n (thin f names stores) stores
-stands f name n [] stores first keeps = absurd first
-stands f name n (other ∷ names) [] first keeps = absurd keeps
-stands f name zero (None ∷ names) (store ∷ stores) first keeps = absurd first
-stands f name zero (Some other ∷ names) (store ∷ stores) (is, same) (named, keeps) = record {
+pub stands : (f : Element → Element) (name : List ℕ) (n : ℕ) (names : List (Option (List ℕ))) (stores more : List StoreMeaning) → StandsFirst name n names → KeepsOptions f names stores
+    → Stands f name n (thin f names stores ++ more) (stores ++ more)
+stands f name n [] stores more first keeps = absurd first
+stands f name n (other ∷ names) [] more first keeps = absurd keeps
+stands f name zero (None ∷ names) (store ∷ stores) more first keeps = absurd first
+stands f name zero (Some other ∷ names) (store ∷ stores) more (is, same) (named, keeps) = record {
   place = 0;
-  found = position-cons (λ (store : StoreMeaning). same_name store.name name) (renamed f other store) (thin f names stores)
+  found = position-cons (is_called name) (renamed f other store) (thin f names stores ++ more)
       ∙ cond-true (same_name other name) _ _ (ap (λ k. same_name k name) is ∙ same);
   store = store;
   old = refl;
   new = ap (λ k. Some (renamed f k store)) is;
   before = refl;
-  kept = λ h. (named h).1;
+  kept = λ h. ap (λ (k : StoreMeaning). k.elements) (named h);
 }
-stands f name (suc n) (None ∷ names) (store ∷ stores) first (plain, keeps) =
-    let more = stands f name n names stores first keeps in record {
-      place = more.place;
-      found = more.found;
-      store = more.store;
-      old = more.old;
-      new = more.new;
-      before = more.before ∙ sym (cond-false store.is_option _ _ plain);
-      kept = more.kept;
+stands f name (suc n) (None ∷ names) (store ∷ stores) more first (plain, keeps) =
+    let rest = stands f name n names stores more first keeps in record {
+      place = rest.place;
+      found = rest.found;
+      store = rest.store;
+      old = rest.old;
+      new = rest.new;
+      before = rest.before ∙ sym (cond-false store.is_option _ _ plain);
+      kept = rest.kept;
     }
-stands f name (suc n) (Some other ∷ names) (store ∷ stores) (apart, first) (named, keeps) =
-    let more = stands f name n names stores first keeps in record {
-      place = suc more.place;
-      found = position-cons (λ (store : StoreMeaning). same_name store.name name) (renamed f other store) (thin f names stores)
-          ∙ cond-false (same_name other name) _ _ apart ∙ ap (option_map suc) more.found;
-      store = more.store;
-      old = more.old;
-      new = more.new;
-      before = ap (λ (k : ℕ). if store.is_option then 1 + k else k) more.before;
-      kept = more.kept;
+stands f name (suc n) (Some other ∷ names) (store ∷ stores) more (apart, first) (named, keeps) =
+    let rest = stands f name n names stores more first keeps in record {
+      place = suc rest.place;
+      found = position-cons (is_called name) (renamed f other store) (thin f names stores ++ more)
+          ∙ cond-false (same_name other name) _ _ apart ∙ ap (option_map suc) rest.found;
+      store = rest.store;
+      old = rest.old;
+      new = rest.new;
+      before = ap (λ (k : ℕ). if store.is_option then 1 + k else k) rest.before;
+      kept = rest.kept;
     }
 
--- stores in front don't have the name and are no options
+-- stores in front aren't called so and are no options
 pub behind : (f : Element → Element) (name : List ℕ) (n : ℕ) (front new_stores old_stores : List StoreMeaning)
-    → AllByRecursion (λ (store : StoreMeaning). same_name store.name name ≡ false) front → AllByRecursion (λ (store : StoreMeaning). store.is_option ≡ false) front
+    → AllByRecursion (λ (store : StoreMeaning). is_called name store ≡ false) front → AllByRecursion (λ (store : StoreMeaning). store.is_option ≡ false) front
     → Stands f name n new_stores old_stores → Stands f name n (front ++ new_stores) old_stores
 behind f name n [] new_stores old_stores other plain s = s
 behind f name n (x ∷ front) new_stores old_stores (apart, other) (fixed, plain) s =
     let more = behind f name n front new_stores old_stores other plain s in record {
       place = suc more.place;
-      found = position-cons (λ (store : StoreMeaning). same_name store.name name) x (front ++ new_stores) ∙ cond-false (same_name x.name name) _ _ apart ∙ ap (option_map suc) more.found;
+      found = position-cons (is_called name) x (front ++ new_stores) ∙ cond-false (is_called name x) _ _ apart ∙ ap (option_map suc) more.found;
       store = more.store;
       old = more.old;
       new = more.new;
@@ -137,16 +141,17 @@ module _ (f : Element → Element) (name : List ℕ) (n : ℕ) (new_stores old_s
   same_elements is = ap (elements_at new_stores) s.found ∙ ap elements_of_store s.new ∙ s.kept is ∙ sym (ap elements_of_store s.old)
 
 -- and the options are the same, with their names
-pub options-same : (f : Element → Element) (names : List (Option (List ℕ))) (stores : List StoreMeaning) → KeepsOptions f names stores → options_of (thin f names stores) ≡ options_of stores
-options-same f [] [] keeps = refl
-options-same f [] (store ∷ stores) keeps = absurd keeps
-options-same f (name ∷ names) [] keeps = absurd keeps
-options-same f (None ∷ names) (store ∷ stores) (plain, keeps) = options-same f names stores keeps ∙ sym (cond-false store.is_option _ _ plain)
-options-same f (Some name ∷ names) (store ∷ stores) (named, keeps) =
-    elim store.is_option as (λ b. (b ≡ true → (name ≡ store.name) × (map f store.elements ≡ store.elements))
-    → (if b then renamed f name store ∷ options_of (thin f names stores) else options_of (thin f names stores)) ≡ (if b then store ∷ options_of stores else options_of stores)) [
-      | true ↦ λ h. (λ i. record { name = (h refl).0 i; elements = (h refl).1 i; is_option = store.is_option } ∷ options-same f names stores keeps i)
-      | false ↦ λ h. options-same f names stores keeps
+pub options-same : (f : Element → Element) (names : List (Option (List ℕ))) (stores more : List StoreMeaning) → KeepsOptions f names stores
+    → options_of (thin f names stores ++ more) ≡ options_of (stores ++ more)
+options-same f [] [] more keeps = refl
+options-same f [] (store ∷ stores) more keeps = absurd keeps
+options-same f (name ∷ names) [] more keeps = absurd keeps
+options-same f (None ∷ names) (store ∷ stores) more (plain, keeps) = options-same f names stores more keeps ∙ sym (cond-false store.is_option _ _ plain)
+options-same f (Some name ∷ names) (store ∷ stores) more (named, keeps) =
+    elim store.is_option as (λ b. (b ≡ true → renamed f name store ≡ store)
+    → (if b then renamed f name store ∷ options_of (thin f names stores ++ more) else options_of (thin f names stores ++ more)) ≡ (if b then store ∷ options_of (stores ++ more) else options_of (stores ++ more))) [
+      | true ↦ λ h. (λ i. h refl i ∷ options-same f names stores more keeps i)
+      | false ↦ λ h. options-same f names stores more keeps
     ] named
 
 -- stores in front that are no options add none

@@ -1,5 +1,5 @@
 -- The program that tables are written out as means what they mean.
-use Rattle.std.proofs.Common.{◌≡◌, ℕ, zero, suc, ◌+◌, ◌^◌, ◌<◌, ◌≤◌, true, false, List, [], ◌∷◌, length, map, Option, Some, is_some, refl, sym, ◌∙◌, ap, subst, arith}
+use Rattle.std.proofs.Common.{◌≡◌, ℕ, zero, suc, ◌+◌, ◌^◌, ◌<◌, ◌≤◌, true, false, List, [], ◌∷◌, ◌++◌, length, map, Option, Some, is_some, refl, sym, ◌∙◌, ap, subst, arith}
 use Rattle.std.specs.Prelude.{slice_get, option_map, option_and_then, unwrap_or, codes, nat_eq}
 use Rattle.std.specs.List.{list_all, list_any, filter_map}
 use Rattle.std.proofs.lemmas.List.{length-map}
@@ -12,6 +12,7 @@ use Rattle.rule_model.specs.Content.{content, option_number, elements_at, store_
 use Rattle.rule_model.specs.Event.{State}
 use Rattle.rule_model.specs.Naming.{names_of}
 use Rattle.rule_model.specs.Src.{src, src_group, value_elements}
+use Rattle.rule_model.specs.System.{system_options}
 use Rattle.rule_model.specs.Tab.{tab, tab_group, tab_options, elements_of, element_char}
 use Rattle.rule_model.specs.Trace.{first_state, options_of, none_saved}
 use Rattle.compile_laws.proofs.Keyboards.{src_start, src_groups, src_dictionary, tab_start, tab_groups, tab_names, tab_choice, tab_stores}
@@ -30,7 +31,7 @@ use Rattle.decompile_laws.proofs.Linking.{option-flag}
 use Rattle.decompile_laws.proofs.Numbering.{keys-are, mark-number, key-number}
 use Rattle.decompile_laws.proofs.Renamed.{plain, Renamed, Called}
 use Rattle.decompile_laws.proofs.Groups.{group_name, groups_apart, group_count, names_taken, found-group, back-at, good-at, group_same}
-use Rattle.decompile_laws.proofs.Stores.{spelled, ready, meanings-are, front_meanings, front-plain, keeps, stands-there}
+use Rattle.decompile_laws.proofs.Stores.{spelled, ready, meanings-are, own_meanings, front_meanings, front-plain, keeps, stands-there}
 
 spelled-plain : (e : Element) → plain (spelled e) ≡ plain e
 spelled-plain (element.Char c) = refl
@@ -67,7 +68,7 @@ module _ (t : Tables) (p : IsPlayable t) (c : CanBeWrittenOut t) where
   option-there : (n : ℕ) (store : StoreMeaning) → IsOption t n → slice_get (tab t).stores n ≡ Some store → store.is_option ≡ true
   option-there n store option at =
       option-flag (tab_options t) 0 n t.stores store (ap (λ (ss : List StoreMeaning). slice_get ss n) (sym (tab_stores t)) ∙ at)
-      ∙ ((let e : 0 + n ≡ n = omega arith in ap (λ (k : ℕ). list_any (nat_eq k) (tab_options t)) e) ∙ option)
+      ((let e : 0 + n ≡ n = omega arith in ap (λ (k : ℕ). list_any (nat_eq k) (tab_options t)) e) ∙ option)
 
   pub renamed_stores : Renamed (back t) t (names_for t)
   renamed_stores = record {
@@ -100,7 +101,10 @@ module _ (t : Tables) (p : IsPlayable t) (c : CanBeWrittenOut t) where
   first-same : first_state (src (back t)) ≡ first_state (tab t)
   first-same =
       state-of-options (src (back t))
-      ∙ (ap state_of (ap options_of (meanings-are t p c) ∙ (options-behind (front_meanings t p c) (thin spelled (names_for t).stores (tab t).stores) (front-plain t p c) ∙ options-same spelled (names_for t).stores (tab t).stores (keeps t p c)))
+      ∙ (ap state_of
+      (ap options_of (meanings-are t p c)
+      ∙ (options-behind (front_meanings t p c) (thin spelled (names_for t).stores (own_meanings t p c) ++ system_options) (front-plain t p c)
+      ∙ (options-same spelled (names_for t).stores (own_meanings t p c) system_options (keeps t p c) ∙ ap options_of (sym (tab_stores t)))))
       ∙ sym (state-of-options (tab t)))
 
   -- the names of groups

@@ -18,6 +18,8 @@ pattern_again (pattern.Index store offset) = refl
 pattern_again (pattern.ContextAt offset) = refl
 pattern_again (pattern.Equal store value) = refl
 pattern_again (pattern.Unequal store value) = refl
+pattern_again (pattern.SystemEqual id value) = refl
+pattern_again (pattern.SystemUnequal id value) = refl
 pattern_again pattern.Nul = refl
 
 -- so is one that is read

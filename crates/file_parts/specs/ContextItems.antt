@@ -17,6 +17,8 @@ pattern_of (item.Index store offset) = pattern.Index store offset
 pattern_of (item.ContextAt offset) = pattern.ContextAt offset
 pattern_of (item.Equal store value) = pattern.Equal store value
 pattern_of (item.Unequal store value) = pattern.Unequal store value
+pattern_of (item.SystemEqual id value) = pattern.SystemEqual id value
+pattern_of (item.SystemUnequal id value) = pattern.SystemUnequal id value
 pattern_of item.Nul = pattern.Nul
 
 -- the item that a pattern is
@@ -29,6 +31,8 @@ item_of (pattern.Index store offset) = item.Index store offset
 item_of (pattern.ContextAt offset) = item.ContextAt offset
 item_of (pattern.Equal store value) = item.Equal store value
 item_of (pattern.Unequal store value) = item.Unequal store value
+item_of (pattern.SystemEqual id value) = item.SystemEqual id value
+item_of (pattern.SystemUnequal id value) = item.SystemUnequal id value
 item_of pattern.Nul = item.Nul
 
 -- the item that is spelled so

@@ -19,6 +19,9 @@ pub enum ContextItem {
     /// Store and value store.
     Equal(u16, u16),
     Unequal(u16, u16),
+    /// System id and value store.
+    SystemEqual(u16, u16),
+    SystemUnequal(u16, u16),
     Nul,
 }
 
@@ -36,6 +39,14 @@ impl ContextItem {
             ContextItem::ContextAt(offset) => Pat::ContextAt(u32::from(offset)),
             ContextItem::Equal(store, value) => Pat::Equal(u32::from(store), u32::from(value)),
             ContextItem::Unequal(store, value) => Pat::Unequal(u32::from(store), u32::from(value)),
+            ContextItem::SystemEqual(id, value) => Pat::SystemEqual(
+                u32::from(id),
+                u32::from(value),
+            ),
+            ContextItem::SystemUnequal(id, value) => Pat::SystemUnequal(
+                u32::from(id),
+                u32::from(value),
+            ),
             ContextItem::Nul => Pat::Nul,
         }
     }
@@ -47,7 +58,11 @@ impl ContextItem {
     {
         !matches!(
             &self,
-            ContextItem::Equal(..) | ContextItem::Unequal(..) | ContextItem::Nul
+            ContextItem::Equal(..)
+                | ContextItem::Unequal(..)
+                | ContextItem::SystemEqual(..)
+                | ContextItem::SystemUnequal(..)
+                | ContextItem::Nul
         )
     }
 }

@@ -1,7 +1,7 @@
 //! What an item of a string is as an element of a store, in a context and in an output.
 
 ghost use Rattle.std.specs.Prelude.{◌≡◌, ◌-◌, option_map};
-ghost use Rattle.kmx_format.specs.TablesOf.{comparison_of};
+ghost use Rattle.kmx_format.specs.TablesOf.{comparison_of, system_comparison_of};
 ghost use Rattle.file_parts.specs.ContextItems.{item_of};
 
 use crate::context_item::ContextItem;
@@ -20,14 +20,14 @@ pub trait Part: Drop {
         ensures { result ≡ of_unit_item item };
 }
 
-/// A store or group number from 0, which a file counts from 1.
+/// A number of a store, a group or a system option from 0, which a file counts from 1.
 fn from_zero(number: u16) -> u16
     ensures { result ≡ number - 1 }
 {
     number.saturating_sub(1)
 }
 
-/// A store or group number as tables have it.
+/// The same number as tables have it.
 fn table_number(number: u16) -> u32
     ensures { result ≡ number - 1 }
 {
@@ -40,6 +40,16 @@ fn comparison_of(store: u16, comparison: u16, value: u16) -> Option<ContextItem>
     match comparison {
         1 => Some(ContextItem::Unequal(from_zero(store), from_zero(value))),
         2 => Some(ContextItem::Equal(from_zero(store), from_zero(value))),
+        _ => None,
+    }
+}
+
+fn system_comparison_of(system: u16, comparison: u16, value: u16) -> Option<ContextItem>
+    ensures { result ≡ option_map item_of (system_comparison_of system comparison value) }
+{
+    match comparison {
+        1 => Some(ContextItem::SystemUnequal(from_zero(system), from_zero(value))),
+        2 => Some(ContextItem::SystemEqual(from_zero(system), from_zero(value))),
         _ => None,
     }
 }
@@ -73,6 +83,9 @@ impl Part for ContextItem {
             UnitItem::Index(store, offset) => Some(ContextItem::Index(from_zero(store), offset)),
             UnitItem::ContextAt(offset) => Some(ContextItem::ContextAt(offset)),
             UnitItem::Test(store, comparison, value) => comparison_of(store, comparison, value),
+            UnitItem::SystemTest(system, comparison, value) => system_comparison_of(
+                system, comparison, value,
+            ),
             UnitItem::Nul => Some(ContextItem::Nul),
             _ => None,
         }
@@ -108,6 +121,10 @@ impl Part for Out {
             UnitItem::ContextAt(offset) => Some(Out::ContextAt(u32::from(offset))),
             UnitItem::Enter(group) => Some(Out::Enter(table_number(group))),
             UnitItem::Set(store, value) => Some(Out::Set(table_number(store), table_number(value))),
+            UnitItem::SetSystem(system, value) => Some(Out::SetSystem(
+                table_number(system),
+                table_number(value),
+            )),
             UnitItem::Save(store) => Some(Out::Save(table_number(store))),
             UnitItem::Reset(store) => Some(Out::Reset(table_number(store))),
             UnitItem::Nul => Some(Out::Nul),

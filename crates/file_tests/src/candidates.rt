@@ -1,5 +1,5 @@
 //! The records that can hold for a press and a last item, one after the other, what is looked up of a file, the stores that
-//! have items and the first places there, and which stores are alike.
+//! have items and the first places there, which stores are alike, and of which a platform has each word.
 
 use file_parts::{ContextItem, FileTables};
 use kmn_base::Item::{Char, Mark};
@@ -66,16 +66,31 @@ const CONTENTS: &[&[Element]] = &[
     ],
 ];
 
+/// What the system options have, which stand behind the stores: the layer is the store 6, the platform the store 7.
+const SYSTEM_CONTENTS: &[(u32, &str)] = &[(6, "default"), (7, "windows desktop hardware native")];
+
 /// Items and the stores that have them, each with the first place there.
 const HOLDERS: &[(Item, &'static [(u16, u16)])] = &[
-    (Char('a'), &[(0, 0), (3, 1), (4, 0)]),
+    (Char('a'), &[(0, 0), (3, 1), (4, 0), (6, 3), (7, 17)]),
     (Char('b'), &[(0, 1), (2, 1), (4, 1), (5, 1)]),
+    (Char('f'), &[(6, 2)]),
     (Mark(1), &[(3, 0)]),
     (Mark(2), &[]),
 ];
 
 /// Of each store the first that has the same elements, and of one that isn't there an empty one.
-const ALIKE: &[u32] = &[0, 1, 2, 3, 0, 5, 1];
+const ALIKE: &[u32] = &[0, 1, 2, 3, 0, 5, 6, 7, 1];
+
+/// Platforms, and the stores all of whose words they have. The store without elements has no word to ask for, and a word with
+/// a mark or a virtual key is none of any text.
+const PLATFORMS: &[(&str, &[u32])] = &[
+    ("", &[1]),
+    ("abab ba", &[1]),
+    ("b  ABA ", &[0, 1, 4]),
+    ("aba Default", &[0, 1, 4, 6]),
+    ("Native desktop HARDWARE windows", &[1, 7]),
+    ("windows desktop hardware", &[1]),
+];
 
 /// The index of a group's records, where there are not too many.
 fn index_of(alloc: Global, file: &FileTables<'_>, number: u32) -> Result<RuleIndex, Memory> {
@@ -115,7 +130,7 @@ fn keyboard_of<'a>(alloc: Global, file: FileTables<'a>) -> Result<IndexedKeyboar
 
 /// Whether each store has its elements, and none behind them.
 fn has_contents(keyboard: &IndexedKeyboard<'_>) -> bool {
-    (0..7u32).all(|store| {
+    (0..6u32).all(|store| {
         (0..4usize).all(|place| {
             let wanted = CONTENTS
                 .get(store as usize)
@@ -125,10 +140,55 @@ fn has_contents(keyboard: &IndexedKeyboard<'_>) -> bool {
     })
 }
 
+/// The elements of a text.
+fn elements_of(alloc: Global, text: &str) -> Result<Vec<Element>, Memory> {
+    let mut elements = Vec::new(alloc);
+    for c in text.chars() {
+        elements.push(Element::Char(c))?;
+    }
+    Ok(elements)
+}
+
+/// Whether a store has the elements of a text.
+fn has_text(
+    alloc: Global,
+    keyboard: &IndexedKeyboard<'_>,
+    store: u32,
+    text: &str,
+) -> Result<bool, Fail> {
+    Ok(keyboard.stated(store) == elements_of(alloc, text)?.as_slice())
+}
+
+/// Whether the layer and the platform are the stores behind the six, and none stands behind them.
+fn has_system_options(keyboard: &IndexedKeyboard<'_>) -> bool {
+    keyboard.store_count() == 8
+        && keyboard.layer() == 6
+        && keyboard.platform() == 7
+        && keyboard.stated(8).is_empty()
+        && keyboard.element_at(7, 31).is_none()
+}
+
+/// Whether a platform has each word of just the stores that it should.
+fn has_truths(
+    alloc: Global,
+    keyboard: &IndexedKeyboard<'_>,
+    platform: &str,
+    wanted: &[u32],
+) -> Result<bool, Fail> {
+    let platform = elements_of(alloc, platform)?;
+    let mut truths = vec![in alloc; false; keyboard.store_count() as usize]?;
+    keyboard.find_truths(truths.as_mut_slice(), platform.as_slice());
+    let truths = truths.as_slice();
+    Ok((0..8u32).all(|store| {
+        let holds = wanted.iter().any(|number| *number == store);
+        truths.get(store as usize).copied() == Some(holds)
+    }))
+}
+
 /// Whether of each two stores those have the same elements that should.
 fn are_alike(keyboard: &IndexedKeyboard<'_>) -> bool {
-    (0..7u32).all(|store| {
-        (0..7u32).all(|other| {
+    (0..9u32).all(|store| {
+        (0..9u32).all(|other| {
             let wanted = ALIKE.get(store as usize) == ALIKE.get(other as usize);
             keyboard.same_elements(store, other) == wanted
         })
@@ -171,7 +231,7 @@ fn contexts_of_records(rt: HostRuntime) -> Result<(), Fail> {
 #[test]
 fn options_and_own_keys_of_a_file(rt: HostRuntime) -> Result<(), Fail> {
     let keyboard = keyboard_of(rt.alloc(), FileTables::of(FILE))?;
-    assert!(rt; keyboard.numbers() == [None, Some(0), Some(1)].as_slice());
+    assert!(rt; keyboard.numbers() == [None, Some(0), Some(1), Some(2), Some(3)].as_slice());
     assert!(rt; keyboard.own_key(256) == Some(b"K1".as_slice()));
     assert!(rt; keyboard.own_key(257) == Some(b"k2".as_slice()));
     assert!(rt; keyboard.own_key(258).is_none());
@@ -188,7 +248,8 @@ fn holders_of_items(rt: HostRuntime) -> Result<(), Fail> {
     assert!(rt; keyboard.place_of(0, Char('a')) == Some(0));
     assert!(rt; keyboard.place_of(3, Char('a')) == Some(1));
     assert!(rt; keyboard.place_of(2, Char('a')).is_none());
-    assert!(rt; keyboard.place_of(6, Char('a')).is_none());
+    assert!(rt; keyboard.place_of(7, Char(' ')) == Some(7));
+    assert!(rt; keyboard.place_of(8, Char('a')).is_none());
     Ok(())
 }
 
@@ -196,5 +257,27 @@ fn holders_of_items(rt: HostRuntime) -> Result<(), Fail> {
 fn stores_that_are_alike(rt: HostRuntime) -> Result<(), Fail> {
     let keyboard = keyboard_of(rt.alloc(), FileTables::of(STORES_FILE))?;
     assert!(rt; are_alike(&keyboard));
+    Ok(())
+}
+
+#[test]
+fn system_options(rt: HostRuntime) -> Result<(), Fail> {
+    let keyboard = keyboard_of(rt.alloc(), FileTables::of(STORES_FILE))?;
+    assert!(rt; has_system_options(&keyboard));
+    for &(store, text) in SYSTEM_CONTENTS {
+        assert!(rt; has_text(rt.alloc(), &keyboard, store, text)?);
+    }
+    Ok(())
+}
+
+#[test]
+fn words_of_a_platform(rt: HostRuntime) -> Result<(), Fail> {
+    let keyboard = keyboard_of(rt.alloc(), FileTables::of(STORES_FILE))?;
+    for &(platform, wanted) in PLATFORMS {
+        assert!(rt;
+            has_truths(rt.alloc(), &keyboard, platform, wanted)?,
+            "{platform}"
+        );
+    }
     Ok(())
 }

@@ -12,7 +12,8 @@ type WalkRow = (&'static str, &'static [Result<UnitItem, BadUnits>]);
 const EVERY_KIND: WalkRow = (
     "3d d8 00 de ff ff 01 00 02 00 ff ff 02 00 03 00 04 00 ff ff 03 00 ff ff 04 00 ff ff 05 00 01 00 \
 ff ff 06 00 ff ff 07 00 ff ff 08 00 09 01 ff ff 0a 00 10 40 41 00 10 00 ff ff 11 00 02 00 ff ff 12 00 05 00 \
-ff ff 13 00 06 00 07 00 ff ff 14 00 06 00 02 00 07 00 ff ff 15 00 fe ff ff ff 16 00 08 00",
+ff ff 13 00 06 00 07 00 ff ff 14 00 06 00 02 00 07 00 ff ff 15 00 fe ff ff ff 16 00 08 00 \
+ff ff 17 00 22 00 02 00 07 00 ff ff 17 00 20 00 01 00 fe ff ff ff 18 00 22 00 07 00",
     &[
         Ok(UnitItem::Char('\u{1F600}')),
         Ok(UnitItem::Any(2)),
@@ -30,6 +31,9 @@ ff ff 13 00 06 00 07 00 ff ff 14 00 06 00 02 00 07 00 ff ff 15 00 fe ff ff ff 16
         Ok(UnitItem::Test(6, 2, 7)),
         Ok(UnitItem::Save(0xFFFE)),
         Ok(UnitItem::Reset(8)),
+        Ok(UnitItem::SystemTest(34, 2, 7)),
+        Ok(UnitItem::SystemTest(32, 1, 0xFFFE)),
+        Ok(UnitItem::SetSystem(34, 7)),
     ],
 );
 
@@ -100,6 +104,49 @@ const FAULTS: &[WalkRow] = &[
             code: 0,
         })],
     ),
+    (
+        "ff ff 17 00 22 00 03 00 01 00",
+        &[Err(BadUnits {
+            kind: BadKind::U5,
+            at: 0,
+            code: 0,
+        })],
+    ),
+    (
+        "61 00 ff ff 17 00 22 00 00 00 01 00",
+        &[
+            Ok(UnitItem::Char('a')),
+            Err(BadUnits {
+                kind: BadKind::U3,
+                at: 2,
+                code: 0,
+            }),
+        ],
+    ),
+    (
+        "ff ff 18 00 22 00",
+        &[Err(BadUnits {
+            kind: BadKind::U3,
+            at: 0,
+            code: 0,
+        })],
+    ),
+    (
+        "ff ff 18 00 22 00 01",
+        &[Err(BadUnits {
+            kind: BadKind::U6,
+            at: 0,
+            code: 0,
+        })],
+    ),
+    (
+        "ff ff 19 00",
+        &[Err(BadUnits {
+            kind: BadKind::U2,
+            at: 0,
+            code: 25,
+        })],
+    ),
 ];
 
 /// The bytes of a text of hexadecimal numbers.
@@ -140,7 +187,10 @@ fn every_kind(out: &mut Seq<u8>) -> Result<(), Memory> {
     spell(out, UnitItem::Set(6, 7))?;
     spell(out, UnitItem::Test(6, 2, 7))?;
     spell(out, UnitItem::Save(0xFFFE))?;
-    spell(out, UnitItem::Reset(8))
+    spell(out, UnitItem::Reset(8))?;
+    spell(out, UnitItem::SystemTest(34, 2, 7))?;
+    spell(out, UnitItem::SystemTest(32, 1, 0xFFFE))?;
+    spell(out, UnitItem::SetSystem(34, 7))
 }
 
 /// Whether the items of each kind are spelled as they should.

@@ -1,4 +1,4 @@
-//! What several tests take: two files, and tables of one group.
+//! What several tests take: four files, and tables of one group.
 
 ghost use Rattle.std.specs.Prelude.{◌≡◌, IfOk};
 ghost use Rattle.kmx_format.specs.WorkedFiles.{plain_rule, main_tables};
@@ -27,6 +27,26 @@ pub const TWO_KEYS: [u8; 206] = [
     0x00, 0x40, 0x41, 0, 0x10, 0, 0xFF, 0xFF, 0x0A, 0, 0x10, 0x40, 0x41, 0, 0x10, 0, 0, 0, 0x6F, 0,
     0, 0, 0x78, 0, 0x79, 0, 0, 0, 0x6D, 0, 0x61, 0, 0x69, 0, 0x6E, 0, 0, 0, 0x78, 0, 0, 0, 0x79, 0,
     0, 0,
+];
+
+/// The file of a rule that holds on the layer `s`: a store of the value, and a record whose context is that condition.
+pub const ON_LAYER: [u8; 150] = [
+    0x4B, 0x58, 0x54, 0x53, 0, 0x0A, 0, 0, 0, 0, 0, 0, 0, 0, 0, 0, 0, 0, 0, 0, 0, 0, 0, 0, 1, 0, 0,
+    0, 1, 0, 0, 0, 0x40, 0, 0, 0, 0x4C, 0, 0, 0, 0xFF, 0xFF, 0xFF, 0xFF, 0, 0, 0, 0, 0, 0, 0, 0, 0,
+    0, 0, 0, 0, 0, 0, 0, 0, 0, 0, 0, 0, 0, 0, 0, 0, 0, 0, 0, 0x78, 0, 0, 0, 0x7C, 0, 0, 0, 0x64, 0,
+    0, 0, 0, 0, 0, 0, 0, 0, 0, 0, 1, 0, 0, 0, 1, 0, 0, 0, 0x61, 0, 0, 0, 3, 0, 0, 0, 0, 0, 0, 0,
+    0x92, 0, 0, 0, 0x86, 0, 0, 0, 0x73, 0, 0, 0, 0x6D, 0, 0x61, 0, 0x69, 0, 0x6E, 0, 0, 0, 0xFF,
+    0xFF, 0x17, 0, 0x22, 0, 2, 0, 1, 0, 0, 0, 0x62, 0, 0, 0,
+];
+
+/// A file that sets the layer to `s` in the output of its one record and, by an offset word before that record, behind a match.
+pub const SETS_LAYER: [u8; 154] = [
+    0x4B, 0x58, 0x54, 0x53, 0, 0x0A, 0, 0, 0, 0, 0, 0, 0, 0, 0, 0, 0, 0, 0, 0, 0, 0, 0, 0, 1, 0, 0,
+    0, 1, 0, 0, 0, 0x40, 0, 0, 0, 0x4C, 0, 0, 0, 0xFF, 0xFF, 0xFF, 0xFF, 0, 0, 0, 0, 0, 0, 0, 0, 0,
+    0, 0, 0, 0, 0, 0, 0, 0, 0, 0, 0, 0, 0, 0, 0, 0, 0, 0, 0, 0x78, 0, 0, 0, 0x7C, 0, 0, 0, 0x64, 0,
+    0, 0, 0x86, 0, 0, 0, 0, 0, 0, 0, 1, 0, 0, 0, 1, 0, 0, 0, 0x61, 0, 0, 0, 3, 0, 0, 0, 0, 0, 0, 0,
+    0x90, 0, 0, 0, 0, 0, 0, 0, 0x73, 0, 0, 0, 0x6D, 0, 0x61, 0, 0x69, 0, 0x6E, 0, 0, 0, 0xFF, 0xFF,
+    0x18, 0, 0x22, 0, 1, 0, 0, 0, 0xFF, 0xFF, 0x18, 0, 0x22, 0, 1, 0, 0, 0,
 ];
 
 /// A rule without context that gives one character.

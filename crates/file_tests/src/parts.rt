@@ -1,9 +1,9 @@
 //! The tables of a file, read where they lie.
 
-use crate::fixtures::ONE_RULE;
-use file_parts::{FileGroup, FileStore, FileTables};
+use crate::fixtures::{ON_LAYER, ONE_RULE, SETS_LAYER};
+use file_parts::{ContextItem, FileGroup, FileRule, FileStore, FileTables};
 use kmn_base::{Element, Memory, RuleKey};
-use rule_model::Out;
+use rule_model::{Out, Pat};
 use std::alloc::Global;
 use std::test::Fail;
 
@@ -77,6 +77,36 @@ fn has_store(alloc: Global, file: &FileTables<'_>) -> Result<bool, Memory> {
     Ok(name.as_slice() == b"v".as_slice() && has_elements(&store))
 }
 
+/// The first record of a file.
+fn first_record<'a>(file: &FileTables<'a>) -> Option<FileRule<'a>> {
+    match file.group(0) {
+        Some(group) => group.rule(0),
+        None => None,
+    }
+}
+
+/// Whether the first record of a file holds on the layer of the first store, and looks at nothing else.
+fn looks_at_layer(file: &FileTables<'_>) -> bool {
+    let Some(rule) = first_record(file) else {
+        return false;
+    };
+    let mut patterns = rule.context();
+    let mut items = rule.context_items();
+    patterns.next() == Some(Pat::SystemEqual(33, 0))
+        && patterns.next().is_none()
+        && items.next() == Some(ContextItem::SystemEqual(33, 0))
+        && items.next().is_none()
+}
+
+/// Whether the first record of a file sets the layer to the first store, and does nothing else.
+fn sets_layer(file: &FileTables<'_>) -> bool {
+    let Some(rule) = first_record(file) else {
+        return false;
+    };
+    let mut output = rule.output();
+    output.next() == Some(Out::SetSystem(33, 0)) && output.next().is_none()
+}
+
 #[test]
 fn parts_of_one_rule(rt: HostRuntime) -> Result<(), Fail> {
     let file = FileTables::of(&ONE_RULE);
@@ -88,5 +118,12 @@ fn parts_of_one_rule(rt: HostRuntime) -> Result<(), Fail> {
 #[test]
 fn parts_of_one_store(rt: HostRuntime) -> Result<(), Fail> {
     assert!(rt; has_store(rt.alloc(), &FileTables::of(&ONE_STORE))?);
+    Ok(())
+}
+
+#[test]
+fn parts_with_the_layer(rt: HostRuntime) -> Result<(), Fail> {
+    assert!(rt; looks_at_layer(&FileTables::of(&ON_LAYER)));
+    assert!(rt; sets_layer(&FileTables::of(&SETS_LAYER)));
     Ok(())
 }

@@ -1,6 +1,6 @@
 //! The sources of files, and why some have none.
 
-use crate::fixtures::ONE_RULE;
+use crate::fixtures::{ON_LAYER, ONE_RULE, SETS_LAYER};
 use kmx_decompiler::{DecompileError, decompile};
 use kmx_verifier::verify;
 use spelled_files::NoSpelling;
@@ -73,6 +73,8 @@ fn worked_sources(rt: HostRuntime) -> Result<(), Fail> {
     assert!(rt; has_source(rt.alloc(), &ONE_RULE, ONE_TEXT));
     assert!(rt; has_source(rt.alloc(), &TWO_RECORDS, TWO_TEXT));
     assert!(rt; is_refused(rt.alloc(), &FAR_MARK, NoSpelling::Unspelled { at: 100 }));
+    assert!(rt; is_refused(rt.alloc(), &ON_LAYER, NoSpelling::Unspelled { at: 116 }));
+    assert!(rt; is_refused(rt.alloc(), &SETS_LAYER, NoSpelling::Unspelled { at: 84 }));
     assert!(rt;
         is_refused(
             rt.alloc(),

@@ -1,15 +1,15 @@
 //! Files and what verifying them gives.
 
-use crate::fixtures::{ONE_RULE, TWO_KEYS};
+use crate::fixtures::{ON_LAYER, ONE_RULE, TWO_KEYS};
 use kmn_base::{Code, RuleKey};
 use kmx_verifier::{Fault, VerifyError, verify};
 use rule_model::{Group, Out};
 use std::alloc::{AllocError, Global};
 use std::test::Fail;
 
-/// On each line changes of a file, and what verifying it gives then. `two` begins with the file of two keys, else it is that
-/// of one rule. `<` cuts the file to a length, `@` goes to a place, and hexadecimal digits are the bytes from there on.
-/// Of a valid file its version and its counts are given.
+/// On each line changes of a file, and what verifying it gives then. `two` begins with the file of two keys, `layer` with that
+/// of a condition on the layer, else it is that of one rule. `<` cuts the file to a length, `@` goes to a place, and hexadecimal
+/// digits are the bytes from there on. Of a valid file its version and its counts are given.
 const CHANGES: &str = "\
  > valid 0A00 0 1 1
 <63 > V01 at 63 unit 00
@@ -58,7 +58,40 @@ two @72 CE @88 CE > V10 at 72 unit 00
 two @128 CE @124 DA @206 FFFF 0400 FFFF 0100 0100 0000 FFFF 0200 0200 0200 0000 > valid 0A00 2 1 2
 two @128 CE @124 DA @206 FFFF 0400 FFFF 0100 0100 0000 FFFF 0200 0200 0100 0000 > V13 at 218 unit 00
 two @128 CE @206 FFFF 0100 0300 0000 > V12 at 206 unit 00
-two @128 CE @206 FFFF 1100 0100 0000 > V13 at 206 unit 00";
+two @128 CE @206 FFFF 1100 0100 0000 > V13 at 206 unit 00
+layer > valid 0A00 1 1 1
+layer @138 2000 > valid 0A00 1 1 1
+layer @140 0100 > valid 0A00 1 1 1
+layer @138 2100 > V14 at 134 unit 17
+layer @138 2300 > V14 at 134 unit 17
+layer @138 2800 > V14 at 134 unit 17
+layer @138 0100 > V14 at 134 unit 17
+layer @138 0000 > V11 at 134 unit 00
+layer @140 0300 > V11 at 134 unit 00
+layer @142 0000 > V11 at 134 unit 00
+layer @138 2100 0300 > V11 at 134 unit 00
+layer @142 0200 > V12 at 134 unit 00
+layer @138 2000 0100 0200 > V12 at 134 unit 00
+layer @138 2100 0200 0200 > V14 at 134 unit 17
+layer @136 1900 > V14 at 134 unit 19
+layer @112 96 @150 FFFF 1800 2200 0100 0000 > valid 0A00 1 1 1
+layer @112 96 @150 FFFF 1800 2000 0100 0000 > V14 at 150 unit 18
+layer @112 96 @150 FFFF 1800 2100 0100 0000 > V14 at 150 unit 18
+layer @112 96 @150 FFFF 1800 2200 0200 0000 > V12 at 150 unit 00
+layer @112 96 @150 FFFF 1800 2000 0200 0000 > V14 at 150 unit 18
+layer @112 96 @150 FFFF 1800 2200 0000 > V11 at 150 unit 00
+layer @84 96 @150 FFFF 1800 2200 0100 0000 > valid 0A00 1 1 1
+layer @88 96 @150 FFFF 1800 2200 0100 FFFF 0700 0000 > valid 0A00 1 1 1
+layer @84 96 @150 FFFF 1800 2000 0100 0000 > V14 at 150 unit 18
+layer @88 86 > V14 at 134 unit 17
+layer @112 86 > V14 at 134 unit 17
+layer @116 96 @150 FFFF 1800 2200 0100 0000 > V14 at 150 unit 18
+layer @72 86 > V14 at 134 unit 17
+layer @72 96 @150 FFFF 1800 2200 0100 0000 > V14 at 150 unit 18
+layer @116 96 @150 6100 FFFF 1700 2000 0100 0100 0000 > valid 0A00 1 1 1
+layer @112 96 @150 FFFF 1100 0100 0000 > V13 at 150 unit 00
+layer @112 A8 @116 96 @150 FFFF 1700 2200 0200 0100 FFFF 0100 0100 0000 FFFF 0200 0100 0200 0000 > valid 0A00 1 1 1
+layer @112 A8 @116 96 @150 FFFF 1700 2200 0200 0100 FFFF 0100 0100 0000 FFFF 0200 0100 0100 0000 > V13 at 168 unit 00";
 
 /// Puts a byte at a place, behind the last one where the place is past it.
 fn put(file: &mut Vec<u8>, place: usize, byte: u8) -> Result<(), AllocError> {
@@ -92,6 +125,8 @@ fn changed(alloc: Global, changes: &str) -> Result<Vec<u8>, AllocError> {
     for word in changes.split_whitespace() {
         if word == "two" {
             file = Vec::from_slice(alloc, &TWO_KEYS)?;
+        } else if word == "layer" {
+            file = Vec::from_slice(alloc, &ON_LAYER)?;
         } else if let Some(length) = word.strip_prefix('<') {
             file.truncate(length.parse::<usize>().unwrap_or(0));
         } else if let Some(number) = word.strip_prefix('@') {

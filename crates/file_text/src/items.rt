@@ -180,7 +180,8 @@ pub(crate) fn put_pattern(page: &mut Page, names: &Called<'_>, pattern: &Pat) ->
         Pat::Unequal(store, value) => {
             put_compared(page, b"if", names.store(*store), b"!=", names.value(*value))
         }
-        Pat::Nul => page.put(b"nul"),
+        // A condition on a system option has no words: a file that has one is refused before.
+        Pat::SystemEqual(_, _) | Pat::SystemUnequal(_, _) | Pat::Nul => page.put(b"nul"),
     }
 }
 
@@ -201,7 +202,8 @@ pub(crate) fn put_output(page: &mut Page, names: &Called<'_>, output: &Out) -> R
         }
         Out::Save(store) => put_call(page, b"save", names.store(*store)),
         Out::Reset(store) => put_call(page, b"reset", names.store(*store)),
-        Out::Nul => page.put(b"nul"),
+        // Nor has a set of one.
+        Out::SetSystem(_, _) | Out::Nul => page.put(b"nul"),
         Out::Beep => page.put(b"beep"),
         Out::Stop => page.put(b"return"),
     }

@@ -1,4 +1,6 @@
 pub mod Ends
 pub mod FoldedNames
 pub mod OptionFlags
+pub mod PlatformWords
+pub mod SystemNumbers
 pub mod Words

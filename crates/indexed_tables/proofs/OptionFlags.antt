@@ -5,6 +5,7 @@ use Rattle.std.specs.List.{flat_map, list_any}
 use Rattle.std.proofs.lemmas.Bool.Decides.{nat_tests}
 use Rattle.std.proofs.lemmas.List.{drop_more}
 use Rattle.rule_model.specs.declared.tables.Store.{Store}
+use Rattle.rule_model.specs.System.{system_options}
 use Rattle.rule_model.specs.Tab.{with_options}
 use Rattle.rule_model.specs.Plain.{option_numbers}
 use Rattle.indexed_tables.specs.OptionFlags.{with_flags, flag_numbers}
@@ -92,10 +93,10 @@ pub numbers_more : (k n : ℕ) (flags : List Bool) (d : Bool) → n < length fla
     ≡ (if slice_index_or flags n d then Some k ∷ flag_numbers (k + 1) (drop (n + 1) flags) else None ∷ flag_numbers k (drop (n + 1) flags))
 numbers_more k n flags d within = ap (flag_numbers k) (drop_more flags n d within)
 
--- flags that tell which stores are listed give the option numbers
+-- flags that tell which stores are listed give the option numbers; behind them stand those of the system options
 numbers_from : (options : List ℕ) (k m : ℕ) (flags : List Bool) (stores : List Store) → length flags ≡ length stores
     → ((i : ℕ) → i < length flags → unwrap_or (slice_get flags i) false ≡ list_any (nat_eq (m + i)) options)
-    → flag_numbers k flags ≡ option_numbers k (with_options options m stores)
+    → flag_numbers k (flags ++ true ∷ true ∷ []) ≡ option_numbers k (with_options options m stores ++ system_options)
 numbers_from options k m [] [] count told = refl
 numbers_from options k m [] (s ∷ ss) count told = absurd (omega arith)
 numbers_from options k m (flag ∷ flags) [] count told = absurd (omega arith)
@@ -107,9 +108,9 @@ numbers_from options k m (flag ∷ flags) (s ∷ ss) count told =
     = λ i h. let further : m + suc i ≡ m + 1 + i = omega arith in told (suc i) (omega arith) ∙ ap (λ (n : ℕ). list_any (nat_eq n) options) further in
     λ j. if here j then Some k ∷ numbers_from options (k + 1) (m + 1) flags ss counted behind j else None ∷ numbers_from options k (m + 1) flags ss counted behind j
 
--- the flags of the stores that are listed give the option numbers
+-- the flags of the stores that are listed, and of the system options, give the option numbers
 pub numbers_by_flags : (options : List ℕ) (stores : List Store)
-    → flag_numbers 0 (with_flags (replicate (length stores) false) options) ≡ option_numbers 0 (with_options options 0 stores)
+    → flag_numbers 0 (with_flags (replicate (length stores) false) options ++ true ∷ true ∷ []) ≡ option_numbers 0 (with_options options 0 stores ++ system_options)
 numbers_by_flags options stores =
     let count : length (with_flags (replicate (length stores) false) options) ≡ length stores
     = count_with (replicate (length stores) false) options ∙ count_unset (length stores) in

@@ -1,14 +1,16 @@
-ghost use Rattle.std.specs.Prelude.{◌≡◌, IfOk, option_copied, slice_get, position};
+ghost use Rattle.std.specs.Prelude.{◌≡◌, ◌+◌, ◌-◌, Some, IfOk, if◌then◌else◌, nat_eq, length, option_copied, option_map, slice_get, position};
 ghost use Rattle.std.specs.Option.{option_flatten};
 ghost use Rattle.virtual_keys.specs.Dictionary.{name_in};
 ghost use Rattle.rule_model.specs.Keyboard.{Numbered};
-ghost use Rattle.rule_model.specs.Content.{option_number};
+ghost use Rattle.rule_model.specs.Content.{option_number, elements_at};
 ghost use Rattle.rule_model.specs.Event.{has_name};
 ghost use Rattle.rule_model.specs.Plain.{option_numbers, option_names, option_named};
-ghost use Rattle.rule_model.specs.Tab.{elements_of, tab};
+ghost use Rattle.rule_model.specs.System.{system_ref, system_options};
+ghost use Rattle.rule_model.specs.Tab.{elements_of, tab, tab_options, with_options};
 
 use crate::options::option_numbers;
 use crate::own_keys::own_keys;
+use crate::system::{LAYER, PLATFORM, system_elements, system_number};
 use kmn_base::names::same_name;
 use kmn_base::{Element, Memory, Text};
 use rule_model::{Group, Store, Tables};
@@ -84,6 +86,19 @@ impl<'a> IndexedTables<'a> {
         }
     }
 
+    /// What the keyboard states of a store; behind its stores stand the system options.
+    #[tactic(auto, using(crate::proofs::SystemNumbers::own_stated, crate::proofs::SystemNumbers::system_stated))]
+    pub fn stated(&self, store: u32) -> &[Element]
+        ensures { result.now ≡ elements_at (tab self.now).stores (Some store) }
+    {
+        let count = self.tables.stores.len();
+        if (store as usize) < count {
+            self.elements(store)
+        } else {
+            system_elements(store as usize - count)
+        }
+    }
+
     /// The option number of a store.
     #[tactic(auto, using(rule_model::proofs::PlainOptions::number_found))]
     pub fn option_number(&self, store: u32) -> Option<usize>
@@ -93,11 +108,40 @@ impl<'a> IndexedTables<'a> {
     }
 
     /// The number of the first option of a name; a store without a name is found by none.
-    #[tactic(auto, using(rule_model::proofs::PlainOptions::first_named), unfolding(rule_model::specs::Tab::tab))]
+    #[tactic(auto, using(rule_model::proofs::SystemOptions::first_named_of_all), unfolding(rule_model::specs::Tab::tab))]
     pub fn option_named(&self, name: &[u8]) -> Option<usize>
         ensures { result ≡ position (has_name name.now) (option_names (tab self.now).stores) }
     {
-        option_named(name, self.numbers.as_slice(), self.tables.stores.as_slice())
+        match option_named(name, self.numbers.as_slice(), self.tables.stores.as_slice()) {
+            Some(option) => Some(option),
+            None => self.system_named(name),
+        }
+    }
+
+    /// The option number of the system option of a name.
+    #[tactic(auto, using(rule_model::proofs::SystemOptions::system_place), unfolding(rule_model::specs::Tab::tab))]
+    fn system_named(&self, name: &[u8]) -> Option<usize>
+        ensures { result ≡ option_map (λ i. length (option_names (with_options (tab_options self.now) 0 self.now.stores)) + i) (position (has_name name.now) (option_names system_options)) }
+    {
+        if has_name(name, b"&layer") {
+            Some(self.system_option(LAYER))
+        } else if has_name(name, b"&platform") {
+            Some(self.system_option(PLATFORM))
+        } else {
+            None
+        }
+    }
+
+    /// The option number of the system option of an id.
+    #[tactic(auto, using(crate::proofs::SystemNumbers::system_read, crate::proofs::SystemNumbers::system_counted))]
+    pub fn system_option(&self, id: u32) -> usize
+        ensures is { option_number (tab self.now).stores (system_ref id) ≡ Some result }
+        ensures number { result ≡ length (option_names (with_options (tab_options self.now) 0 self.now.stores)) + (if nat_eq id 31 then 1 else 0) }
+    {
+        match system_number(self.numbers.as_slice(), id) {
+            Some(option) => option,
+            None => unreachable!(),
+        }
     }
 
     /// The group of a number.

@@ -4,14 +4,20 @@
 //! it has once and for all the option number of each store and the names of own keys, and hands out groups and elements as
 //! the tables have them. A layer that reads a file where it lies counts option numbers the same way: `mark` sets the flag of
 //! each store that an item uses as an option, and `flag_numbers` counts the flags (`specs/OptionFlags`, with the laws of
-//! flags in `proofs/OptionFlags`). What asks whether names could stand in a source takes their words by `first_word`.
+//! flags in `proofs/OptionFlags`). Behind the stores of all tables stand the system options, the layer and the platform:
+//! `system_elements` are what they begin with, and `has_words` says whether the platform is what a value asks for. What asks
+//! whether names could stand in a source takes their words by `first_word`.
 #![tactic(auto)]
 
 mod flags;
 mod indexed_tables;
 mod options;
 mod own_keys;
+mod platform;
+mod system;
 
 pub use flags::{flag_numbers, mark};
 pub use indexed_tables::IndexedTables;
 pub use own_keys::first_word;
+pub use platform::has_words;
+pub use system::{LAYER, PLATFORM, system_elements};

@@ -1,7 +1,8 @@
 //! The option number of each store of tables.
 
-ghost use Rattle.std.specs.Prelude.{◌≡◌, false, IfOk, length, replicate, flat_map};
+ghost use Rattle.std.specs.Prelude.{◌≡◌, ◌++◌, ◌∷◌, [], true, false, IfOk, length, replicate, flat_map};
 ghost use Rattle.rule_model.specs.Tab.{pattern_options, output_options, rule_options, group_options, tab_options, with_options};
+ghost use Rattle.rule_model.specs.System.{system_options};
 ghost use Rattle.rule_model.specs.Plain.{option_numbers};
 ghost use Rattle.indexed_tables.specs.OptionFlags.{with_flags};
 
@@ -75,10 +76,21 @@ fn option_flags(alloc: Global, tables: &Tables) -> Result<Vec<bool>, Memory>
     Ok(flags)
 }
 
-/// The option number of each store.
-pub fn option_numbers(alloc: Global, tables: &Tables) -> Result<Vec<Option<usize>>, Memory>
-    ensures { IfOk result (λ numbers. numbers.items ≡ option_numbers 0 (with_options (tab_options tables.now) 0 tables.now.stores)) }
+/// The flags of the stores and, set, those of the system options behind them.
+#[tactic(auto, using(std::proofs::lemmas::Grind::common_steps))]
+fn all_flags(alloc: Global, tables: &Tables) -> Result<Vec<bool>, Memory>
+    ensures { IfOk result (λ flags. flags.items ≡ with_flags (replicate (length tables.now.stores) false) (tab_options tables.now) ++ true ∷ true ∷ []) }
 {
-    let flags = option_flags(alloc, tables)?;
+    let mut flags = option_flags(alloc, tables)?;
+    flags.push(true)?;
+    flags.push(true)?;
+    Ok(flags)
+}
+
+/// The option number of each store, and of the system options behind them.
+pub fn option_numbers(alloc: Global, tables: &Tables) -> Result<Vec<Option<usize>>, Memory>
+    ensures { IfOk result (λ numbers. numbers.items ≡ option_numbers 0 (with_options (tab_options tables.now) 0 tables.now.stores ++ system_options)) }
+{
+    let flags = all_flags(alloc, tables)?;
     flag_numbers(alloc, flags.as_slice())
 }

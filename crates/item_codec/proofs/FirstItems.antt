@@ -4,7 +4,7 @@ use Rattle.std.specs.Prelude.{nat_eq}
 use Rattle.std.proofs.lemmas.List.{append-nil}
 use Rattle.std.proofs.lemmas.Bool.Decides.{nat_tests}
 use Rattle.kmn_base.specs.declared.units.UnitItem.{UnitItem}
-use Rattle.kmn_base.specs.declared.units.UnitItem.TheVariants.{Char, Any, Index, Context, Nul, Enter, Stop, Beep, Dead, Key, ContextAt, NotAny, Set, Test, Save, Reset}
+use Rattle.kmn_base.specs.declared.units.UnitItem.TheVariants.{Char, Any, Index, Context, Nul, Enter, Stop, Beep, Dead, Key, ContextAt, NotAny, Set, Test, Save, Reset, SystemTest, SetSystem}
 use Rattle.kmn_base.specs.Spelling.{char_units, spelling, IsSpellable, unit_bytes, whole_units, is_high_surrogate}
 use Rattle.kmn_base.proofs.Spelling.{character_cases}
 use Rattle.kmn_base.proofs.UnitBytes.{whole_units-unit_bytes, length-unit_bytes}
@@ -37,6 +37,8 @@ first_item-spelling (Set store value) units h = refl
 first_item-spelling (Test store comparison value) units h = refl
 first_item-spelling (Save store) units h = refl
 first_item-spelling (Reset store) units h = refl
+first_item-spelling (SystemTest system comparison value) units h = refl
+first_item-spelling (SetSystem system value) units h = refl
 
 pub first_item-bytes : (item : UnitItem) (rest : List ℕ) → IsSpellable item → first_item (whole_units (unit_bytes (spelling item) ++ rest)) ≡ Some item
 first_item-bytes item rest h = ap first_item (whole_units-unit_bytes (spelling item) rest) ∙ first_item-spelling item (whole_units rest) h

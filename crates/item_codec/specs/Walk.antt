@@ -2,7 +2,7 @@
 use Rattle.std.specs.Prelude.{◌≡◌, ℕ, zero, suc, ◌+◌, ◌*◌, ◌-◌, nat_eq, if◌then◌else◌, List, [], ◌∷◌, ◌++◌, length, Option, Some, None, Result, Ok, Err}
 use Rattle.std.specs.Char.Utf16.{surrogate_pair_char}
 use Rattle.kmn_base.specs.declared.units.UnitItem.{UnitItem}
-use Rattle.kmn_base.specs.declared.units.UnitItem.TheVariants.{Char, Any, Index, Context, Nul, Enter, Stop, Beep, Dead, Key, ContextAt, NotAny, Set, Test, Save, Reset}
+use Rattle.kmn_base.specs.declared.units.UnitItem.TheVariants.{Char, Any, Index, Context, Nul, Enter, Stop, Beep, Dead, Key, ContextAt, NotAny, Set, Test, Save, Reset, SystemTest, SetSystem}
 use Rattle.kmn_base.specs.declared.units.BadKind.{BadKind}
 use Rattle.kmn_base.specs.declared.units.BadUnits.{BadUnits}
 use Rattle.kmn_base.specs.Spelling.{spelling, IsSpellable, unit_bytes, whole_units, is_high_surrogate, fault_at}
@@ -45,6 +45,8 @@ coded_item code units =
     else if nat_eq code 0x14 then with_three Test units
     else if nat_eq code 0x15 then with_one Save units
     else if nat_eq code 0x16 then with_one Reset units
+    else if nat_eq code 0x17 then with_three SystemTest units
+    else if nat_eq code 0x18 then with_two SetSystem units
     else None
 
 -- the item behind a sentinel

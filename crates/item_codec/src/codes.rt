@@ -44,8 +44,8 @@ fn operand_count(code: u16) -> Option<usize>
     match code {
         0x03 | 0x04 | 0x06 | 0x07 => Some(0),
         0x01 | 0x05 | 0x08 | 0x11 | 0x12 | 0x15 | 0x16 => Some(1),
-        0x02 | 0x13 => Some(2),
-        0x0A | 0x14 => Some(3),
+        0x02 | 0x13 | 0x18 => Some(2),
+        0x0A | 0x14 | 0x17 => Some(3),
         _ => None,
     }
 }
@@ -95,6 +95,7 @@ fn item_of_two(code: u16, first: u16, second: u16) -> UnitItem
     match code {
         0x02 => UnitItem::Index(first, second),
         0x13 => UnitItem::Set(first, second),
+        0x18 => UnitItem::SetSystem(first, second),
         _ => unreachable!(),
     }
 }
@@ -114,6 +115,8 @@ fn item_of_three(code: u16, first: u16, second: u16, third: u16) -> Result<UnitI
         0x0A => Err(BadItem::of(BadKind::U4)),
         0x14 if second == 1 || second == 2 => Ok(UnitItem::Test(first, second, third)),
         0x14 => Err(BadItem::of(BadKind::U5)),
+        0x17 if second == 1 || second == 2 => Ok(UnitItem::SystemTest(first, second, third)),
+        0x17 => Err(BadItem::of(BadKind::U5)),
         _ => unreachable!(),
     }
 }

@@ -38,5 +38,10 @@ pub fn spell(out: &mut Seq<u8>, item: UnitItem) -> Result<(), Memory>
         ),
         UnitItem::Save(store) => put_units(out, &[SENTINEL, 0x15, store]),
         UnitItem::Reset(store) => put_units(out, &[SENTINEL, 0x16, store]),
+        UnitItem::SystemTest(system, comparison, value) => put_units(
+            out,
+            &[SENTINEL, 0x17, system, comparison, value],
+        ),
+        UnitItem::SetSystem(system, value) => put_units(out, &[SENTINEL, 0x18, system, value]),
     }
 }

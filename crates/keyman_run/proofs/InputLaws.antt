@@ -26,7 +26,7 @@ use Rattle.keyman_run.specs.Inputs.{by_line, file_from, pictured_within, unless_
 use Rattle.keyman_run.specs.Orders.{file_work, picture_work}
 use Rattle.keyman_run.specs.Run.{HasRead}
 use Rattle.keyman_run.specs.Seen.{FolderView, FolderState, seen_folder}
-use Rattle.keyman_run.specs.Steps.{StopCounts, GivesBy, Gives, States, IsCompiled, read_stop, compile_stop, script_stop, itself}
+use Rattle.keyman_run.specs.Steps.{StopCounts, GivesBy, Gives, States, read_stop, compile_stop, script_stop, itself}
 use Rattle.keyman_run.specs.Work.{Reading, Work, given, and_then, reads, comes_to}
 use Rattle.keyman_run.specs.Work.Reading.{Bytes, Over}
 use Rattle.keyman_run.specs.Work.Work.{Give, Refuse, Read}
@@ -194,7 +194,3 @@ uncompiled_gives {F} program picture folders folder (compile.TooLarge code size)
     ap (λ (p : Program). compile_behind p picture) (sym same) ∙ ap (λ read. and_then (given read) (λ pictured. Give (file_from pictured))) large in
     subst (λ (w : Work Compiled). Gives {A = Compiled} itself w folders folder folder (Err (stop.Refused (reason.Size code size)))) (sym work) (gives_refused itself folders folder (reason.Size code size))
 uncompiled_gives program picture folders folder compile.Memory h = gives_no_memory itself (compile_behind program picture) folders folder
-
--- the file of a program whose keyboard is that of its tables
-pub is_compiled : (program : Program) (picture : List ℕ) (compiled : Compiled) → CompilesTo (Ok program) picture (Ok compiled) → IsCompiled compiled
-is_compiled program picture compiled h = record { writable = h.2.writable; file = h.2.file; keyboard = h.2.keyboard }

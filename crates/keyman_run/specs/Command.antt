@@ -42,10 +42,10 @@ is_form words = is_some (request_of words)
 
 -- the request of a command as the program holds it
 abbrev pub requested : Command → Request
-requested (command.Compile source file) = Compile source.now file.now
-requested (command.Test source file keys) = Test source.now file.now keys.now
-requested (command.Verify file) = Verify file.now
-requested (command.Decompile file source) = Decompile file.now source.now
-requested (command.Play file keys) = Play file.now keys.now
-requested (command.Layout source layout) = Layout source.now layout.now
+requested (command.Compile source file) = Compile source file
+requested (command.Test source file keys) = Test source file keys
+requested (command.Verify file) = Verify file
+requested (command.Decompile file source) = Decompile file source
+requested (command.Play file keys) = Play file keys
+requested (command.Layout source layout) = Layout source layout
 requested (command.Load number) = Load number

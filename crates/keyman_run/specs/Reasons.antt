@@ -4,6 +4,7 @@ use Rattle.std.specs.List.{concat}
 use Rattle.std.specs.Fmt.{decimal, digits}
 use Rattle.kmn_base.specs.CodeTexts.{code_text}
 use Rattle.kmn_base.specs.declared.codes.Code.{Code}
+use Rattle.kmn_base.specs.declared.codes.Code.TheVariants.{G1}
 use Rattle.kmx_verifier.specs.declared.faults.Fault.{Fault}
 use Rattle.rule_model.specs.Lines.{refusal_line}
 use Rattle.rule_model.specs.Transcript.{refused_event_line}
@@ -39,6 +40,10 @@ place_line fault = concat (
 unfoldable pub spelling_line : NoSpelling → List ℕ
 spelling_line why = concat (codes "refused " ∷ reason_text why ∷ codes "\n" ∷ [])
 
+-- that a number has no load
+unfoldable pub number_line : List ℕ
+number_line = concat (codes "refused " ∷ code_text G1 ∷ codes "\n" ∷ [])
+
 -- a reason's line
 abbrev pub reason_line : Reason → List ℕ
 reason_line (reason.Line refusal) = refusal_line refusal
@@ -46,5 +51,5 @@ reason_line (reason.Size code size) = size_line code size
 reason_line (reason.File fault) = fault_line fault
 reason_line (reason.Layout fault) = place_line fault
 reason_line (reason.Text why) = spelling_line why
-reason_line reason.Number = codes "refused G1\n"
+reason_line reason.Number = number_line
 reason_line (reason.Event number code) = refused_event_line number code

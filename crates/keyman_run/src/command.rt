@@ -2,6 +2,7 @@ ghost use Rattle.std.specs.Prelude.{◌≡◌, [], ◌∷◌, option_map};
 ghost use Rattle.keyman_run.specs.Command.{load_number, request_of, requested};
 ghost use Rattle.keyman_run.specs.Command.Request.{Load};
 
+use crate::file_name::FileName;
 use kmn_base::Text;
 use kmn_base::digits::{are_digits, bounded_value};
 
@@ -9,42 +10,50 @@ use kmn_base::digits::{are_digits, bounded_value};
 #[derive(Drop)]
 pub enum Command<'a> {
     Compile {
-        source: &'a [u8],
-        file: &'a [u8],
+        source: FileName<'a>,
+        file: FileName<'a>,
     },
     Test {
-        source: &'a [u8],
-        file: &'a [u8],
-        keys: &'a [u8],
+        source: FileName<'a>,
+        file: FileName<'a>,
+        keys: FileName<'a>,
     },
     Verify {
-        file: &'a [u8],
+        file: FileName<'a>,
     },
     Decompile {
-        file: &'a [u8],
-        source: &'a [u8],
+        file: FileName<'a>,
+        source: FileName<'a>,
     },
     Play {
-        file: &'a [u8],
-        keys: &'a [u8],
+        file: FileName<'a>,
+        keys: FileName<'a>,
     },
     Layout {
-        source: &'a [u8],
-        layout: &'a [u8],
+        source: FileName<'a>,
+        layout: FileName<'a>,
     },
     Load {
         number: u32,
     },
 }
 
-/// The command that the words are, None where they are none. Words compare exactly.
+/// The command that the words are, None where they are none. Words compare exactly; those that are names of files become such
+/// here.
 pub fn command_of(words: &[Text]) -> Option<Command<'_>>
     ensures { option_map requested result ≡ request_of words.now }
 {
     match words {
         [word, other] => command_of_one(word.as_slice(), other),
-        [word, first, second] => command_of_two(word.as_slice(), first, second),
-        [word, source, file, keys] => test_command(word.as_slice(), source, file, keys),
+        [word, first, second] => {
+            command_of_two(word.as_slice(), FileName::of(first), FileName::of(second))
+        }
+        [word, source, file, keys] => test_command(
+            word.as_slice(),
+            FileName::of(source),
+            FileName::of(file),
+            FileName::of(keys),
+        ),
         _ => None,
     }
 }
@@ -58,7 +67,7 @@ fn command_of_one<'a>(word: &[u8], other: &'a Text) -> Option<Command<'a>>
 {
     if word == b"verify".as_slice() {
         return Some(Command::Verify {
-            file: other.as_slice(),
+            file: FileName::of(other),
         });
     }
     if word == b"load".as_slice() {
@@ -80,31 +89,31 @@ fn load_command<'a>(word: &[u8]) -> Option<Command<'a>>
 }
 
 /// The command of two files, `compile`, `decompile`, `play` or `layout`, None for another word.
-fn command_of_two<'a>(word: &[u8], first: &'a Text, second: &'a Text) -> Option<Command<'a>>
-    ensures { option_map requested result ≡ request_of (word.now ∷ first.now ∷ second.now ∷ []) }
+fn command_of_two<'a>(word: &[u8], first: FileName<'a>, second: FileName<'a>) -> Option<Command<'a>>
+    ensures { option_map requested result ≡ request_of (word.now ∷ first.entry ∷ second.entry ∷ []) }
 {
     if word == b"compile".as_slice() {
         return Some(Command::Compile {
-            source: first.as_slice(),
-            file: second.as_slice(),
+            source: first,
+            file: second,
         });
     }
     if word == b"decompile".as_slice() {
         return Some(Command::Decompile {
-            file: first.as_slice(),
-            source: second.as_slice(),
+            file: first,
+            source: second,
         });
     }
     if word == b"play".as_slice() {
         return Some(Command::Play {
-            file: first.as_slice(),
-            keys: second.as_slice(),
+            file: first,
+            keys: second,
         });
     }
     if word == b"layout".as_slice() {
         return Some(Command::Layout {
-            source: first.as_slice(),
-            layout: second.as_slice(),
+            source: first,
+            layout: second,
         });
     }
     None
@@ -113,18 +122,14 @@ fn command_of_two<'a>(word: &[u8], first: &'a Text, second: &'a Text) -> Option<
 /// The command `test` with its files, None for another word.
 fn test_command<'a>(
     word: &[u8],
-    source: &'a Text,
-    file: &'a Text,
-    keys: &'a Text,
+    source: FileName<'a>,
+    file: FileName<'a>,
+    keys: FileName<'a>,
 ) -> Option<Command<'a>>
-    ensures { option_map requested result ≡ request_of (word.now ∷ source.now ∷ file.now ∷ keys.now ∷ []) }
+    ensures { option_map requested result ≡ request_of (word.now ∷ source.entry ∷ file.entry ∷ keys.entry ∷ []) }
 {
     if word != b"test".as_slice() {
         return None;
     }
-    Some(Command::Test {
-        source: source.as_slice(),
-        file: file.as_slice(),
-        keys: keys.as_slice(),
-    })
+    Some(Command::Test { source, file, keys })
 }

@@ -6,6 +6,7 @@ ghost use Rattle.keyman_run.specs.Orders.{keys_work};
 ghost use Rattle.keyman_run.specs.Reasons.{place_line};
 ghost use Rattle.keyman_run.specs.Steps.{Gives, itself};
 
+use crate::file_name::{FileName, read};
 use crate::preparing::{Stop, read_stop};
 use crate::reason::Reason;
 use kmn_base::limits::TEXT_BYTES;
@@ -27,15 +28,16 @@ const LONG_LAYOUT: Reason = Reason::Layout(LayoutFault {
 /// Reads the touch layout of a name, checks it against the keyboard of the tables, and counts its keys.
 pub fn read_keys<F: Folder>(
     alloc: Global,
-    name: &[u8],
+    name: &FileName<'_>,
     tables: &Tables,
     folder: &mut F,
 ) -> Result<usize, Stop>
     ensures { Gives itself (keys_work tables.now name.now) F.Folder folder.old folder.new result }
 {
-    let layout = folder
-        .read(alloc, name, TEXT_BYTES)
-        .map_err(|error| read_stop(error, LONG_LAYOUT))?;
+    let layout = read(alloc, name, TEXT_BYTES, folder).map_err(|error| read_stop(
+        error,
+        LONG_LAYOUT,
+    ))?;
     Ok(check_layout(alloc, layout.as_slice(), tables)?)
 }
 

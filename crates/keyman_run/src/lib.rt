@@ -10,10 +10,10 @@
 
 mod command;
 mod file_lines;
+mod file_name;
 mod layouts;
 mod lines;
 mod loading;
-mod neighbours;
 mod preparing;
 mod reason;
 mod running;

@@ -3,7 +3,7 @@
 ghost use Rattle.std.specs.Prelude.{◌≡◌, ◌<◌, ◌^◌, length, IfOk};
 ghost use Rattle.std.specs.String.{string_bytes};
 ghost use Rattle.kmx_format.specs.File.{all_rules};
-ghost use Rattle.keyman_run.specs.Reasons.{reason_line, size_line};
+ghost use Rattle.keyman_run.specs.Reasons.{number_line, reason_line, size_line};
 ghost use Rattle.keyman_run.specs.Endings.{compiled_line};
 ghost use Rattle.rule_model.specs.Lines.{refusal_line};
 
@@ -41,6 +41,17 @@ fn size_line(alloc: Global, code: Code, size: u64) -> Result<Text, Memory>
     Ok(line)
 }
 
+/// The line of a number that no load has.
+#[tactic(auto, unfolding(crate::specs::Reasons::number_line))]
+fn number_line(alloc: Global) -> Result<Text, Memory>
+    ensures { IfOk result (λ line. line ≡ number_line) }
+{
+    let mut line = Seq::from_slice(alloc, b"refused ")?;
+    line.extend_from_slice(Code::G1.text())?;
+    line.extend_from_slice(b"\n")?;
+    Ok(line)
+}
+
 /// The line of a reason against compiling or playing.
 pub fn reason_line(alloc: Global, why: Reason) -> Result<Text, Memory>
     ensures { IfOk result (λ line. line ≡ reason_line why) }
@@ -51,7 +62,7 @@ pub fn reason_line(alloc: Global, why: Reason) -> Result<Text, Memory>
         Reason::File(fault) => fault_line(alloc, fault),
         Reason::Layout(fault) => place_line(alloc, fault),
         Reason::Text(why) => spelling_line(alloc, why),
-        Reason::Number => Seq::from_slice(alloc, b"refused G1\n"),
+        Reason::Number => number_line(alloc),
         Reason::Event { number, code } => refused_event_line(alloc, number, code),
     }
 }

@@ -5,7 +5,7 @@ ghost use Rattle.kmn_compiler.specs.Picture.{picture_name};
 ghost use Rattle.keyman_run.specs.Orders.{bytes_work, compiled_work, file_work, job_work, picture_work, script_work, source_work};
 ghost use Rattle.keyman_run.specs.Steps.{Gives, IsCompiled, itself, prepared_job, first_line, read_stop};
 
-use crate::neighbours::beside;
+use crate::file_name::{FileName, beside, read};
 use crate::reason::Reason;
 use kmn_base::limits::{FILE_BYTES, PICTURE_BYTES, TEXT_BYTES};
 use kmn_base::{Code, CompileError, Memory, Refusal, Seq};
@@ -107,8 +107,8 @@ const LONG_PICTURE: Reason = Reason::Size {
 /// Reads and compiles the source with its picture, then reads the script.
 pub fn prepare<F: Folder>(
     alloc: Global,
-    source: &[u8],
-    keys: &[u8],
+    source: &FileName<'_>,
+    keys: &FileName<'_>,
     folder: &mut F,
 ) -> Result<Prepared, Stop>
     ensures compiled { IfOk result (λ prepared. IsCompiled prepared.compiled) }
@@ -123,7 +123,7 @@ pub fn prepare<F: Folder>(
 /// Reads and compiles the source of a name, with the picture that it names.
 pub fn read_and_compile<F: Folder>(
     alloc: Global,
-    name: &[u8],
+    name: &FileName<'_>,
     folder: &mut F,
 ) -> Result<Compiled, Stop>
     ensures compiled { IfOk result IsCompiled }
@@ -134,19 +134,24 @@ pub fn read_and_compile<F: Folder>(
 }
 
 /// Reads and checks the source of a name.
-fn read_source<F: Folder>(alloc: Global, name: &[u8], folder: &mut F) -> Result<Checked, Stop>
+fn read_source<F: Folder>(
+    alloc: Global,
+    name: &FileName<'_>,
+    folder: &mut F,
+) -> Result<Checked, Stop>
     ensures { Gives itself (source_work name.now) F.Folder folder.old folder.new result }
 {
-    let source = folder
-        .read(alloc, name, TEXT_BYTES)
-        .map_err(|error| read_stop(error, first_line(Code::L05)))?;
+    let source = read(alloc, name, TEXT_BYTES, folder).map_err(|error| read_stop(
+        error,
+        first_line(Code::L05),
+    ))?;
     Ok(front(alloc, source.as_slice())?)
 }
 
 /// Reads the picture of the program of a source, and compiles both.
 fn compile_beside<F: Folder>(
     alloc: Global,
-    source: &[u8],
+    source: &FileName<'_>,
     checked: &Checked,
     folder: &mut F,
 ) -> Result<Compiled, Stop>
@@ -160,14 +165,14 @@ fn compile_beside<F: Folder>(
 /// Reads the picture that a program names, which stands beside its source; no bytes where it names none.
 fn read_picture<F: Folder>(
     alloc: Global,
-    source: &[u8],
+    source: &FileName<'_>,
     checked: &Checked,
     folder: &mut F,
 ) -> Result<Seq<u8>, Stop>
     ensures { Gives itself (picture_work source.now (picture_name checked.now)) F.Folder folder.old folder.new result }
 {
     match picture_name(alloc, checked)? {
-        Some(name) => read_named_picture(alloc, source, name.as_slice(), folder),
+        Some(name) => read_named_picture(alloc, source, &FileName::of(&name), folder),
         None => Ok(Seq::new(alloc)),
     }
 }
@@ -175,16 +180,17 @@ fn read_picture<F: Folder>(
 /// Reads the picture of this name, which stands beside a source.
 fn read_named_picture<F: Folder>(
     alloc: Global,
-    source: &[u8],
-    picture: &[u8],
+    source: &FileName<'_>,
+    picture: &FileName<'_>,
     folder: &mut F,
 ) -> Result<Seq<u8>, Stop>
     ensures { Gives itself (picture_work source.now (Some picture.now)) F.Folder folder.old folder.new result }
 {
     let name = beside(alloc, source, picture)?;
-    folder
-        .read(alloc, name.as_slice(), PICTURE_BYTES)
-        .map_err(|error| read_stop(error, LONG_PICTURE))
+    read(alloc, &FileName::of(&name), PICTURE_BYTES, folder).map_err(|error| read_stop(
+        error,
+        LONG_PICTURE,
+    ))
 }
 
 /// The names of a program's own keys.
@@ -199,15 +205,16 @@ pub fn key_names(checked: &Checked) -> &KeyDictionary
 /// Reads the script of a name for a keyboard with these names of keys.
 fn read_entries<F: Folder>(
     alloc: Global,
-    keys: &[u8],
+    keys: &FileName<'_>,
     names: &KeyDictionary,
     folder: &mut F,
 ) -> Result<Seq<Entry>, Stop>
     ensures { Gives itself (script_work names.now keys.now) F.Folder folder.old folder.new result }
 {
-    let script = folder
-        .read(alloc, keys, TEXT_BYTES)
-        .map_err(|error| read_stop(error, first_line(Code::P06)))?;
+    let script = read(alloc, keys, TEXT_BYTES, folder).map_err(|error| read_stop(
+        error,
+        first_line(Code::P06),
+    ))?;
     Ok(read_script(alloc, script.as_slice(), names)?)
 }
 
@@ -219,12 +226,14 @@ const LONG_FILE: Reason = Reason::File(Fault {
 });
 
 /// Reads the compiled file of a name.
-pub fn read_file<F: Folder>(alloc: Global, name: &[u8], folder: &mut F) -> Result<Seq<u8>, Stop>
+pub fn read_file<F: Folder>(
+    alloc: Global,
+    name: &FileName<'_>,
+    folder: &mut F,
+) -> Result<Seq<u8>, Stop>
     ensures { Gives itself (bytes_work name.now) F.Folder folder.old folder.new result }
 {
-    folder
-        .read(alloc, name, FILE_BYTES)
-        .map_err(|error| read_stop(error, LONG_FILE))
+    read(alloc, name, FILE_BYTES, folder).map_err(|error| read_stop(error, LONG_FILE))
 }
 
 /// The names of the own keys of a session's file.
@@ -238,7 +247,7 @@ fn own_names<'s>(session: &'s Session<'_>) -> &'s KeyDictionary
 pub fn read_own_entries<F: Folder>(
     alloc: Global,
     session: &Session<'_>,
-    keys: &[u8],
+    keys: &FileName<'_>,
     folder: &mut F,
 ) -> Result<Seq<Entry>, Stop>
     ensures { Gives itself (script_work (tab session.now.tables).dictionary keys.now) F.Folder folder.old folder.new result }

@@ -16,6 +16,7 @@ ghost use Rattle.keyman_run.specs.Steps.{IsCompiled, Tells, TellsFile, TellsLoad
 
 use crate::command::{Command, command_of};
 use crate::file_lines::valid_line;
+use crate::file_name::{FileName, write};
 use crate::layouts::{read_keys, sound_line};
 use crate::lines::{compiled_line, reason_line};
 use crate::loading::played_load;
@@ -37,13 +38,15 @@ pub fn run<F: Folder, S: Sink>(alloc: Global, words: &[Text], folder: &mut F, ou
     ensures { Runs words.now F.Folder folder.old folder.new S.Sink out.old out.new result }
 {
     match command_of(words) {
-        Some(Command::Compile { source, file }) => compile(alloc, source, file, folder, out),
-        Some(Command::Test { source, file, keys }) => test(alloc, source, file, keys, folder, out),
-        Some(Command::Verify { file }) => verify_file(alloc, file, folder, out),
-        Some(Command::Decompile { file, source }) => decompile(alloc, file, source, folder, out),
-        Some(Command::Play { file, keys }) => play_on_file(alloc, file, keys, folder, out),
+        Some(Command::Compile { source, file }) => compile(alloc, &source, &file, folder, out),
+        Some(Command::Test { source, file, keys }) => test(
+            alloc, &source, &file, &keys, folder, out,
+        ),
+        Some(Command::Verify { file }) => verify_file(alloc, &file, folder, out),
+        Some(Command::Decompile { file, source }) => decompile(alloc, &file, &source, folder, out),
+        Some(Command::Play { file, keys }) => play_on_file(alloc, &file, &keys, folder, out),
         Some(Command::Layout { source, layout }) => {
-            check_layout(alloc, source, layout, folder, out)
+            check_layout(alloc, &source, &layout, folder, out)
         }
         Some(Command::Load { number }) => load(alloc, number, out),
         None => Status::Words,
@@ -53,15 +56,15 @@ pub fn run<F: Folder, S: Sink>(alloc: Global, words: &[Text], folder: &mut F, ou
 /// Compiles a source, writes the file and prints its counts.
 fn compile<F: Folder, S: Sink>(
     alloc: Global,
-    source: &[u8],
-    file: &[u8],
+    source: &FileName<'_>,
+    file: &FileName<'_>,
     folder: &mut F,
     out: &mut S,
 ) -> Status
     ensures { Does (compile_work source.now file.now) F.Folder folder.old folder.new S.Sink out.old out.new result }
 {
     match read_and_compile(alloc, source, folder) {
-        Ok(compiled) => match folder.write(alloc, file, compiled.bytes.as_slice()) {
+        Ok(compiled) => match write(alloc, file, compiled.bytes.as_slice(), folder) {
             Ok(()) => tell_compiled(alloc, &compiled, out),
             Err(error) => write_status(error),
         },
@@ -72,16 +75,16 @@ fn compile<F: Folder, S: Sink>(
 /// Compiles a source, writes the file, and plays a script on it: what is printed is what the source means.
 fn test<F: Folder, S: Sink>(
     alloc: Global,
-    source: &[u8],
-    file: &[u8],
-    keys: &[u8],
+    source: &FileName<'_>,
+    file: &FileName<'_>,
+    keys: &FileName<'_>,
     folder: &mut F,
     out: &mut S,
 ) -> Status
     ensures { Does (test_work source.now file.now keys.now) F.Folder folder.old folder.new S.Sink out.old out.new result }
 {
     match prepare(alloc, source, keys, folder) {
-        Ok(prepared) => match folder.write(alloc, file, prepared.compiled.bytes.as_slice()) {
+        Ok(prepared) => match write(alloc, file, prepared.compiled.bytes.as_slice(), folder) {
             Ok(()) => play_file(alloc, &prepared, out),
             Err(error) => write_status(error),
         },
@@ -92,7 +95,7 @@ fn test<F: Folder, S: Sink>(
 /// Verifies a file, and prints its version and counts or its first fault.
 fn verify_file<F: Folder, S: Sink>(
     alloc: Global,
-    file: &[u8],
+    file: &FileName<'_>,
     folder: &mut F,
     out: &mut S,
 ) -> Status
@@ -129,8 +132,8 @@ fn tell_valid<S: Sink>(alloc: Global, file: &Verified<'_>, out: &mut S) -> Statu
 /// Decompiles a file, writes its text and prints the text's size.
 fn decompile<F: Folder, S: Sink>(
     alloc: Global,
-    file: &[u8],
-    source: &[u8],
+    file: &FileName<'_>,
+    source: &FileName<'_>,
     folder: &mut F,
     out: &mut S,
 ) -> Status
@@ -139,7 +142,7 @@ fn decompile<F: Folder, S: Sink>(
         → TextMeans (F.files folder.old) (F.files folder.new) file.now source.now }
 {
     match read_text(alloc, file, folder) {
-        Ok(text) => match folder.write(alloc, source, text.as_slice()) {
+        Ok(text) => match write(alloc, source, text.as_slice(), folder) {
             Ok(()) => tell_decompiled(alloc, &text, out),
             Err(error) => write_status(error),
         },
@@ -161,8 +164,8 @@ fn tell_decompiled<S: Sink>(alloc: Global, text: &Text, out: &mut S) -> Status
 /// Plays a script on a compiled file, whoever made it.
 fn play_on_file<F: Folder, S: Sink>(
     alloc: Global,
-    file: &[u8],
-    keys: &[u8],
+    file: &FileName<'_>,
+    keys: &FileName<'_>,
     folder: &mut F,
     out: &mut S,
 ) -> Status
@@ -179,7 +182,7 @@ fn play_on_file<F: Folder, S: Sink>(
 fn play_on_bytes<F: Folder, S: Sink>(
     alloc: Global,
     bytes: &[u8],
-    keys: &[u8],
+    keys: &FileName<'_>,
     folder: &mut F,
     out: &mut S,
 ) -> Status
@@ -196,7 +199,7 @@ fn play_on_bytes<F: Folder, S: Sink>(
 fn play_on_valid<'a, F: Folder, S: Sink>(
     alloc: Global,
     file: &'a Verified<'a>,
-    keys: &[u8],
+    keys: &FileName<'_>,
     folder: &mut F,
     out: &mut S,
 ) -> Status
@@ -212,7 +215,7 @@ fn play_on_valid<'a, F: Folder, S: Sink>(
 fn play_in_session<'a, F: Folder, S: Sink>(
     alloc: Global,
     session: Session<'a>,
-    keys: &[u8],
+    keys: &FileName<'_>,
     folder: &mut F,
     out: &mut S,
 ) -> Status
@@ -228,8 +231,8 @@ fn play_in_session<'a, F: Folder, S: Sink>(
 /// Compiles a source, checks a touch layout against its tables, and prints the count of the layout's keys.
 fn check_layout<F: Folder, S: Sink>(
     alloc: Global,
-    source: &[u8],
-    layout: &[u8],
+    source: &FileName<'_>,
+    layout: &FileName<'_>,
     folder: &mut F,
     out: &mut S,
 ) -> Status
@@ -245,7 +248,7 @@ fn check_layout<F: Folder, S: Sink>(
 fn check_beside<F: Folder, S: Sink>(
     alloc: Global,
     tables: &Tables,
-    layout: &[u8],
+    layout: &FileName<'_>,
     folder: &mut F,
     out: &mut S,
 ) -> Status

@@ -7,6 +7,7 @@ ghost use Rattle.keyman_run.specs.Orders.{text_work};
 ghost use Rattle.keyman_run.specs.Reasons.{spelling_line};
 ghost use Rattle.keyman_run.specs.Steps.{Gives, States, itself};
 
+use crate::file_name::FileName;
 use crate::preparing::{Stop, read_file};
 use crate::reason::Reason;
 use kmn_base::{Memory, Seq, Text};
@@ -17,7 +18,11 @@ use spelled_files::NoSpelling;
 use std::alloc::Global;
 
 /// Reads the compiled file of a name, and gives the text that it goes back to.
-pub fn read_text<F: Folder>(alloc: Global, name: &[u8], folder: &mut F) -> Result<Text, Stop>
+pub fn read_text<F: Folder>(
+    alloc: Global,
+    name: &FileName<'_>,
+    folder: &mut F,
+) -> Result<Text, Stop>
     ensures gives { Gives itself (text_work name.now) F.Folder folder.old folder.new result }
     ensures text { IsTrue (F.told folder.old) → IfOk result (λ text. IsSomeAnd (F.files folder.old name.now) (λ bytes. IsTextOf bytes text)) }
 {

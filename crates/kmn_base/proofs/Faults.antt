@@ -6,9 +6,9 @@ use Rattle.std.proofs.Math.Nat.{mod-add-div}
 use Rattle.std.proofs.lemmas.Bool.{cond-false, le-ltb, ne_eqb}
 use Rattle.std.proofs.lemmas.Bool.Decides.{nat_tests}
 use Rattle.std.proofs.lemmas.List.{take_at}
-use Rattle.kmn_base.specs.declared.units.UnitItem.TheVariants.{Char, Any, Index, Context, Nul, Enter, Stop, Beep, Dead, Key, ContextAt, NotAny, Set, Test, Save, Reset}
+use Rattle.kmn_base.specs.declared.units.UnitItem.TheVariants.{Char, Any, Index, Context, Nul, Enter, Stop, Beep, Dead, Key, ContextAt, NotAny, Set, Test, Save, Reset, SystemTest, SetSystem}
 use Rattle.kmn_base.specs.Laws.{SpelledItemIsNoFault}
-use Rattle.kmn_base.specs.Spelling.{char_units, IsOperand, IsSpellable, unit_bytes, whole_units, is_high_surrogate, is_low_surrogate, operand_count, operand_fault, operands_fault, without_code, code_fault, unit_fault, fault_at}
+use Rattle.kmn_base.specs.Spelling.{char_units, IsOperand, IsSpellable, unit_bytes, whole_units, is_high_surrogate, is_low_surrogate, operand_count, operand_fault, operands_fault, without_code, code_fault, unit_fault, fault_at, is_comparing}
 use Rattle.kmn_base.proofs.UnitBytes.{whole_units-unit_bytes, length-unit_bytes}
 use Rattle.kmn_base.proofs.Spelling.{IsNarrow, IsWide, character_cases, comparison_is_operand}
 
@@ -43,10 +43,10 @@ none_is_zero (a ∷ operands) h =
     rw (first, others)
 
 -- operands that are not 0 have the form, but those of a virtual key and of a comparison
-operand_fault-plain : (code : ℕ) (operands : List ℕ) → AllByRecursion IsOperand operands → nat_eq code 0x0A ≡ false → nat_eq code 0x14 ≡ false → operand_fault code operands ≡ None
+operand_fault-plain : (code : ℕ) (operands : List ℕ) → AllByRecursion IsOperand operands → nat_eq code 0x0A ≡ false → is_comparing code ≡ false → operand_fault code operands ≡ None
 operand_fault-plain code operands h no_key no_test = rw (none_is_zero operands h, no_key, no_test)
 
-fault_at-plain : (code : ℕ) (operands rest : List ℕ) → operand_count code ≡ Some (length operands) → nat_eq code 0x0A ≡ false → nat_eq code 0x14 ≡ false
+fault_at-plain : (code : ℕ) (operands rest : List ℕ) → operand_count code ≡ Some (length operands) → nat_eq code 0x0A ≡ false → is_comparing code ≡ false
     → AllByRecursion IsOperand operands → fault_at (unit_bytes (0xFFFF ∷ code ∷ operands) ++ rest) ≡ None
 fault_at-plain code operands rest count no_key no_test h = fault_at-coded code operands rest count (operand_fault-plain code operands h no_key no_test)
 
@@ -60,6 +60,13 @@ fault_at-test store comparison value rest h =
     let operands : List ℕ = store ∷ comparison ∷ value ∷ [] in
     let no_zero : list_any (nat_eq 0) operands ≡ false = none_is_zero operands (h.0, (comparison_is_operand comparison h.1, (h.2, tt))) in
     fault_at-coded 0x14 operands rest refl (elim h.1 [ inl unequal ↦ rw (no_zero, unequal) refl | inr equal ↦ rw (no_zero, equal) refl ])
+
+fault_at-system_test : (system comparison value : ℕ) (rest : List ℕ) → IsSpellable (SystemTest system comparison value)
+    → fault_at (unit_bytes (0xFFFF ∷ 0x17 ∷ system ∷ comparison ∷ value ∷ []) ++ rest) ≡ None
+fault_at-system_test system comparison value rest h =
+    let operands : List ℕ = system ∷ comparison ∷ value ∷ [] in
+    let no_zero : list_any (nat_eq 0) operands ≡ false = none_is_zero operands (h.0, (comparison_is_operand comparison h.1, (h.2, tt))) in
+    fault_at-coded 0x17 operands rest refl (elim h.1 [ inl unequal ↦ rw (no_zero, unequal) refl | inr equal ↦ rw (no_zero, equal) refl ])
 
 fault_at-narrow : (c : ℕ) (rest : List ℕ) → IsNarrow c → fault_at (unit_bytes (char_units c) ++ rest) ≡ None
 fault_at-narrow c rest narrow =
@@ -98,3 +105,5 @@ spelled_item_is_no_fault (Set store value) rest h = fault_at-plain 0x13 (store �
 spelled_item_is_no_fault (Test store comparison value) rest h = fault_at-test store comparison value rest h
 spelled_item_is_no_fault (Save store) rest h = fault_at-plain 0x15 (store ∷ []) rest refl refl refl (h, tt)
 spelled_item_is_no_fault (Reset store) rest h = fault_at-plain 0x16 (store ∷ []) rest refl refl refl (h, tt)
+spelled_item_is_no_fault (SystemTest system comparison value) rest h = fault_at-system_test system comparison value rest h
+spelled_item_is_no_fault (SetSystem system value) rest h = fault_at-plain 0x18 (system ∷ value ∷ []) rest refl refl refl (h.0, (h.1, tt))

@@ -53,10 +53,6 @@ window-append xs ys =
     = simp (length-append, length-drop) (omega arith) in
     cc
 
--- before the window stand the first items, as characters
-pub before_window : (items : List Item) → All (λ item. is_mark item ≡ false) (map Char (characters (without_last 64 items)))
-before_window items = unmarked (characters (without_last 64 items))
-
 -- items without marks and then at most 64 items are a sound list
 pub IsSound_from_front : (front kept : List Item) → All (λ item. is_mark item ≡ false) front → length kept ≤ 64 → IsSound (front ++ kept)
 IsSound_from_front front kept h few =

@@ -9,7 +9,7 @@ use Rattle.std.proofs.Math.Utf8.{scalar_cases}
 use Rattle.std.proofs.lemmas.Bool.{cases_lt, cond-true, cond-false, lt-ltb, le-ltb, ne_eqb, cond_both}
 use Rattle.std.proofs.lemmas.Bool.Decides.{nat_tests}
 use Rattle.kmn_base.specs.declared.units.UnitItem.{UnitItem}
-use Rattle.kmn_base.specs.declared.units.UnitItem.TheVariants.{Char, Any, Index, Context, Nul, Enter, Stop, Beep, Dead, Key, ContextAt, NotAny, Set, Test, Save, Reset}
+use Rattle.kmn_base.specs.declared.units.UnitItem.TheVariants.{Char, Any, Index, Context, Nul, Enter, Stop, Beep, Dead, Key, ContextAt, NotAny, Set, Test, Save, Reset, SystemTest, SetSystem}
 use Rattle.kmn_base.specs.Laws.{SpellingsArePrefixFree, SpellingsAreShort, SpellingsAreUnits}
 use Rattle.kmn_base.specs.Spelling.{char_units, spelling, IsOperand, IsSpellable, is_high_surrogate, is_low_surrogate}
 
@@ -107,6 +107,8 @@ item_of_code code units =
     else if nat_eq code 0x14 then with_three Test units
     else if nat_eq code 0x15 then with_one Save units
     else if nat_eq code 0x16 then with_one Reset units
+    else if nat_eq code 0x17 then with_three SystemTest units
+    else if nat_eq code 0x18 then with_two SetSystem units
     else None
 
 abbrev pub item_of_pair : ℕ → List ℕ → Option UnitItem
@@ -152,6 +154,8 @@ first_item-spelling (Set store value) units h = refl
 first_item-spelling (Test store comparison value) units h = refl
 first_item-spelling (Save store) units h = refl
 first_item-spelling (Reset store) units h = refl
+first_item-spelling (SystemTest system comparison value) units h = refl
+first_item-spelling (SetSystem system value) units h = refl
 
 pub spellings_are_prefix_free : SpellingsArePrefixFree
 spellings_are_prefix_free i j a b h k e =
@@ -177,6 +181,8 @@ spellings_are_short (Set store value) = (lit< tt, lit≤ tt)
 spellings_are_short (Test store comparison value) = (lit< tt, lit≤ tt)
 spellings_are_short (Save store) = (lit< tt, lit≤ tt)
 spellings_are_short (Reset store) = (lit< tt, lit≤ tt)
+spellings_are_short (SystemTest system comparison value) = (lit< tt, lit≤ tt)
+spellings_are_short (SetSystem system value) = (lit< tt, lit≤ tt)
 
 units_of_code : (code : ℕ) (operands : List ℕ) → IsOperand code → AllByRecursion IsOperand operands → All IsOperand (0xFFFF ∷ code ∷ operands)
 units_of_code code operands c h = All-from_recursion IsOperand (0xFFFF ∷ code ∷ operands) ((lit< tt, lit< tt), (c, h))
@@ -211,3 +217,5 @@ spellings_are_units (Set store value) h = units_of_code 0x13 (store ∷ value �
 spellings_are_units (Test store comparison value) h = units_of_code 0x14 (store ∷ comparison ∷ value ∷ []) (lit< tt, lit< tt) (h.0, (comparison_is_operand comparison h.1, (h.2, tt)))
 spellings_are_units (Save store) h = units_of_code 0x15 (store ∷ []) (lit< tt, lit< tt) (h, tt)
 spellings_are_units (Reset store) h = units_of_code 0x16 (store ∷ []) (lit< tt, lit< tt) (h, tt)
+spellings_are_units (SystemTest system comparison value) h = units_of_code 0x17 (system ∷ comparison ∷ value ∷ []) (lit< tt, lit< tt) (h.0, (comparison_is_operand comparison h.1, (h.2, tt)))
+spellings_are_units (SetSystem system value) h = units_of_code 0x18 (system ∷ value ∷ []) (lit< tt, lit< tt) (h.0, (h.1, tt))

@@ -7,7 +7,7 @@ use Rattle.std.proofs.lemmas.Bool.{cases_Bool, cond-true, cond-false, lt-ltb, le
 use Rattle.std.proofs.lemmas.Bool.Decides.{nat_tests}
 use Rattle.std.proofs.lemmas.List.Elements.{All-head, All-tail, recursion_from_All}
 use Rattle.kmn_base.specs.declared.units.UnitItem.{UnitItem}
-use Rattle.kmn_base.specs.declared.units.UnitItem.TheVariants.{Char, Any, Index, Context, Nul, Enter, Stop, Beep, Dead, Key, ContextAt, NotAny, Set, Test, Save, Reset}
+use Rattle.kmn_base.specs.declared.units.UnitItem.TheVariants.{Char, Any, Index, Context, Nul, Enter, Stop, Beep, Dead, Key, ContextAt, NotAny, Set, Test, Save, Reset, SystemTest, SetSystem}
 use Rattle.kmn_base.specs.declared.units.BadKind.{BadKind}
 use Rattle.kmn_base.specs.declared.units.BadKind.TheVariants.{U1, U3, U4, U5}
 use Rattle.kmn_base.specs.Laws.{NoFaultIsEndOrItem}
@@ -28,10 +28,10 @@ abbrev one_codes : List ℕ
 one_codes = 0x01 ∷ 0x05 ∷ 0x08 ∷ 0x11 ∷ 0x12 ∷ 0x15 ∷ 0x16 ∷ []
 
 abbrev two_codes : List ℕ
-two_codes = 0x02 ∷ 0x13 ∷ []
+two_codes = 0x02 ∷ 0x13 ∷ 0x18 ∷ []
 
 abbrev three_codes : List ℕ
-three_codes = 0x0A ∷ 0x14 ∷ []
+three_codes = 0x0A ∷ 0x14 ∷ 0x17 ∷ []
 
 -- what holds of each number of a list holds of one that the test finds in it
 listed : (P : ℕ → Type 0) (codes : List ℕ) (code : ℕ) → AllByRecursion P codes → list_any (nat_eq code) codes ≡ true → P code
@@ -84,7 +84,10 @@ two_operands code [] e l h = absurd (omega arith)
 two_operands code (a ∷ []) e l h = absurd (omega arith)
 two_operands code (a ∷ b ∷ []) e l h = listed (λ n. IsSpelled (0xFFFF ∷ n ∷ a ∷ b ∷ [])) two_codes code (
   record { item = Index a b; spellable = (h.0, h.1.0); spelled = refl },
-  (record { item = Set a b; spellable = (h.0, h.1.0); spelled = refl }, tt),
+  (
+    record { item = Set a b; spellable = (h.0, h.1.0); spelled = refl },
+    (record { item = SetSystem a b; spellable = (h.0, h.1.0); spelled = refl }, tt),
+  ),
 ) e
 two_operands code (a ∷ b ∷ c ∷ operands) e l h = absurd (omega arith)
 
@@ -119,10 +122,21 @@ test_operands (a ∷ b ∷ c ∷ []) l h e =
     record { item = Test a b c; spellable = (h.0, comparison, h.1.1.0); spelled = refl }
 test_operands (a ∷ b ∷ c ∷ d ∷ operands) l h e = absurd (omega arith)
 
+system_operands : (operands : List ℕ) → length operands ≡ 3 → AllByRecursion IsOperand operands → operand_fault 0x17 operands ≡ None → IsSpelled (0xFFFF ∷ 0x17 ∷ operands)
+system_operands [] l h e = absurd (omega arith)
+system_operands (a ∷ []) l h e = absurd (omega arith)
+system_operands (a ∷ b ∷ []) l h e = absurd (omega arith)
+system_operands (a ∷ b ∷ c ∷ []) l h e =
+    let behind_zero = none_if (list_any (nat_eq 0) (a ∷ b ∷ c ∷ [])) U3 (if not (nat_eq b 1 || nat_eq b 2) then Some U5 else None) e in
+    let compares : (nat_eq b 1 || nat_eq b 2) ≡ true = not-false _ (none_if (not (nat_eq b 1 || nat_eq b 2)) U5 None behind_zero.1).0 in
+    let comparison : (b ≡ 1) ⊎ (b ≡ 2) = elim (or_cases (nat_eq b 1) (nat_eq b 2) compares) [ inl one ↦ inl (eqb-true b 1 one) | inr two ↦ inr (eqb-true b 2 two) ] in
+    record { item = SystemTest a b c; spellable = (h.0, comparison, h.1.1.0); spelled = refl }
+system_operands (a ∷ b ∷ c ∷ d ∷ operands) l h e = absurd (omega arith)
+
 three_operands : (code : ℕ) (operands : List ℕ) → list_any (nat_eq code) three_codes ≡ true → length operands ≡ 3
     → AllByRecursion IsOperand operands → operand_fault code operands ≡ None → IsSpelled (0xFFFF ∷ code ∷ operands)
 three_operands code operands e l h form = listed (λ n. operand_fault n operands ≡ None → IsSpelled (0xFFFF ∷ n ∷ operands)) three_codes code
-    (key_operands operands l h, (test_operands operands l h, tt)) e form
+    (key_operands operands l h, (test_operands operands l h, (system_operands operands l h, tt))) e form
 
 -- operands of 16 bits, none of which is 0
 operands_of : (operands : List ℕ) → AllByRecursion (λ unit. unit < 2 ^ 16) operands → list_any (nat_eq 0) operands ≡ false → AllByRecursion IsOperand operands

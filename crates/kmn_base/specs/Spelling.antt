@@ -3,7 +3,7 @@ use Rattle.std.specs.Prelude.{◌≡◌, ◌≢◌, ℕ, ◌+◌, ◌-◌, ◌*�
 use Rattle.std.specs.List.{list_any}
 use Rattle.std.specs.Char.{IsScalar}
 use Rattle.kmn_base.specs.declared.units.UnitItem.{UnitItem}
-use Rattle.kmn_base.specs.declared.units.UnitItem.TheVariants.{Char, Any, Index, Context, Nul, Enter, Stop, Beep, Dead, Key, ContextAt, NotAny, Set, Test, Save, Reset}
+use Rattle.kmn_base.specs.declared.units.UnitItem.TheVariants.{Char, Any, Index, Context, Nul, Enter, Stop, Beep, Dead, Key, ContextAt, NotAny, Set, Test, Save, Reset, SystemTest, SetSystem}
 use Rattle.kmn_base.specs.declared.units.BadKind.{BadKind}
 use Rattle.kmn_base.specs.declared.units.BadKind.TheVariants.{U1, U2, U3, U4, U5, U6}
 use Rattle.kmn_base.specs.declared.units.BadUnits.{BadUnits}
@@ -30,6 +30,8 @@ spelling (Set store value) = 0xFFFF ∷ 0x13 ∷ store ∷ value ∷ []
 spelling (Test store comparison value) = 0xFFFF ∷ 0x14 ∷ store ∷ comparison ∷ value ∷ []
 spelling (Save store) = 0xFFFF ∷ 0x15 ∷ store ∷ []
 spelling (Reset store) = 0xFFFF ∷ 0x16 ∷ store ∷ []
+spelling (SystemTest system comparison value) = 0xFFFF ∷ 0x17 ∷ system ∷ comparison ∷ value ∷ []
+spelling (SetSystem system value) = 0xFFFF ∷ 0x18 ∷ system ∷ value ∷ []
 
 -- an operand is a unit that isn't 0, since 0 ends a string
 abbrev pub IsOperand : ℕ → Type 0
@@ -53,6 +55,8 @@ IsSpellable (Set store value) = IsOperand store × IsOperand value
 IsSpellable (Test store comparison value) = IsOperand store × ((comparison ≡ 1) ⊎ (comparison ≡ 2)) × IsOperand value
 IsSpellable (Save store) = IsOperand store
 IsSpellable (Reset store) = IsOperand store
+IsSpellable (SystemTest system comparison value) = IsOperand system × ((comparison ≡ 1) ⊎ (comparison ≡ 2)) × IsOperand value
+IsSpellable (SetSystem system value) = IsOperand system × IsOperand value
 
 -- the units are the spellings of the items one after the other
 pub record Spells (units : List ℕ) (items : List UnitItem) : Type 0 where
@@ -87,16 +91,20 @@ abbrev pub operand_count : ℕ → Option ℕ
 operand_count code =
     if list_any (nat_eq code) (0x03 ∷ 0x04 ∷ 0x06 ∷ 0x07 ∷ []) then Some 0
     else if list_any (nat_eq code) (0x01 ∷ 0x05 ∷ 0x08 ∷ 0x11 ∷ 0x12 ∷ 0x15 ∷ 0x16 ∷ []) then Some 1
-    else if list_any (nat_eq code) (0x02 ∷ 0x13 ∷ []) then Some 2
-    else if list_any (nat_eq code) (0x0A ∷ 0x14 ∷ []) then Some 3
+    else if list_any (nat_eq code) (0x02 ∷ 0x13 ∷ 0x18 ∷ []) then Some 2
+    else if list_any (nat_eq code) (0x0A ∷ 0x14 ∷ 0x17 ∷ []) then Some 3
     else None
+
+-- whether a code is that of an item that compares
+abbrev pub is_comparing : ℕ → Bool
+is_comparing code = nat_eq code 0x14 || nat_eq code 0x17
 
 -- whether the operands of an item have the form that its code asks for, and if not, why
 abbrev pub operand_fault : ℕ → List ℕ → Option BadKind
 operand_fault code operands =
     if list_any (nat_eq 0) operands then Some U3
     else if nat_eq code 0x0A && not (nat_eq (slice_index operands 2) 0x10) then Some U4
-    else if nat_eq code 0x14 && not (nat_eq (slice_index operands 1) 1 || nat_eq (slice_index operands 1) 2) then Some U5
+    else if is_comparing code && not (nat_eq (slice_index operands 1) 1 || nat_eq (slice_index operands 1) 2) then Some U5
     else None
 
 -- the bytes end inside an item: after whole units, or after the first byte of one

@@ -21,6 +21,10 @@ pub enum UnitItem {
     Test(u16, u16, u16),
     Save(u16),
     Reset(u16),
+    /// System id, 1 for unequal or 2 for equal, and value store. The id counts from 1, too.
+    SystemTest(u16, u16, u16),
+    /// System id and value store.
+    SetSystem(u16, u16),
 }
 
 /// Why no item is spelled at a place.

@@ -1,10 +1,11 @@
 -- The meaning of tables does not look at the places of keys in key stores.
-use Rattle.std.proofs.Common.{◌≡◌, Bool, List, [], ◌∷◌, map, refl, ap}
+use Rattle.std.proofs.Common.{◌≡◌, Bool, List, [], ◌∷◌, ◌++◌, map, refl, ap}
 use Rattle.rule_model.specs.declared.tables.Rule.{Rule}
 use Rattle.rule_model.specs.declared.tables.Store.{Store}
 use Rattle.rule_model.specs.declared.tables.Group.{Group}
 use Rattle.rule_model.specs.declared.tables.Tables.{Tables}
 use Rattle.rule_model.specs.Keyboard.{RuleMeaning}
+use Rattle.rule_model.specs.System.{system_options}
 use Rattle.rule_model.specs.Tab.{tab, tab_rule, tab_group, tab_options, with_options}
 use Rattle.kmx_format.specs.TablesOf.{rule_without_place, group_without_places, no_places}
 use Rattle.checker_laws.proofs.Placeless.{placeless_options}
@@ -21,4 +22,4 @@ groups_mean stores (group ∷ groups) =
 pub same_meaning : (tables : Tables) → tab (no_places tables) ≡ tab tables
 unfolding tab tab_options
 same_meaning tables =
-    λ i. record (tab tables) { stores = with_options (placeless_options tables i) 0 tables.stores; groups = groups_mean tables.stores tables.groups i }
+    λ i. record (tab tables) { stores = with_options (placeless_options tables i) 0 tables.stores ++ system_options; groups = groups_mean tables.stores tables.groups i }

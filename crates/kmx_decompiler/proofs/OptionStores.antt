@@ -1,31 +1,33 @@
 -- Which stores have an option number.
-use Rattle.std.proofs.Common.{◌≡◌, ℕ, zero, suc, ◌+◌, ◌<◌, Bool, true, false, List, [], ◌∷◌, length, Some, None, refl, ap, ◌∙◌, arith}
+use Rattle.std.proofs.Common.{◌≡◌, ℕ, zero, suc, ◌+◌, ◌<◌, Bool, true, false, List, [], ◌∷◌, ◌++◌, length, Some, None, refl, ap, ◌∙◌, arith}
 use Rattle.std.specs.Prelude.{nat_eq, slice_get, is_some, if◌then◌else◌}
 use Rattle.std.specs.List.{list_any}
 use Rattle.rule_model.specs.declared.tables.Store.{Store}
 use Rattle.rule_model.specs.declared.tables.Tables.{Tables}
-use Rattle.rule_model.specs.Keyboard.{Numbered}
+use Rattle.rule_model.specs.Keyboard.{Numbered, StoreMeaning}
 use Rattle.rule_model.specs.Content.{option_of, option_number, options_before}
+use Rattle.rule_model.specs.System.{system_options}
 use Rattle.rule_model.specs.Tab.{with_options, tab_options}
 
 flagged : (flag : Bool) (option : ℕ) → is_some (if flag then Some option else None) ≡ flag
 flagged true option = refl
 flagged false option = refl
 
-numbered : (options : List ℕ) (option k n : ℕ) (stores : List Store) → n < length stores
-    → is_some (option_of option (slice_get (with_options options k stores) n)) ≡ list_any (nat_eq (k + n)) options
-numbered options option k n [] within = absurd (omega arith)
-numbered options option k zero (store ∷ stores) within =
+-- a store has one where its number is listed, whatever stands behind the stores
+numbered : (options : List ℕ) (option k n : ℕ) (stores : List Store) (others : List StoreMeaning) → n < length stores
+    → is_some (option_of option (slice_get (with_options options k stores ++ others) n)) ≡ list_any (nat_eq (k + n)) options
+numbered options option k n [] others within = absurd (omega arith)
+numbered options option k zero (store ∷ stores) others within =
     let here : k ≡ k + 0 = omega arith in flagged (list_any (nat_eq k) options) option ∙ ap (λ m. list_any (nat_eq m) options) here
-numbered options option k (suc n) (store ∷ stores) within =
+numbered options option k (suc n) (store ∷ stores) others within =
     let here : k + 1 + n ≡ k + suc n = omega arith in
     let less : n < length stores = omega arith in
-    numbered options option (k + 1) n stores less ∙ ap (λ m. list_any (nat_eq m) options) here
+    numbered options option (k + 1) n stores others less ∙ ap (λ m. list_any (nat_eq m) options) here
 
 -- a store of tables has one where some item uses it as an option
 pub is_option : (tables : Tables) (n : ℕ) → n < length tables.stores
-    → is_some (option_number (with_options (tab_options tables) 0 tables.stores) (Numbered n)) ≡ list_any (nat_eq n) (tab_options tables)
+    → is_some (option_number (with_options (tab_options tables) 0 tables.stores ++ system_options) (Numbered n)) ≡ list_any (nat_eq n) (tab_options tables)
 is_option tables n within =
     let here : 0 + n ≡ n = omega arith in
-    numbered (tab_options tables) (options_before n (with_options (tab_options tables) 0 tables.stores)) 0 n tables.stores within
+    numbered (tab_options tables) (options_before n (with_options (tab_options tables) 0 tables.stores ++ system_options)) 0 n tables.stores system_options within
     ∙ ap (λ m. list_any (nat_eq m) (tab_options tables)) here

@@ -75,6 +75,7 @@ pub(crate) fn is_far_pattern(pattern: &Pat) -> bool
 {
     match pattern {
         Pat::Mark(mark) => is_far_mark(*mark),
+        Pat::SystemEqual(_, _) | Pat::SystemUnequal(_, _) => true,
         _ => false,
     }
 }
@@ -94,6 +95,7 @@ pub(crate) fn is_far_output(output: &Out) -> bool
 {
     match output {
         Out::Mark(mark) => is_far_mark(*mark),
+        Out::SetSystem(_, _) => true,
         _ => false,
     }
 }
@@ -112,7 +114,14 @@ pub(crate) fn output_value(output: &Out) -> Option<u32>
 fn is_matched(pattern: &Pat) -> bool
     ensures { result ≡ is_matched pattern.now }
 {
-    !matches!(pattern, Pat::Equal(_, _) | Pat::Unequal(_, _) | Pat::Nul)
+    !matches!(
+        pattern,
+        Pat::Equal(_, _)
+            | Pat::Unequal(_, _)
+            | Pat::SystemEqual(_, _)
+            | Pat::SystemUnequal(_, _)
+            | Pat::Nul
+    )
 }
 
 /// Whether a condition or `nul` stands behind an item that is matched.

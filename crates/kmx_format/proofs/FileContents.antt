@@ -42,6 +42,8 @@ pattern_again (pattern.Index store offset) = ap (λ s. Some (pattern.Index s off
 pattern_again (pattern.ContextAt offset) = refl
 pattern_again (pattern.Equal store value) = ap₂ (λ s v. Some (pattern.Equal s v)) (add-sub_cancel store 1) (add-sub_cancel value 1)
 pattern_again (pattern.Unequal store value) = ap₂ (λ s v. Some (pattern.Unequal s v)) (add-sub_cancel store 1) (add-sub_cancel value 1)
+pattern_again (pattern.SystemEqual id value) = ap₂ (λ s v. Some (pattern.SystemEqual s v)) (add-sub_cancel id 1) (add-sub_cancel value 1)
+pattern_again (pattern.SystemUnequal id value) = ap₂ (λ s v. Some (pattern.SystemUnequal s v)) (add-sub_cancel id 1) (add-sub_cancel value 1)
 pattern_again pattern.Nul = refl
 
 output_again : (o : Out) → output_of_unit_item (unit_item_of_output o) ≡ Some o
@@ -52,6 +54,7 @@ output_again output.Context = refl
 output_again (output.ContextAt offset) = refl
 output_again (output.Enter group) = ap (λ g. Some (output.Enter g)) (add-sub_cancel group 1)
 output_again (output.Set store value) = ap₂ (λ s v. Some (output.Set s v)) (add-sub_cancel store 1) (add-sub_cancel value 1)
+output_again (output.SetSystem id value) = ap₂ (λ s v. Some (output.SetSystem s v)) (add-sub_cancel id 1) (add-sub_cancel value 1)
 output_again (output.Save store) = ap (λ s. Some (output.Save s)) (add-sub_cancel store 1)
 output_again (output.Reset store) = ap (λ s. Some (output.Reset s)) (add-sub_cancel store 1)
 output_again output.Nul = refl

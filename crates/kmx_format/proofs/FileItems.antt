@@ -4,7 +4,7 @@ use Rattle.std.specs.List.{All}
 use Rattle.std.proofs.lemmas.List.Elements.{All-head, All-tail, All-nil, All-cons, All-append, All-from_recursion}
 use Rattle.std.proofs.lemmas.Bool.{cases_lt}
 use Rattle.kmn_base.specs.declared.units.UnitItem.{UnitItem}
-use Rattle.kmn_base.specs.declared.units.UnitItem.TheVariants.{Char, Any, Index, Context, Nul, Enter, Stop, Beep, Dead, Key, ContextAt, NotAny, Set, Test, Save, Reset}
+use Rattle.kmn_base.specs.declared.units.UnitItem.TheVariants.{Char, Any, Index, Context, Nul, Enter, Stop, Beep, Dead, Key, ContextAt, NotAny, Set, Test, Save, Reset, SystemTest, SetSystem}
 use Rattle.kmn_base.specs.Spelling.{char_units, spelling, IsSpellable}
 use Rattle.kmx_format.specs.FileUnits.{item_units}
 use Rattle.item_codec.proofs.Results.{items_given_again}
@@ -47,6 +47,10 @@ spelling-nonzero (Test store comparison value) h =
     All-from_recursion (λ unit. unit ≢ 0) (spelling (Test store comparison value)) (omega arith, (omega arith, (omega arith, (positive, (omega arith, tt)))))
 spelling-nonzero (Save store) h = All-from_recursion (λ unit. unit ≢ 0) (spelling (Save store)) (omega arith, (omega arith, (omega arith, tt)))
 spelling-nonzero (Reset store) h = All-from_recursion (λ unit. unit ≢ 0) (spelling (Reset store)) (omega arith, (omega arith, (omega arith, tt)))
+spelling-nonzero (SystemTest system comparison value) h =
+    let positive : comparison ≢ 0 = ⊎_elim (λ e. omega arith) (λ e. omega arith) h.1 in
+    All-from_recursion (λ unit. unit ≢ 0) (spelling (SystemTest system comparison value)) (omega arith, (omega arith, (omega arith, (positive, (omega arith, tt)))))
+spelling-nonzero (SetSystem system value) h = All-from_recursion (λ unit. unit ≢ 0) (spelling (SetSystem system value)) (omega arith, (omega arith, (omega arith, (omega arith, tt))))
 
 pub item_units-nonzero : (items : List UnitItem) → All IsSpellable items → All (λ unit. unit ≢ 0) (item_units items)
 unfolding item_units
@@ -76,6 +80,8 @@ spelling-length (Set store value) = omega arith
 spelling-length (Test store comparison value) = omega arith
 spelling-length (Save store) = omega arith
 spelling-length (Reset store) = omega arith
+spelling-length (SystemTest system comparison value) = omega arith
+spelling-length (SetSystem system value) = omega arith
 
 pub length-item_units : (items : List UnitItem) → length items ≤ length (item_units items)
 unfolding item_units

@@ -5,7 +5,7 @@ use Rattle.std.proofs.lemmas.Bool.{cases_lt}
 use Rattle.std.proofs.lemmas.List.{length-map}
 use Rattle.std.proofs.lemmas.List.Elements.{All-head, All-tail, All-weaker, All-append, All-nil}
 use Rattle.kmn_base.specs.declared.units.UnitItem.{UnitItem}
-use Rattle.kmn_base.specs.declared.units.UnitItem.TheVariants.{Char, Any, Index, Context, Nul, Enter, Stop, Beep, Dead, Key, ContextAt, NotAny, Set, Test, Save, Reset}
+use Rattle.kmn_base.specs.declared.units.UnitItem.TheVariants.{Char, Any, Index, Context, Nul, Enter, Stop, Beep, Dead, Key, ContextAt, NotAny, Set, Test, Save, Reset, SystemTest, SetSystem}
 use Rattle.kmn_base.specs.Spelling.{spelling, unit_bytes}
 use Rattle.rule_model.specs.declared.tables.Rule.{Rule}
 use Rattle.rule_model.specs.declared.tables.Store.{Store}
@@ -38,6 +38,8 @@ spelling_at_most (Set store value) = omega arith
 spelling_at_most (Test store comparison value) = omega arith
 spelling_at_most (Save store) = omega arith
 spelling_at_most (Reset store) = omega arith
+spelling_at_most (SystemTest system comparison value) = omega arith
+spelling_at_most (SetSystem system value) = omega arith
 
 item_units_at_most : (items : List UnitItem) → length (item_units items) ≤ 5 * length items
 unfolding item_units

@@ -1,8 +1,8 @@
 -- Tables without the places of keys are tables that a file can have, where those with them are.
-use Rattle.std.proofs.Common.{◌≡◌, ℕ, ◌≤◌, Bool, List, [], ◌∷◌, length, map, refl, sym, ap, ap₂, subst, ◌∙◌, length-append, arith, inl, inr}
+use Rattle.std.proofs.Common.{◌≡◌, ℕ, ◌≤◌, Bool, List, [], ◌∷◌, length, map, refl, sym, ap, subst, ◌∙◌, length-append, arith, inl, inr}
 use Rattle.std.specs.List.{All, flat_map}
 use Rattle.std.proofs.lemmas.List.{length-map}
-use Rattle.std.proofs.lemmas.List.Elements.{All-map, All-weaker, All-head, All-tail}
+use Rattle.std.proofs.lemmas.List.Elements.{All-map, All-weaker}
 use Rattle.rule_model.specs.declared.tables.Rule.{Rule}
 use Rattle.rule_model.specs.declared.tables.Group.{Group}
 use Rattle.rule_model.specs.declared.tables.Tables.{Tables}
@@ -63,21 +63,3 @@ files_have_writable_tables bytes h =
     let size : length (file_of h.tables h.picture) ≤ FILE_BYTES = omega (arith, h.file_size, ap length h.is) in
     let read : tables_of bytes ≡ no_places h.tables = ap tables_of h.is ∙ law h.tables h.picture h.writable size in
     subst IsWritable (sym read) (IsWritable-no_places h.tables h.writable)
-
--- tables whose rules have no places are as a file keeps them
-rules_same : (rules : List Rule) → All (λ rule. rule.place ≡ 0) rules → map rule_without_place rules ≡ rules
-rules_same [] h = refl
-rules_same (rule ∷ rules) h =
-    let first : rule.place ≡ 0 = All-head (λ r. r.place ≡ 0) rule rules h in
-    let same : rule_without_place rule ≡ rule = λ i. record rule { place = sym first i } in
-    ap₂ (λ (r : Rule) (rs : List Rule). r ∷ rs) same (rules_same rules (All-tail (λ r. r.place ≡ 0) rule rules h))
-
-groups_same : (groups : List Group) → All (λ group. All (λ rule. rule.place ≡ 0) group.rules) groups → map group_without_places groups ≡ groups
-groups_same [] h = refl
-groups_same (group ∷ groups) h =
-    let first : map rule_without_place group.rules ≡ group.rules = rules_same group.rules (All-head (λ g. All (λ rule. rule.place ≡ 0) g.rules) group groups h) in
-    let same : group_without_places group ≡ group = λ i. record group { rules = first i } in
-    ap₂ (λ (g : Group) (gs : List Group). g ∷ gs) same (groups_same groups (All-tail (λ g. All (λ rule. rule.place ≡ 0) g.rules) group groups h))
-
-pub no_places_same : (tables : Tables) → All (λ group. All (λ rule. rule.place ≡ 0) group.rules) tables.groups → no_places tables ≡ tables
-no_places_same tables h = λ i. record tables { groups = groups_same tables.groups h i }

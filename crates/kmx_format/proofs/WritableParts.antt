@@ -1,16 +1,16 @@
 -- The plainest parts of tables that a file can have: ASCII names, contexts without items, and outputs of characters.
-use Rattle.std.proofs.Common.{◌≡◌, ◌≢◌, ℕ, zero, suc, ◌<◌, ◌≤◌, List, [], ◌∷◌, length, map, refl, ap, ◌∙◌, arith, lit≤}
+use Rattle.std.proofs.Common.{true, ◌≡◌, ◌≢◌, ℕ, zero, suc, ◌<◌, ◌≤◌, List, [], ◌∷◌, length, map, refl, ap, ◌∙◌, arith, lit≤}
 use Rattle.std.specs.List.{All, flat_map}
 use Rattle.std.specs.Str.{IsAscii, chars}
 use Rattle.std.proofs.lemmas.List.{length-map}
-use Rattle.std.proofs.lemmas.List.Elements.{All-nil, All-head, All-tail, All-map, All-weaker, All-same}
+use Rattle.std.proofs.lemmas.List.Elements.{All-nil, All-cons, All-head, All-tail, All-map, All-weaker, All-same}
 use Rattle.std.proofs.lemmas.Str.{IsUtf8-from_ascii, chars-IsAscii}
 use Rattle.kmn_base.specs.declared.limits.TheConstants.{FILE_NAME_UNITS, OUTPUT_ITEMS}
 use Rattle.kmn_base.specs.declared.units.UnitItem.TheVariants as spelled
 use Rattle.kmn_base.specs.Spelling.{char_units, IsSpellable}
 use Rattle.rule_model.specs.declared.tables.Out.TheVariants as output
 use Rattle.kmx_format.specs.FileUnits.{unit_item_of_output, name_units}
-use Rattle.kmx_format.specs.Writable.{IsWritableName, stores_of_output, groups_of_output, IsWritableContext, IsWritableOutput, IsWritableMatchOutput}
+use Rattle.kmx_format.specs.Writable.{sets_system_id, IsWritableName, stores_of_output, groups_of_output, IsWritableContext, IsWritableOutput, IsWritableMatchOutput}
 use Rattle.kmx_format.proofs.FileItems.{char_units_low}
 
 ascii_units : (cs : List ℕ) → All (λ c. (c ≢ 0) × (c < 128)) cs → flat_map char_units cs ≡ cs
@@ -46,11 +46,16 @@ no_groups : (cs : List ℕ) → flat_map groups_of_output (map output.Char cs) �
 no_groups [] = refl
 no_groups (c ∷ cs) = no_groups cs
 
+no_systems : (cs : List ℕ) → All (λ c. sets_system_id (output.Char c) ≡ true) cs
+no_systems [] = All-nil (λ c. sets_system_id (output.Char c) ≡ true)
+no_systems (c ∷ cs) = All-cons (λ c. sets_system_id (output.Char c) ≡ true) c cs refl (no_systems cs)
+
 module _ (store_count group_count : ℕ) where
   pub no_context : IsWritableContext store_count []
   no_context = record {
     items = λ place d below. absurd (omega arith);
     stores = All-nil (λ store. store < store_count);
+    systems = λ place d below. absurd (omega arith);
     offsets = λ place d below. absurd (omega arith);
     item_count = lit≤ tt;
   }
@@ -59,6 +64,7 @@ module _ (store_count group_count : ℕ) where
   characters_output cs h short = record {
     items = All-map (λ item. IsSpellable (unit_item_of_output item)) output.Char cs h;
     stores = All-same (λ store. store < store_count) (flat_map stores_of_output (map output.Char cs)) [] (no_stores cs) (All-nil (λ store. store < store_count));
+    systems = All-map (λ item. sets_system_id item ≡ true) output.Char cs (no_systems cs);
     groups = All-same (λ group. group < group_count) (flat_map groups_of_output (map output.Char cs)) [] (no_groups cs) (All-nil (λ group. group < group_count));
     item_count = omega (arith, length-map cs output.Char);
   }

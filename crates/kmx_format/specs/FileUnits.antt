@@ -28,6 +28,8 @@ unit_item_of_pattern (pattern.Index store offset) = spelled.Index (store + 1) of
 unit_item_of_pattern (pattern.ContextAt offset) = spelled.ContextAt offset
 unit_item_of_pattern (pattern.Equal store value) = spelled.Test (store + 1) 2 (value + 1)
 unit_item_of_pattern (pattern.Unequal store value) = spelled.Test (store + 1) 1 (value + 1)
+unit_item_of_pattern (pattern.SystemEqual id value) = spelled.SystemTest (id + 1) 2 (value + 1)
+unit_item_of_pattern (pattern.SystemUnequal id value) = spelled.SystemTest (id + 1) 1 (value + 1)
 unit_item_of_pattern pattern.Nul = spelled.Nul
 
 -- an item of an output as it is spelled; a file counts stores and groups from 1
@@ -39,6 +41,7 @@ unit_item_of_output output.Context = spelled.Context
 unit_item_of_output (output.ContextAt offset) = spelled.ContextAt offset
 unit_item_of_output (output.Enter group) = spelled.Enter (group + 1)
 unit_item_of_output (output.Set store value) = spelled.Set (store + 1) (value + 1)
+unit_item_of_output (output.SetSystem id value) = spelled.SetSystem (id + 1) (value + 1)
 unit_item_of_output (output.Save store) = spelled.Save (store + 1)
 unit_item_of_output (output.Reset store) = spelled.Reset (store + 1)
 unit_item_of_output output.Nul = spelled.Nul

@@ -58,6 +58,12 @@ comparison_of store comparison value =
     else if nat_eq comparison 2 then Some (pattern.Equal (store - 1) (value - 1))
     else None
 
+abbrev pub system_comparison_of : ℕ → ℕ → ℕ → Option Pat
+system_comparison_of system comparison value =
+    if nat_eq comparison 1 then Some (pattern.SystemUnequal (system - 1) (value - 1))
+    else if nat_eq comparison 2 then Some (pattern.SystemEqual (system - 1) (value - 1))
+    else None
+
 -- the item of a context that is spelled so
 abbrev pub pattern_of_unit_item : UnitItem → Option Pat
 pattern_of_unit_item (spelled.Char c) = Some (pattern.Char c)
@@ -67,6 +73,7 @@ pattern_of_unit_item (spelled.NotAny store) = Some (pattern.NotAny (store - 1))
 pattern_of_unit_item (spelled.Index store offset) = Some (pattern.Index (store - 1) offset)
 pattern_of_unit_item (spelled.ContextAt offset) = Some (pattern.ContextAt offset)
 pattern_of_unit_item (spelled.Test store comparison value) = comparison_of store comparison value
+pattern_of_unit_item (spelled.SystemTest system comparison value) = system_comparison_of system comparison value
 pattern_of_unit_item spelled.Nul = Some pattern.Nul
 pattern_of_unit_item _ = None
 
@@ -79,6 +86,7 @@ output_of_unit_item spelled.Context = Some output.Context
 output_of_unit_item (spelled.ContextAt offset) = Some (output.ContextAt offset)
 output_of_unit_item (spelled.Enter group) = Some (output.Enter (group - 1))
 output_of_unit_item (spelled.Set store value) = Some (output.Set (store - 1) (value - 1))
+output_of_unit_item (spelled.SetSystem system value) = Some (output.SetSystem (system - 1) (value - 1))
 output_of_unit_item (spelled.Save store) = Some (output.Save (store - 1))
 output_of_unit_item (spelled.Reset store) = Some (output.Reset (store - 1))
 output_of_unit_item spelled.Nul = Some output.Nul

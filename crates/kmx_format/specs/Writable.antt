@@ -1,5 +1,5 @@
 -- Which tables a file can have.
-use Rattle.std.specs.Prelude.{◌≡◌, ◌≢◌, ℕ, zero, suc, ◌^◌, ◌<◌, ◌≤◌, ◌⊎◌, Bool, true, false, nat_eq, bit_and, List, [], ◌∷◌, length, take, slice_get, slice_index_or, IsSomeAnd}
+use Rattle.std.specs.Prelude.{◌||◌, ◌≡◌, ◌≢◌, ℕ, zero, suc, ◌^◌, ◌<◌, ◌≤◌, ◌⊎◌, Bool, true, false, nat_eq, bit_and, List, [], ◌∷◌, length, take, slice_get, slice_index_or, IsSomeAnd}
 use Rattle.std.specs.List.{All, flat_map, list_any}
 use Rattle.std.specs.Str.{IsUtf8, chars}
 use Rattle.kmn_base.specs.declared.keys.TheConstants.{SHIFT_FLAGS}
@@ -43,12 +43,15 @@ stores_of_pattern (pattern.NotAny store) = store ∷ []
 stores_of_pattern (pattern.Index store offset) = store ∷ []
 stores_of_pattern (pattern.Equal store value) = store ∷ value ∷ []
 stores_of_pattern (pattern.Unequal store value) = store ∷ value ∷ []
+stores_of_pattern (pattern.SystemEqual id value) = value ∷ []
+stores_of_pattern (pattern.SystemUnequal id value) = value ∷ []
 stores_of_pattern _ = []
 
 -- the stores that an item of an output names
 abbrev pub stores_of_output : Out → List ℕ
 stores_of_output (output.Index store offset) = store ∷ []
 stores_of_output (output.Set store value) = store ∷ value ∷ []
+stores_of_output (output.SetSystem id value) = value ∷ []
 stores_of_output (output.Save store) = store ∷ []
 stores_of_output (output.Reset store) = store ∷ []
 stores_of_output _ = []
@@ -57,6 +60,16 @@ stores_of_output _ = []
 abbrev pub groups_of_output : Out → List ℕ
 groups_of_output (output.Enter group) = group ∷ []
 groups_of_output _ = []
+
+-- whether an item asks for a system option that a file can ask for: the platform or the layer, which alone is set
+abbrev pub has_system_id : Pat → Bool
+has_system_id (pattern.SystemEqual id value) = nat_eq id 31 || nat_eq id 33
+has_system_id (pattern.SystemUnequal id value) = nat_eq id 31 || nat_eq id 33
+has_system_id _ = true
+
+abbrev pub sets_system_id : Out → Bool
+sets_system_id (output.SetSystem id value) = nat_eq id 33
+sets_system_id _ = true
 
 -- whether an item of a context is `any`
 abbrev pub is_any : Pat → Bool
@@ -67,6 +80,8 @@ is_any _ = false
 abbrev pub is_matched : Pat → Bool
 is_matched (pattern.Equal store value) = false
 is_matched (pattern.Unequal store value) = false
+is_matched (pattern.SystemEqual id value) = false
+is_matched (pattern.SystemUnequal id value) = false
 is_matched pattern.Nul = false
 is_matched _ = true
 
@@ -98,6 +113,7 @@ needs_context _ = false
 pub record IsWritableContext (store_count : ℕ) (context : List Pat) : Type 0 where
   pub items : All (λ item. IsSpellable (unit_item_of_pattern item)) context
   pub stores : All (λ store. store < store_count) (flat_map stores_of_pattern context)
+  pub systems : All (λ item. has_system_id item ≡ true) context
   pub offsets : (place : ℕ) (d : Pat) → place < length context → PointsBack (take place context) (slice_index_or context place d)
   pub item_count : length context ≤ CONTEXT_ITEMS
 
@@ -105,6 +121,7 @@ pub record IsWritableContext (store_count : ℕ) (context : List Pat) : Type 0 w
 pub record IsWritableOutput (store_count group_count : ℕ) (output : List Out) : Type 0 where
   pub items : All (λ item. IsSpellable (unit_item_of_output item)) output
   pub stores : All (λ store. store < store_count) (flat_map stores_of_output output)
+  pub systems : All (λ item. sets_system_id item ≡ true) output
   pub groups : All (λ group. group < group_count) (flat_map groups_of_output output)
   pub item_count : length output ≤ OUTPUT_ITEMS
 

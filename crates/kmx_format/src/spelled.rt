@@ -51,6 +51,8 @@ impl Spelled for Pat {
             Pat::ContextAt(offset) => UnitItem::ContextAt(offset as u16),
             Pat::Equal(store, value) => UnitItem::Test(from_one(store), 2, from_one(value)),
             Pat::Unequal(store, value) => UnitItem::Test(from_one(store), 1, from_one(value)),
+            Pat::SystemEqual(id, value) => UnitItem::SystemTest(from_one(id), 2, from_one(value)),
+            Pat::SystemUnequal(id, value) => UnitItem::SystemTest(from_one(id), 1, from_one(value)),
             Pat::Nul => UnitItem::Nul,
         }
     }
@@ -68,6 +70,7 @@ impl Spelled for Out {
             Out::ContextAt(offset) => UnitItem::ContextAt(offset as u16),
             Out::Enter(group) => UnitItem::Enter(from_one(group)),
             Out::Set(store, value) => UnitItem::Set(from_one(store), from_one(value)),
+            Out::SetSystem(id, value) => UnitItem::SetSystem(from_one(id), from_one(value)),
             Out::Save(store) => UnitItem::Save(from_one(store)),
             Out::Reset(store) => UnitItem::Reset(from_one(store)),
             Out::Nul => UnitItem::Nul,

@@ -1,10 +1,10 @@
 -- Strings without a fault are contents that can be played.
-use Rattle.std.proofs.Common.{◌≡◌, ℕ, zero, suc, ◌<◌, ◌≤◌, true, false, ◌||◌, List, [], ◌∷◌, ◌++◌, length, map, take, Option, None, Some, refl, sym, ◌∙◌, ap, subst, arith, append_assoc, append-nil, not}
+use Rattle.std.proofs.Common.{◌≡◌, ℕ, zero, suc, ◌+◌, ◌<◌, ◌≤◌, true, false, ◌&&◌, ◌||◌, nat_eq, List, [], ◌∷◌, ◌++◌, length, map, take, Option, None, Some, refl, sym, ◌∙◌, ap, ap₂, subst, arith, append_assoc, append-nil, not}
 use Rattle.std.specs.Prelude.{nat_lt, slice_get, slice_index_or, IsSomeAnd}
 use Rattle.std.specs.List.{cons_option, All, list_any, filter_map, flat_map}
 use Rattle.std.proofs.lemmas.List.Elements.{All-nil, All-head, All-tail, All-append, All-cons, All-weaker}
 use Rattle.std.proofs.lemmas.List.{length-map}
-use Rattle.std.proofs.lemmas.Bool.{not-true}
+use Rattle.std.proofs.lemmas.Bool.{not-true, and_parts}
 use Rattle.item_codec.specs.Walk.{items_given, results_of}
 use Rattle.item_codec.proofs.Results.{items_have_one_spelling}
 use Rattle.kmn_base.specs.declared.limits.TheConstants.{CONTEXT_ITEMS}
@@ -17,7 +17,7 @@ use Rattle.rule_model.specs.declared.tables.Out.{Out}
 use Rattle.rule_model.specs.declared.tables.Out.TheVariants as output
 use Rattle.kmx_format.specs.FileUnits.{unit_item_of_element, unit_item_of_pattern, unit_item_of_output}
 use Rattle.kmx_format.specs.TablesOf.{items_of, element_of_unit_item, pattern_of_unit_item, output_of_unit_item}
-use Rattle.kmx_format.specs.Writable.{stores_of_pattern, stores_of_output, groups_of_output, needs_context, IsWritableContext, PointsBack, PointsInto, PointsTo, is_any, is_matched}
+use Rattle.kmx_format.specs.Writable.{stores_of_pattern, stores_of_output, groups_of_output, has_system_id, sets_system_id, needs_context, IsWritableContext, PointsBack, PointsInto, PointsTo, is_any, is_matched}
 use Rattle.kmx_verifier.specs.declared.faults.StringKind.{StringKind}
 use Rattle.kmx_verifier.specs.declared.faults.StringKind.TheVariants as of
 use Rattle.kmx_verifier.specs.declared.faults.Target.{Target}
@@ -113,6 +113,8 @@ match_is_output (spelled.ContextAt offset) h = refl
 match_is_output (spelled.NotAny store) h = h
 match_is_output (spelled.Set store value) h = h
 match_is_output (spelled.Test store comparison value) h = h
+match_is_output (spelled.SystemTest system comparison value) h = h
+match_is_output (spelled.SetSystem system value) h = h
 match_is_output (spelled.Save store) h = h
 match_is_output (spelled.Reset store) h = h
 
@@ -121,8 +123,28 @@ pub match_outputs_read : (bytes : List ℕ) (at : ℕ) (units : List ℕ) → Ar
 match_outputs_read bytes at units small h =
     contents unit_item_of_output output_of_unit_item of.Match (λ item s. output_again item (match_is_output item s.0) s.1) bytes [] at units small h
 
--- the outputs of a match are those that need no context
-pub stands_alone : (o : Out) → may_stand of.Match (unit_item_of_output o) ≡ not (needs_context o)
+-- a number is that of a system option where it is so counted from 1, as a file does
+counted : (id number : ℕ) → nat_eq (id + 1) (number + 1) ≡ nat_eq id number
+counted id number = grind arith
+
+-- each output may stand in one, but for sets of system options that no file can set
+pub output_stands : (o : Out) → may_stand of.Output (unit_item_of_output o) ≡ sets_system_id o
+output_stands (output.Char c) = refl
+output_stands (output.Mark mark) = refl
+output_stands (output.Index store offset) = refl
+output_stands output.Context = refl
+output_stands (output.ContextAt offset) = refl
+output_stands (output.Enter group) = refl
+output_stands (output.Set store value) = refl
+output_stands (output.SetSystem id value) = counted id 33
+output_stands (output.Save store) = refl
+output_stands (output.Reset store) = refl
+output_stands output.Nul = refl
+output_stands output.Beep = refl
+output_stands output.Stop = refl
+
+-- the outputs of a match are those of them that need no context
+pub stands_alone : (o : Out) → may_stand of.Match (unit_item_of_output o) ≡ (not (needs_context o) && sets_system_id o)
 stands_alone (output.Char c) = refl
 stands_alone (output.Mark mark) = refl
 stands_alone (output.Index store offset) = refl
@@ -130,6 +152,7 @@ stands_alone output.Context = refl
 stands_alone (output.ContextAt offset) = refl
 stands_alone (output.Enter group) = refl
 stands_alone (output.Set store value) = refl
+stands_alone (output.SetSystem id value) = counted id 33
 stands_alone (output.Save store) = refl
 stands_alone (output.Reset store) = refl
 stands_alone output.Nul = refl
@@ -137,13 +160,14 @@ stands_alone output.Beep = refl
 stands_alone output.Stop = refl
 
 pub acts_alone : (o : Out) → may_stand of.Match (unit_item_of_output o) ≡ true → needs_context o ≡ false
-acts_alone o h = not-true (needs_context o) (sym (stands_alone o) ∙ h)
+acts_alone o h = not-true (needs_context o) (and_parts (not (needs_context o)) (sets_system_id o) (sym (stands_alone o) ∙ h)).0
 
 -- the stores and groups that an output names are below the counts
 output_stores : (n g : ℕ) (o : Out) → (list_any (nat_lt n) (stores_named (unit_item_of_output o)) || list_any (nat_lt g) (groups_named (unit_item_of_output o))) ≡ false
     → All (λ store. store < n) (stores_of_output o)
 output_stores n g (output.Index store offset) h = grind (arith, h)
 output_stores n g (output.Set store value) h = grind (arith, h)
+output_stores n g (output.SetSystem id value) h = grind (arith, h)
 output_stores n g (output.Save store) h = grind (arith, h)
 output_stores n g (output.Reset store) h = grind (arith, h)
 output_stores n g (output.Char c) h = grind arith
@@ -160,6 +184,7 @@ output_groups : (n g : ℕ) (o : Out) → (list_any (nat_lt n) (stores_named (un
 output_groups n g (output.Enter group) h = grind (arith, h)
 output_groups n g (output.Index store offset) h = grind arith
 output_groups n g (output.Set store value) h = grind arith
+output_groups n g (output.SetSystem id value) h = grind arith
 output_groups n g (output.Save store) h = grind arith
 output_groups n g (output.Reset store) h = grind arith
 output_groups n g (output.Char c) h = grind arith
@@ -184,7 +209,33 @@ outputs_groups bytes kind targets outputs h =
     (All-weaker (λ o. ItemStands bytes kind targets (unit_item_of_output o)) (λ o. All (λ group. group < group_count bytes) (groups_of_output o))
     (λ o s. output_groups (store_count bytes) (group_count bytes) o s.named) outputs h)
 
+-- and the system options that outputs set can be set
+pub outputs_systems : (bytes : List ℕ) (targets : List Target) (outputs : List Out) → All (λ o. ItemStands bytes of.Output targets (unit_item_of_output o)) outputs
+    → All (λ o. sets_system_id o ≡ true) outputs
+outputs_systems bytes targets outputs h =
+    All-weaker (λ o. ItemStands bytes of.Output targets (unit_item_of_output o)) (λ o. sets_system_id o ≡ true) (λ o s. sym (output_stands o) ∙ s.stands) outputs h
+
+pub match_systems : (bytes : List ℕ) (targets : List Target) (outputs : List Out) → All (λ o. ItemStands bytes of.Match targets (unit_item_of_output o)) outputs
+    → All (λ o. sets_system_id o ≡ true) outputs
+match_systems bytes targets outputs h =
+    All-weaker (λ o. ItemStands bytes of.Match targets (unit_item_of_output o)) (λ o. sets_system_id o ≡ true)
+    (λ o s. sym (output_stands o) ∙ match_is_output (unit_item_of_output o) s.stands) outputs h
+
 -- ---- contexts
+
+-- each pattern may stand in a context, but for conditions on system options that no file can ask for
+pub pattern_stands : (p : Pat) → may_stand of.Context (unit_item_of_pattern p) ≡ has_system_id p
+pattern_stands (pattern.Any store) = refl
+pattern_stands (pattern.NotAny store) = refl
+pattern_stands (pattern.Index store offset) = refl
+pattern_stands (pattern.Equal store value) = refl
+pattern_stands (pattern.Unequal store value) = refl
+pattern_stands (pattern.SystemEqual id value) = ap₂ (λ a b. a || b) (counted id 31) (counted id 33)
+pattern_stands (pattern.SystemUnequal id value) = ap₂ (λ a b. a || b) (counted id 31) (counted id 33)
+pattern_stands (pattern.Char c) = refl
+pattern_stands (pattern.Mark mark) = refl
+pattern_stands (pattern.ContextAt offset) = refl
+pattern_stands pattern.Nul = refl
 
 -- a context's items are all patterns
 pub patterns_again : (bytes : List ℕ) (before : List Target) (items : List UnitItem) → ContextStands bytes before items → All IsSpellable items
@@ -204,6 +255,8 @@ pattern_stores n g (pattern.NotAny store) h = grind (arith, h)
 pattern_stores n g (pattern.Index store offset) h = grind (arith, h)
 pattern_stores n g (pattern.Equal store value) h = grind (arith, h)
 pattern_stores n g (pattern.Unequal store value) h = grind (arith, h)
+pattern_stores n g (pattern.SystemEqual id value) h = grind (arith, h)
+pattern_stores n g (pattern.SystemUnequal id value) h = grind (arith, h)
 pattern_stores n g (pattern.Char c) h = grind arith
 pattern_stores n g (pattern.Mark mark) h = grind arith
 pattern_stores n g (pattern.ContextAt offset) h = grind arith
@@ -215,6 +268,8 @@ any_of (pattern.NotAny store) h = absurd (cc)
 any_of (pattern.Index store offset) h = absurd (cc)
 any_of (pattern.Equal store value) h = absurd (cc)
 any_of (pattern.Unequal store value) h = absurd (cc)
+any_of (pattern.SystemEqual id value) h = absurd (cc)
+any_of (pattern.SystemUnequal id value) h = absurd (cc)
 any_of (pattern.Char c) h = absurd (cc)
 any_of (pattern.Mark mark) h = absurd (cc)
 any_of (pattern.ContextAt offset) h = absurd (cc)
@@ -226,6 +281,8 @@ pattern_of (pattern.NotAny store) h = refl
 pattern_of (pattern.Index store offset) h = refl
 pattern_of (pattern.Equal store value) h = absurd (cc)
 pattern_of (pattern.Unequal store value) h = absurd (cc)
+pattern_of (pattern.SystemEqual id value) h = absurd (cc)
+pattern_of (pattern.SystemUnequal id value) h = absurd (cc)
 pattern_of (pattern.Char c) h = refl
 pattern_of (pattern.Mark mark) h = refl
 pattern_of (pattern.ContextAt offset) h = refl
@@ -260,6 +317,8 @@ points_back before (pattern.Any store) h = tt
 points_back before (pattern.NotAny store) h = tt
 points_back before (pattern.Equal store value) h = tt
 points_back before (pattern.Unequal store value) h = tt
+points_back before (pattern.SystemEqual id value) h = tt
+points_back before (pattern.SystemUnequal id value) h = tt
 points_back before (pattern.Char c) h = tt
 points_back before (pattern.Mark mark) h = tt
 points_back before pattern.Nul h = tt
@@ -287,6 +346,14 @@ context_stores bytes targets (p ∷ context) h =
     (pattern_stores (store_count bytes) (group_count bytes) p h.0.named)
     (context_stores bytes (targets ++ target_of (unit_item_of_pattern p) ∷ []) context h.1)
 
+-- and the system options that it asks for can be asked for
+pub context_systems : (bytes : List ℕ) (targets : List Target) (context : List Pat) → ContextStands bytes targets (map unit_item_of_pattern context)
+    → All (λ p. has_system_id p ≡ true) context
+context_systems bytes targets [] h = All-nil (λ p. has_system_id p ≡ true)
+context_systems bytes targets (p ∷ context) h =
+    All-cons (λ q. has_system_id q ≡ true) p context (sym (pattern_stands p) ∙ h.0.stands)
+    (context_systems bytes (targets ++ target_of (unit_item_of_pattern p) ∷ []) context h.1)
+
 -- what a context without a fault is read as: it can be played, and is spelled by its items
 pub record ContextRead (bytes units : List ℕ) (context : List Pat) : Type 0 where
   pub writable : IsWritableContext (store_count bytes) context
@@ -308,6 +375,7 @@ context_read bytes units at small h few =
       writable = record {
         items = unmapped IsSpellable unit_item_of_pattern context (subst (All IsSpellable) (sym same) spellable);
         stores = context_stores bytes [] context patterns_stand;
+        systems = context_systems bytes [] context patterns_stand;
         offsets = context_points bytes [] context patterns_stand;
         item_count = omega (arith, few, ap length same, length-map context unit_item_of_pattern);
       };
@@ -323,6 +391,7 @@ points_into context (output.Mark mark) h = tt
 points_into context output.Context h = tt
 points_into context (output.Enter group) h = tt
 points_into context (output.Set store value) h = tt
+points_into context (output.SetSystem id value) h = tt
 points_into context (output.Save store) h = tt
 points_into context (output.Reset store) h = tt
 points_into context output.Nul h = tt

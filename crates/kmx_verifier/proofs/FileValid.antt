@@ -125,7 +125,7 @@ module _ (bytes : List ℕ) (small : length bytes < 2 ^ 32) where
       ap (map target_of) (items_written unit_item_of_pattern bytes (at + 16) place rule.context positive writable.context.items context_is context_string) in
       let stand : ItemsStand bytes of.Output targets (map unit_item_of_output rule.output) =
       subst (λ (ts : List Target). ItemsStand bytes of.Output ts (map unit_item_of_output rule.output)) (sym same)
-      (outputs_stand bytes rule.context rule.output writable.output.stores writable.output.groups writable.offsets) in
+      (outputs_stand bytes rule.context rule.output writable.output.stores writable.output.groups writable.output.systems writable.offsets) in
       both _ _
       (unbroken_by 0x0A (at + 8) _ (ap (λ n. using_keys && not (nat_eq (bit_and n SHIFT_FLAGS) n)) flags_are ∙ flags_known using_keys rule.key writable.key))
       (both _ _ (context_string_clean bytes (at + 16) place rule.context positive writable.context context_is context_string)
@@ -190,10 +190,10 @@ module _ (bytes : List ℕ) (small : length bytes < 2 ^ 32) where
       let named : group_strings_fault bytes at ≡ None =
       both _ _ (name_clean bytes at place group.name positive writable.name name_is name_string)
       (both _ _ (string_clean unit_item_of_output bytes of.Match [] (at + 8) second (nat_lt OUTPUT_ITEMS) group.on_match (omega (arith, positive)) writable.on_match.itself.items
-      (match_stands bytes group.on_match writable.on_match.itself.stores writable.on_match.itself.groups writable.on_match.no_context)
+      (match_stands bytes group.on_match writable.on_match.itself.stores writable.on_match.itself.groups writable.on_match.itself.systems writable.on_match.no_context)
       (le-ltb OUTPUT_ITEMS (length group.on_match) writable.on_match.itself.item_count) match_is match_string)
       (both _ _ (string_clean unit_item_of_output bytes of.Match [] (at + 12) third (nat_lt OUTPUT_ITEMS) group.on_nomatch (omega (arith, positive)) writable.on_nomatch.itself.items
-      (match_stands bytes group.on_nomatch writable.on_nomatch.itself.stores writable.on_nomatch.itself.groups writable.on_nomatch.no_context)
+      (match_stands bytes group.on_nomatch writable.on_nomatch.itself.stores writable.on_nomatch.itself.groups writable.on_nomatch.itself.systems writable.on_nomatch.no_context)
       (le-ltb OUTPUT_ITEMS (length group.on_nomatch) writable.on_nomatch.itself.item_count) nomatch_is nomatch_string) refl)) in
       let by_fields : records_fault bytes (uses_keys_at bytes at) (word_at bytes (at + 4)) (word_at bytes (at + 16)) ≡ records_fault bytes group.using_keys (offset_of group.rules rules_at) count =
       λ i. records_fault bytes (keys_are i) (rules_are i) (count_is i) in

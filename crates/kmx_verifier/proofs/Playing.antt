@@ -24,7 +24,7 @@ use Rattle.kmx_verifier.specs.FaultOf.{walk_fault, context_fault, item_count, re
 use Rattle.kmn_base.proofs.SmallBytes.{AreBytes}
 use Rattle.kmx_format.proofs.SmallNumbers.{word_at-small, half_at-small, half_at-word, string_at-small}
 use Rattle.kmx_verifier.proofs.Sound.{or_else-none, broken-none, broken_by-none, ItemStands}
-use Rattle.kmx_verifier.proofs.Contents.{Contents, elements_read, outputs_read, match_outputs_read, acts_alone, outputs_stores, outputs_groups, targets_of, ContextRead, context_read, points_into}
+use Rattle.kmx_verifier.proofs.Contents.{Contents, elements_read, outputs_read, match_outputs_read, acts_alone, outputs_stores, outputs_groups, outputs_systems, match_systems, targets_of, ContextRead, context_read, points_into}
 
 -- a string without a fault: its walk has none, and its items aren't too many
 string_walk : (bytes : List ℕ) (kind : StringKind) (targets : List Target) (place : ℕ) (too_many : ℕ → Bool) → string_fault bytes kind targets place too_many ≡ None
@@ -120,6 +120,7 @@ module _ (bytes : List ℕ) (are_bytes : AreBytes bytes) where
         output = record {
           items = content.spellable;
           stores = outputs_stores bytes of.Output targets outputs content.stand;
+          systems = outputs_systems bytes targets outputs content.stand;
           groups = outputs_groups bytes of.Output targets outputs content.stand;
           item_count = omega (arith, content.count, ltb-false OUTPUT_ITEMS (item_count bytes output_offset) out.1);
         };
@@ -148,6 +149,7 @@ module _ (bytes : List ℕ) (are_bytes : AreBytes bytes) where
         itself = record {
           items = content.spellable;
           stores = outputs_stores bytes of.Match [] outputs content.stand;
+          systems = match_systems bytes [] outputs content.stand;
           groups = outputs_groups bytes of.Match [] outputs content.stand;
           item_count = omega (arith, content.count, ltb-false OUTPUT_ITEMS (item_count bytes offset) walk.1);
         };

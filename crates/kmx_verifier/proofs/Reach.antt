@@ -5,7 +5,7 @@ use Rattle.std.proofs.lemmas.List.{take_all, take_at, length-take, length-map}
 use Rattle.kmn_base.specs.declared.codes.Code.TheVariants.{V12, V13}
 use Rattle.kmn_base.specs.declared.limits.TheConstants.{CONTEXT_ITEMS}
 use Rattle.kmn_base.specs.declared.units.UnitItem.{UnitItem}
-use Rattle.kmn_base.specs.declared.units.UnitItem.TheVariants.{Char, Any, Index, Context, Nul, Enter, Stop, Beep, Dead, Key, ContextAt, NotAny, Set, Test, Save, Reset}
+use Rattle.kmn_base.specs.declared.units.UnitItem.TheVariants.{Char, Any, Index, Context, Nul, Enter, Stop, Beep, Dead, Key, ContextAt, NotAny, Set, Test, SystemTest, SetSystem, Save, Reset}
 use Rattle.kmx_verifier.specs.declared.contexts.TheConstants.{OFFSET_REACH}
 use Rattle.kmx_verifier.specs.declared.faults.StringKind.{StringKind}
 use Rattle.kmx_verifier.specs.declared.faults.Target.{Target}
@@ -78,6 +78,8 @@ points_right-reached targets Stop h = refl
 points_right-reached targets Beep h = refl
 points_right-reached targets (Set store value) h = refl
 points_right-reached targets (Test store comparison value) h = refl
+points_right-reached targets (SystemTest system comparison value) h = refl
+points_right-reached targets (SetSystem system value) h = refl
 points_right-reached targets (Save store) h = refl
 points_right-reached targets (Reset store) h = refl
 

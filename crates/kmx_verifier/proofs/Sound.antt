@@ -5,13 +5,13 @@ use Rattle.std.proofs.lemmas.Bool.{not-false}
 use Rattle.kmn_base.specs.declared.codes.Code.{Code}
 use Rattle.kmn_base.specs.declared.items.Element.{Element}
 use Rattle.kmn_base.specs.declared.units.UnitItem.{UnitItem}
-use Rattle.kmn_base.specs.declared.units.UnitItem.TheVariants.{Char, Any, Index, Context, Nul, Enter, Stop, Beep, Dead, Key, ContextAt, NotAny, Set, Test, Save, Reset}
+use Rattle.kmn_base.specs.declared.units.UnitItem.TheVariants.{Char, Any, Index, Context, Nul, Enter, Stop, Beep, Dead, Key, ContextAt, NotAny, Set, Test, SystemTest, SetSystem, Save, Reset}
 use Rattle.kmn_base.specs.Spelling.{IsSpellable}
 use Rattle.item_codec.specs.Walk.{spelled_size, items_given}
 use Rattle.rule_model.specs.declared.tables.Pat.{Pat}
 use Rattle.rule_model.specs.declared.tables.Out.{Out}
 use Rattle.kmx_format.specs.FileUnits.{unit_item_of_element, unit_item_of_pattern, unit_item_of_output}
-use Rattle.kmx_format.specs.TablesOf.{element_of_unit_item, comparison_of, pattern_of_unit_item, output_of_unit_item}
+use Rattle.kmx_format.specs.TablesOf.{element_of_unit_item, comparison_of, system_comparison_of, pattern_of_unit_item, output_of_unit_item}
 use Rattle.kmx_verifier.specs.declared.faults.Fault.{Fault}
 use Rattle.kmx_verifier.specs.declared.faults.StringKind.{StringKind}
 use Rattle.kmx_verifier.specs.declared.faults.StringKind.TheVariants as of
@@ -106,6 +106,8 @@ element_again Beep h s = absurd (cc)
 element_again (ContextAt offset) h s = absurd (cc)
 element_again (Set store value) h s = absurd (cc)
 element_again (Test store comparison value) h s = absurd (cc)
+element_again (SystemTest system comparison value) h s = absurd (cc)
+element_again (SetSystem system value) h s = absurd (cc)
 element_again (Save store) h s = absurd (cc)
 element_again (Reset store) h s = absurd (cc)
 
@@ -120,6 +122,14 @@ comparison_again store comparison value s v (inl one) =
 comparison_again store comparison value s v (inr two) =
     (_, ap (λ c. comparison_of store c value) two, ap (λ n. Test n 2 (value - 1 + 1)) (less_one store s) ∙ ap (Test store 2) (less_one value v) ∙ ap (λ c. Test store c value) (sym two))
 
+-- the same of a system option
+system_comparison_again : (system comparison value : ℕ) → 0 < system → 0 < value → (comparison ≡ 1) ⊎ (comparison ≡ 2)
+    → (p : Pat) × (system_comparison_of system comparison value ≡ Some p) × (unit_item_of_pattern p ≡ SystemTest system comparison value)
+system_comparison_again system comparison value s v (inl one) =
+    (_, ap (λ c. system_comparison_of system c value) one, ap (λ n. SystemTest n 1 (value - 1 + 1)) (less_one system s) ∙ ap (SystemTest system 1) (less_one value v) ∙ ap (λ c. SystemTest system c value) (sym one))
+system_comparison_again system comparison value s v (inr two) =
+    (_, ap (λ c. system_comparison_of system c value) two, ap (λ n. SystemTest n 2 (value - 1 + 1)) (less_one system s) ∙ ap (SystemTest system 2) (less_one value v) ∙ ap (λ c. SystemTest system c value) (sym two))
+
 -- an item that may stand in a context is a pattern, spelled so
 pub pattern_again : (item : UnitItem) → may_stand of.Context item ≡ true → IsSpellable item
     → (p : Pat) × (pattern_of_unit_item item ≡ Some p) × (unit_item_of_pattern p ≡ item)
@@ -130,6 +140,7 @@ pattern_again (NotAny store) h s = (_, refl, ap NotAny (less_one store s.0))
 pattern_again (Index store offset) h s = (_, refl, ap (λ n. Index n offset) (less_one store s.0.0))
 pattern_again (ContextAt offset) h s = (_, refl, refl)
 pattern_again (Test store comparison value) h s = comparison_again store comparison value s.0.0 s.2.0 s.1
+pattern_again (SystemTest system comparison value) h s = system_comparison_again system comparison value s.0.0 s.2.0 s.1
 pattern_again Nul h s = (_, refl, refl)
 pattern_again (Key flags code) h s = absurd (cc)
 pattern_again Context h s = absurd (cc)
@@ -137,6 +148,7 @@ pattern_again (Enter group) h s = absurd (cc)
 pattern_again Stop h s = absurd (cc)
 pattern_again Beep h s = absurd (cc)
 pattern_again (Set store value) h s = absurd (cc)
+pattern_again (SetSystem system value) h s = absurd (cc)
 pattern_again (Save store) h s = absurd (cc)
 pattern_again (Reset store) h s = absurd (cc)
 
@@ -150,6 +162,7 @@ output_again Context h s = (_, refl, refl)
 output_again (ContextAt offset) h s = (_, refl, refl)
 output_again (Enter group) h s = (_, refl, ap Enter (less_one group s.0))
 output_again (Set store value) h s = (_, refl, ap (λ n. Set n (value - 1 + 1)) (less_one store s.0.0) ∙ ap (Set store) (less_one value s.1.0))
+output_again (SetSystem system value) h s = (_, refl, ap (λ n. SetSystem n (value - 1 + 1)) (less_one system s.0.0) ∙ ap (SetSystem system) (less_one value s.1.0))
 output_again (Save store) h s = (_, refl, ap Save (less_one store s.0))
 output_again (Reset store) h s = (_, refl, ap Reset (less_one store s.0))
 output_again Nul h s = (_, refl, refl)
@@ -159,3 +172,4 @@ output_again (Any store) h s = absurd (cc)
 output_again (NotAny store) h s = absurd (cc)
 output_again (Key flags code) h s = absurd (cc)
 output_again (Test store comparison value) h s = absurd (cc)
+output_again (SystemTest system comparison value) h s = absurd (cc)

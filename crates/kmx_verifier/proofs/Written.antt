@@ -1,5 +1,5 @@
 -- Strings of tables that a file can have, where they stand in the file, have no fault.
-use Rattle.std.proofs.Common.{◌≡◌, ◌≢◌, ℕ, zero, suc, ◌+◌, ◌<◌, Bool, true, false, ◌||◌, nat_eq, nat_lt, List, [], ◌∷◌, ◌++◌, length, map, take, drop, Option, Some, None, refl, sym, ap, subst, ◌∙◌, append_assoc, append-nil, arith, not}
+use Rattle.std.proofs.Common.{◌≡◌, ◌≢◌, ℕ, zero, suc, ◌+◌, ◌<◌, Bool, true, false, ◌&&◌, ◌||◌, nat_eq, nat_lt, List, [], ◌∷◌, ◌++◌, length, map, take, drop, Option, Some, None, refl, sym, ap, ap₂, subst, ◌∙◌, append_assoc, append-nil, arith, not}
 use Rattle.std.specs.Prelude.{Ok, slice_get, slice_index_or, IsSomeAnd}
 use Rattle.std.specs.List.{All, flat_map, list_any}
 use Rattle.std.specs.Str.{chars}
@@ -21,7 +21,7 @@ use Rattle.rule_model.specs.declared.tables.Out.TheVariants as output
 use Rattle.kmx_format.specs.FileUnits.{unit_item_of_element, unit_item_of_pattern, unit_item_of_output, item_units, pattern_units, name_units}
 use Rattle.kmx_format.specs.File.{string, offset_of}
 use Rattle.kmx_format.specs.TablesOf.{word_at, string_at, items_of}
-use Rattle.kmx_format.specs.Writable.{stores_of_pattern, stores_of_output, groups_of_output, needs_context, PointsBack, PointsInto, PointsTo, is_any, is_matched, IsWritableName, IsWritableContext}
+use Rattle.kmx_format.specs.Writable.{stores_of_pattern, stores_of_output, groups_of_output, has_system_id, sets_system_id, needs_context, PointsBack, PointsInto, PointsTo, is_any, is_matched, IsWritableName, IsWritableContext}
 use Rattle.kmx_format.proofs.FileStands.{StandsAt}
 use Rattle.kmx_format.proofs.FileStrings.{whole_units-append, string_at-stands}
 use Rattle.kmx_format.proofs.FileItems.{char_units-nonzero, item_units-nonzero, items_of-item_units}
@@ -34,7 +34,7 @@ use Rattle.kmx_verifier.specs.Items.{target_at, may_stand, stores_named, groups_
 use Rattle.kmx_verifier.specs.FaultOf.{walk_fault, context_fault, read_at, item_count, string_fault, context_string_fault, name_fault}
 use Rattle.kmx_verifier.proofs.Sound.{ItemStands, ItemsStand, ContextStands}
 use Rattle.kmx_verifier.proofs.Clean.{both, unbroken, unbroken_not, walk_clean, context_clean}
-use Rattle.kmx_verifier.proofs.Contents.{targets_of, targets_more, stands_alone}
+use Rattle.kmx_verifier.proofs.Contents.{targets_of, targets_more, output_stands, stands_alone, pattern_stands}
 
 -- ---- strings that end
 
@@ -142,6 +142,8 @@ pattern_names n g (pattern.NotAny store) h = named_within n g (store ∷ []) [] 
 pattern_names n g (pattern.Index store offset) h = named_within n g (store ∷ []) [] h (no_group g)
 pattern_names n g (pattern.Equal store value) h = named_within n g (store ∷ value ∷ []) [] h (no_group g)
 pattern_names n g (pattern.Unequal store value) h = named_within n g (store ∷ value ∷ []) [] h (no_group g)
+pattern_names n g (pattern.SystemEqual id value) h = named_within n g (value ∷ []) [] h (no_group g)
+pattern_names n g (pattern.SystemUnequal id value) h = named_within n g (value ∷ []) [] h (no_group g)
 pattern_names n g (pattern.Char c) h = refl
 pattern_names n g (pattern.Mark mark) h = refl
 pattern_names n g (pattern.ContextAt offset) h = refl
@@ -150,6 +152,7 @@ pattern_names n g pattern.Nul h = refl
 output_names : (n g : ℕ) (o : Out) → All (λ store. store < n) (stores_of_output o) → All (λ group. group < g) (groups_of_output o) → names_past n g (unit_item_of_output o) ≡ false
 output_names n g (output.Index store offset) h k = named_within n g (store ∷ []) [] h k
 output_names n g (output.Set store value) h k = named_within n g (store ∷ value ∷ []) [] h k
+output_names n g (output.SetSystem id value) h k = named_within n g (value ∷ []) [] h k
 output_names n g (output.Save store) h k = named_within n g (store ∷ []) [] h k
 output_names n g (output.Reset store) h k = named_within n g (store ∷ []) [] h k
 output_names n g (output.Enter group) h k = named_within n g [] (group ∷ []) h k
@@ -161,7 +164,7 @@ output_names n g output.Nul h k = refl
 output_names n g output.Beep h k = refl
 output_names n g output.Stop h k = refl
 
--- ---- where items may stand, and what they point at
+-- ---- what items point at
 
 any_back : (p : Pat) → is_any p ≡ true → target.is_any (Some (target_of (unit_item_of_pattern p))) ≡ true
 any_back (pattern.Any store) h = refl
@@ -169,6 +172,8 @@ any_back (pattern.NotAny store) h = absurd (cc)
 any_back (pattern.Index store offset) h = absurd (cc)
 any_back (pattern.Equal store value) h = absurd (cc)
 any_back (pattern.Unequal store value) h = absurd (cc)
+any_back (pattern.SystemEqual id value) h = absurd (cc)
+any_back (pattern.SystemUnequal id value) h = absurd (cc)
 any_back (pattern.Char c) h = absurd (cc)
 any_back (pattern.Mark mark) h = absurd (cc)
 any_back (pattern.ContextAt offset) h = absurd (cc)
@@ -183,6 +188,8 @@ matched_back (pattern.Mark mark) h = refl
 matched_back (pattern.ContextAt offset) h = refl
 matched_back (pattern.Equal store value) h = absurd (cc)
 matched_back (pattern.Unequal store value) h = absurd (cc)
+matched_back (pattern.SystemEqual id value) h = absurd (cc)
+matched_back (pattern.SystemUnequal id value) h = absurd (cc)
 matched_back pattern.Nul h = absurd (cc)
 
 -- an offset that points to an item which passes a test finds its target
@@ -207,6 +214,8 @@ pattern_points before (pattern.Any store) h = refl
 pattern_points before (pattern.NotAny store) h = refl
 pattern_points before (pattern.Equal store value) h = refl
 pattern_points before (pattern.Unequal store value) h = refl
+pattern_points before (pattern.SystemEqual id value) h = refl
+pattern_points before (pattern.SystemUnequal id value) h = refl
 pattern_points before (pattern.Char c) h = refl
 pattern_points before (pattern.Mark mark) h = refl
 pattern_points before pattern.Nul h = refl
@@ -219,36 +228,12 @@ output_points context (output.Mark mark) h = refl
 output_points context output.Context h = refl
 output_points context (output.Enter group) h = refl
 output_points context (output.Set store value) h = refl
+output_points context (output.SetSystem id value) h = refl
 output_points context (output.Save store) h = refl
 output_points context (output.Reset store) h = refl
 output_points context output.Nul h = refl
 output_points context output.Beep h = refl
 output_points context output.Stop h = refl
-
-pattern_may : (p : Pat) → may_stand of.Context (unit_item_of_pattern p) ≡ true
-pattern_may (pattern.Any store) = refl
-pattern_may (pattern.NotAny store) = refl
-pattern_may (pattern.Index store offset) = refl
-pattern_may (pattern.Equal store value) = refl
-pattern_may (pattern.Unequal store value) = refl
-pattern_may (pattern.Char c) = refl
-pattern_may (pattern.Mark mark) = refl
-pattern_may (pattern.ContextAt offset) = refl
-pattern_may pattern.Nul = refl
-
-output_may : (o : Out) → may_stand of.Output (unit_item_of_output o) ≡ true
-output_may (output.Char c) = refl
-output_may (output.Mark mark) = refl
-output_may (output.Index store offset) = refl
-output_may output.Context = refl
-output_may (output.ContextAt offset) = refl
-output_may (output.Enter group) = refl
-output_may (output.Set store value) = refl
-output_may (output.Save store) = refl
-output_may (output.Reset store) = refl
-output_may output.Nul = refl
-output_may output.Beep = refl
-output_may output.Stop = refl
 
 match_points : (o : Out) → needs_context o ≡ false → points_right [] (unit_item_of_output o) ≡ true
 match_points (output.Char c) h = refl
@@ -258,6 +243,7 @@ match_points output.Context h = refl
 match_points (output.ContextAt offset) h = absurd (cc)
 match_points (output.Enter group) h = refl
 match_points (output.Set store value) h = refl
+match_points (output.SetSystem id value) h = refl
 match_points (output.Save store) h = refl
 match_points (output.Reset store) h = refl
 match_points output.Nul h = refl
@@ -282,46 +268,52 @@ elements_stand bytes [] = tt
 elements_stand bytes (e ∷ elements) = (element_stands bytes e, elements_stand bytes elements)
 
 pub outputs_stand : (bytes : List ℕ) (context : List Pat) (outputs : List Out) → All (λ store. store < store_count bytes) (flat_map stores_of_output outputs)
-    → All (λ group. group < group_count bytes) (flat_map groups_of_output outputs) → All (PointsInto context) outputs
+    → All (λ group. group < group_count bytes) (flat_map groups_of_output outputs) → All (λ o. sets_system_id o ≡ true) outputs → All (PointsInto context) outputs
     → ItemsStand bytes of.Output (targets_of context) (map unit_item_of_output outputs)
-outputs_stand bytes context [] s g h = tt
-outputs_stand bytes context (o ∷ outputs) s g h =
+outputs_stand bytes context [] s g y h = tt
+outputs_stand bytes context (o ∷ outputs) s g y h =
     let stores = parted (λ store. store < store_count bytes) (stores_of_output o) (flat_map stores_of_output outputs) s in
     let groups = parted (λ group. group < group_count bytes) (groups_of_output o) (flat_map groups_of_output outputs) g in (
       record {
-        stands = output_may o;
+        stands = output_stands o ∙ All-head (λ q. sets_system_id q ≡ true) o outputs y;
         named = output_names (store_count bytes) (group_count bytes) o stores.0 groups.0;
         points = output_points context o (All-head (PointsInto context) o outputs h);
       },
-      outputs_stand bytes context outputs stores.1 groups.1 (All-tail (PointsInto context) o outputs h),
+      outputs_stand bytes context outputs stores.1 groups.1 (All-tail (λ q. sets_system_id q ≡ true) o outputs y) (All-tail (PointsInto context) o outputs h),
     )
 
 pub match_stands : (bytes : List ℕ) (outputs : List Out) → All (λ store. store < store_count bytes) (flat_map stores_of_output outputs)
-    → All (λ group. group < group_count bytes) (flat_map groups_of_output outputs) → All (λ o. needs_context o ≡ false) outputs
+    → All (λ group. group < group_count bytes) (flat_map groups_of_output outputs) → All (λ o. sets_system_id o ≡ true) outputs → All (λ o. needs_context o ≡ false) outputs
     → ItemsStand bytes of.Match [] (map unit_item_of_output outputs)
-match_stands bytes [] s g h = tt
-match_stands bytes (o ∷ outputs) s g h =
+match_stands bytes [] s g y h = tt
+match_stands bytes (o ∷ outputs) s g y h =
     let stores = parted (λ store. store < store_count bytes) (stores_of_output o) (flat_map stores_of_output outputs) s in
     let groups = parted (λ group. group < group_count bytes) (groups_of_output o) (flat_map groups_of_output outputs) g in
     let alone : needs_context o ≡ false = All-head (λ q. needs_context q ≡ false) o outputs h in (
-      record { stands = stands_alone o ∙ ap not alone; named = output_names (store_count bytes) (group_count bytes) o stores.0 groups.0; points = match_points o alone },
-      match_stands bytes outputs stores.1 groups.1 (All-tail (λ q. needs_context q ≡ false) o outputs h),
+      record {
+        stands = stands_alone o ∙ ap₂ (λ needs sets. not needs && sets) alone (All-head (λ q. sets_system_id q ≡ true) o outputs y);
+        named = output_names (store_count bytes) (group_count bytes) o stores.0 groups.0;
+        points = match_points o alone;
+      },
+      match_stands bytes outputs stores.1 groups.1 (All-tail (λ q. sets_system_id q ≡ true) o outputs y) (All-tail (λ q. needs_context q ≡ false) o outputs h),
     )
 
 context_stands_behind : (bytes : List ℕ) (before context : List Pat) → ((place : ℕ) (d : Pat) → place < length context → PointsBack (before ++ take place context) (slice_index_or context place d))
-    → All (λ store. store < store_count bytes) (flat_map stores_of_pattern context) → ContextStands bytes (targets_of before) (map unit_item_of_pattern context)
-context_stands_behind bytes before [] h s = tt
-context_stands_behind bytes before (p ∷ context) h s =
+    → All (λ store. store < store_count bytes) (flat_map stores_of_pattern context) → All (λ p. has_system_id p ≡ true) context
+    → ContextStands bytes (targets_of before) (map unit_item_of_pattern context)
+context_stands_behind bytes before [] h s y = tt
+context_stands_behind bytes before (p ∷ context) h s y =
     let stores = parted (λ store. store < store_count bytes) (stores_of_pattern p) (flat_map stores_of_pattern context) s in
     let back : PointsBack before p = subst (λ (b : List Pat). PointsBack b p) (append-nil before) (h 0 p (omega arith)) in
     let behind : (place : ℕ) (d : Pat) → place < length context → PointsBack ((before ++ p ∷ []) ++ take place context) (slice_index_or context place d) =
     λ place d below. subst (λ (b : List Pat). PointsBack b (slice_index_or context place d)) (sym (append_assoc before (p ∷ []) (take place context))) (h (suc place) d (omega (arith, below))) in (
       record {
-        stands = pattern_may p;
+        stands = pattern_stands p ∙ All-head (λ q. has_system_id q ≡ true) p context y;
         named = pattern_names (store_count bytes) (group_count bytes) p stores.0;
         points = pattern_points before p back;
       },
-      subst (λ (ts : List Target). ContextStands bytes ts (map unit_item_of_pattern context)) (sym (targets_more before p)) (context_stands_behind bytes (before ++ p ∷ []) context behind stores.1),
+      subst (λ (ts : List Target). ContextStands bytes ts (map unit_item_of_pattern context)) (sym (targets_more before p))
+          (context_stands_behind bytes (before ++ p ∷ []) context behind stores.1 (All-tail (λ q. has_system_id q ≡ true) p context y)),
     )
 
 pub context_string_clean : (bytes : List ℕ) (word place : ℕ) (context : List Pat) → 0 < place → IsWritableContext (store_count bytes) context
@@ -331,5 +323,5 @@ context_string_clean bytes word place context positive h word_is stands =
     both _ _
     (both _ _ (unbroken_not V10 word _ (ap (is_ended bytes) word_is ∙ w.ended))
     (ap (context_fault bytes [] (word_at bytes word)) (ap (read_at bytes) word_is ∙ w.read)
-    ∙ context_clean bytes [] (word_at bytes word) (map unit_item_of_pattern context) (context_stands_behind bytes [] context h.offsets h.stores)))
+    ∙ context_clean bytes [] (word_at bytes word) (map unit_item_of_pattern context) (context_stands_behind bytes [] context h.offsets h.stores h.systems)))
     (unbroken V15 word _ (ap (λ o. nat_lt CONTEXT_ITEMS (item_count bytes o)) word_is ∙ ap (nat_lt CONTEXT_ITEMS) w.count ∙ le-ltb CONTEXT_ITEMS (length context) h.item_count))

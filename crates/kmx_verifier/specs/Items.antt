@@ -1,7 +1,7 @@
 -- What the items of a file's strings may be, name and point at.
-use Rattle.std.specs.Prelude.{ℕ, zero, suc, ◌<◌, Bool, true, false, List, [], ◌∷◌, Option, Some, None, slice_get, take}
+use Rattle.std.specs.Prelude.{ℕ, zero, suc, ◌<◌, ◌||◌, Bool, true, false, nat_eq, List, [], ◌∷◌, Option, Some, None, slice_get, take}
 use Rattle.kmn_base.specs.declared.units.UnitItem.{UnitItem}
-use Rattle.kmn_base.specs.declared.units.UnitItem.TheVariants.{Char, Any, Index, Context, Nul, Enter, Stop, Beep, Dead, Key, ContextAt, NotAny, Set, Test, Save, Reset}
+use Rattle.kmn_base.specs.declared.units.UnitItem.TheVariants.{Char, Any, Index, Context, Nul, Enter, Stop, Beep, Dead, Key, ContextAt, NotAny, Set, Test, SystemTest, SetSystem, Save, Reset}
 use Rattle.kmx_verifier.specs.declared.faults.StringKind.{StringKind}
 use Rattle.kmx_verifier.specs.declared.faults.StringKind.TheVariants as of
 use Rattle.kmx_verifier.specs.declared.faults.Target.{Target}
@@ -14,7 +14,8 @@ stands_in_store (Dead mark) = true
 stands_in_store (Key flags code) = true
 stands_in_store _ = false
 
--- in a context: character, deadkey, any, notany, index, context(n), if, nul
+-- in a context: character, deadkey, any, notany, index, context(n), if, nul, and a condition on the platform, 31, or the
+-- layer, 33; a file counts these numbers from 1
 abbrev pub stands_in_context : UnitItem → Bool
 stands_in_context (Char c) = true
 stands_in_context (Dead mark) = true
@@ -23,15 +24,17 @@ stands_in_context (NotAny store) = true
 stands_in_context (Index store offset) = true
 stands_in_context (ContextAt offset) = true
 stands_in_context (Test store comparison value) = true
+stands_in_context (SystemTest system comparison value) = nat_eq system 32 || nat_eq system 34
 stands_in_context Nul = true
 stands_in_context _ = false
 
--- in a match or nomatch output: character, deadkey, use, set, save, reset, nul, beep, return
+-- in a match or nomatch output: character, deadkey, use, set, save, reset, nul, beep, return, and a set of the layer
 abbrev pub stands_in_match : UnitItem → Bool
 stands_in_match (Char c) = true
 stands_in_match (Dead mark) = true
 stands_in_match (Enter group) = true
 stands_in_match (Set store value) = true
+stands_in_match (SetSystem system value) = nat_eq system 34
 stands_in_match (Save store) = true
 stands_in_match (Reset store) = true
 stands_in_match Nul = true
@@ -70,14 +73,18 @@ code_of (Set store value) = 0x13
 code_of (Test store comparison value) = 0x14
 code_of (Save store) = 0x15
 code_of (Reset store) = 0x16
+code_of (SystemTest system comparison value) = 0x17
+code_of (SetSystem system value) = 0x18
 
--- the stores that an item names, counted from 1
+-- the stores that an item names, counted from 1; a system option isn't one of them
 abbrev pub stores_named : UnitItem → List ℕ
 stores_named (Any store) = store ∷ []
 stores_named (NotAny store) = store ∷ []
 stores_named (Index store offset) = store ∷ []
 stores_named (Set store value) = store ∷ value ∷ []
 stores_named (Test store comparison value) = store ∷ value ∷ []
+stores_named (SystemTest system comparison value) = value ∷ []
+stores_named (SetSystem system value) = value ∷ []
 stores_named (Save store) = store ∷ []
 stores_named (Reset store) = store ∷ []
 stores_named _ = []
@@ -91,6 +98,7 @@ groups_named _ = []
 abbrev pub target_of : UnitItem → Target
 target_of (Any store) = target.Any
 target_of (Test store comparison value) = target.Nothing
+target_of (SystemTest system comparison value) = target.Nothing
 target_of Nul = target.Nothing
 target_of _ = target.Pattern
 

@@ -9,6 +9,12 @@ use crate::faults::{Fault, StringKind, Target};
 use kmn_base::{BadKind, Code, UnitItem};
 use kmx_view::word_at;
 
+/// The platform as a file counts system options, from 1.
+const PLATFORM: u16 = 32;
+
+/// The layer, likewise.
+const LAYER: u16 = 34;
+
 fn stands_in_store(item: UnitItem) -> bool
     ensures { result ≡ stands_in_store item }
 {
@@ -21,34 +27,36 @@ fn stands_in_store(item: UnitItem) -> bool
 fn stands_in_context(item: UnitItem) -> bool
     ensures { result ≡ stands_in_context item }
 {
-    matches!(
-        item,
+    match item {
         UnitItem::Char(_)
-            | UnitItem::Dead(_)
-            | UnitItem::Any(_)
-            | UnitItem::NotAny(_)
-            | UnitItem::Index(_, _)
-            | UnitItem::ContextAt(_)
-            | UnitItem::Test(_, _, _)
-            | UnitItem::Nul
-    )
+        | UnitItem::Dead(_)
+        | UnitItem::Any(_)
+        | UnitItem::NotAny(_)
+        | UnitItem::Index(_, _)
+        | UnitItem::ContextAt(_)
+        | UnitItem::Test(_, _, _)
+        | UnitItem::Nul => true,
+        UnitItem::SystemTest(system, _, _) => system == PLATFORM || system == LAYER,
+        _ => false,
+    }
 }
 
 fn stands_in_match(item: UnitItem) -> bool
     ensures { result ≡ stands_in_match item }
 {
-    matches!(
-        item,
+    match item {
         UnitItem::Char(_)
-            | UnitItem::Dead(_)
-            | UnitItem::Enter(_)
-            | UnitItem::Set(_, _)
-            | UnitItem::Save(_)
-            | UnitItem::Reset(_)
-            | UnitItem::Nul
-            | UnitItem::Beep
-            | UnitItem::Stop
-    )
+        | UnitItem::Dead(_)
+        | UnitItem::Enter(_)
+        | UnitItem::Set(_, _)
+        | UnitItem::Save(_)
+        | UnitItem::Reset(_)
+        | UnitItem::Nul
+        | UnitItem::Beep
+        | UnitItem::Stop => true,
+        UnitItem::SetSystem(system, _) => system == LAYER,
+        _ => false,
+    }
 }
 
 fn stands_in_output(item: UnitItem) -> bool
@@ -93,6 +101,8 @@ fn code_of(item: UnitItem) -> u16
         UnitItem::Test(_, _, _) => 0x14,
         UnitItem::Save(_) => 0x15,
         UnitItem::Reset(_) => 0x16,
+        UnitItem::SystemTest(_, _, _) => 0x17,
+        UnitItem::SetSystem(_, _) => 0x18,
     }
 }
 
@@ -110,8 +120,8 @@ pub(crate) fn spelled_size(item: UnitItem) -> u32
         | UnitItem::NotAny(_)
         | UnitItem::Save(_)
         | UnitItem::Reset(_) => 6,
-        UnitItem::Index(_, _) | UnitItem::Set(_, _) => 8,
-        UnitItem::Key(_, _) | UnitItem::Test(_, _, _) => 10,
+        UnitItem::Index(_, _) | UnitItem::Set(_, _) | UnitItem::SetSystem(_, _) => 8,
+        UnitItem::Key(_, _) | UnitItem::Test(_, _, _) | UnitItem::SystemTest(_, _, _) => 10,
     }
 }
 
@@ -124,6 +134,8 @@ fn names_outside(bytes: &[u8], item: UnitItem) -> bool
         | UnitItem::NotAny(store)
         | UnitItem::Index(store, _)
         | UnitItem::Save(store)
+        | UnitItem::SystemTest(_, _, store)
+        | UnitItem::SetSystem(_, store)
         | UnitItem::Reset(store) => word_at(bytes, 24) < u32::from(store),
         UnitItem::Set(store, value) | UnitItem::Test(store, _, value) => {
             let stores = word_at(bytes, 24);
@@ -140,7 +152,7 @@ pub(crate) fn target_of(item: UnitItem) -> Target
 {
     match item {
         UnitItem::Any(_) => Target::Any,
-        UnitItem::Test(_, _, _) | UnitItem::Nul => Target::Nothing,
+        UnitItem::Test(_, _, _) | UnitItem::SystemTest(_, _, _) | UnitItem::Nul => Target::Nothing,
         _ => Target::Pattern,
     }
 }

@@ -61,8 +61,8 @@ pub(crate) fn unit_count(item: UnitItem) -> u64
         | UnitItem::NotAny(_)
         | UnitItem::Save(_)
         | UnitItem::Reset(_) => 3,
-        UnitItem::Index(_, _) | UnitItem::Set(_, _) => 4,
-        UnitItem::Key(_, _) | UnitItem::Test(_, _, _) => 5,
+        UnitItem::Index(_, _) | UnitItem::Set(_, _) | UnitItem::SetSystem(_, _) => 4,
+        UnitItem::Key(_, _) | UnitItem::Test(_, _, _) | UnitItem::SystemTest(_, _, _) => 5,
     }
 }
 

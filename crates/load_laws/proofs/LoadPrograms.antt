@@ -4,6 +4,7 @@ use Rattle.std.specs.Prelude.{codes, filter, find, flat_map, option_map}
 use Rattle.rule_model.specs.declared.program.SrcItem.{SrcItem}
 use Rattle.rule_model.specs.declared.program.GroupDef.{GroupDef}
 use Rattle.rule_model.specs.Keyboard.{RuleMeaning, Named, Best}
+use Rattle.rule_model.specs.System.{system_options}
 use Rattle.rule_model.specs.Naming.{SourceNames, items_from, key_names, names_of, source_items, stores_of}
 use Rattle.rule_model.specs.Src.{is_plain, is_on_match, is_on_nomatch, src, src_group, src_outputs, src_rule}
 use Rattle.rule_model.specs.Tab.{distinct_onto}
@@ -56,7 +57,7 @@ unfolding src stores_of
 programs_mean n = λ i.
     record {
       start = Named (codes "main");
-      stores = [];
+      stores = system_options;
       groups = group_means n (names_of (load_program n)) i ∷ [];
       dictionary = no_dictionary n i;
       choice = Best;

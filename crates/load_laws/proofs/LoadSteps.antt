@@ -1,29 +1,40 @@
 -- What each press of a load's script does.
-use Rattle.std.proofs.Common.{◌≡◌, ℕ, zero, suc, ◌+◌, ◌≤◌, false, List, [], ◌∷◌, Option, Some, None, Ok, refl, ap, sym, ◌∙◌, subst, arith}
+use Rattle.std.proofs.Common.{◌≡◌, ℕ, zero, suc, ◌+◌, ◌≤◌, false, List, [], ◌∷◌, map, Option, Some, None, Ok, refl, ap, sym, ◌∙◌, subst, arith}
 use Rattle.kmn_base.specs.declared.events.Event.TheVariants as event
+use Rattle.kmn_base.specs.declared.items.Element.{Element}
 use Rattle.kmn_base.specs.declared.items.Item.{Item}
 use Rattle.kmn_base.specs.declared.items.Item.TheVariants as item
 use Rattle.kmn_base.specs.Names.{same_name}
 use Rattle.virtual_keys.specs.Fits.{char_of_press}
 use Rattle.virtual_keys.specs.Keys.{us_characters}
 use Rattle.rule_model.specs.declared.event_state.EventState.{EventState}
+use Rattle.rule_model.specs.Keyboard.{StoreMeaning}
+use Rattle.rule_model.specs.System.{system_options}
+use Rattle.rule_model.specs.Plain.{option_names}
 use Rattle.rule_model.specs.Act.{content_now, one_more}
 use Rattle.rule_model.specs.Choose.{Chosen}
 use Rattle.rule_model.specs.Enter.{by_default, do_group, enter_group}
 use Rattle.rule_model.specs.Event.{State, event_of, happening, happening_of}
 use Rattle.rule_model.specs.KeyEvent.{after_key, begin_event}
-use Rattle.rule_model.specs.Trace.{Steps, steps_from, step_then, trace, trace_of}
+use Rattle.rule_model.specs.Trace.{Steps, none_saved, steps_from, step_then, trace, trace_of}
 use Rattle.load_laws.specs.Keyboards.{load_rule, load_group, load_keyboard, press_a, press_space, presses}
 use Rattle.load_laws.specs.Plays.{Plays, LoadsPlay}
 use Rattle.load_laws.proofs.LoadRules.{left_after, caught_after, chosen_after, space_unmatched}
 
+-- the values of the system options, which no rule sets or saves
+abbrev values : List (List Element)
+values = map (λ (store : StoreMeaning). store.elements) system_options
+
+abbrev saves : List (Option (List Element))
+saves = map none_saved system_options
+
 -- what a press leaves that puts one item
 abbrev one_put : List Item → EventState
-one_put left = record { left = left; current = []; saved = []; pass = false; stopped = false; beeps = 0; entered = 1; put = 1; saves = 0 }
+one_put left = record { left = left; current = values; saved = saves; pass = false; stopped = false; beeps = 0; entered = 1; put = 1; saves = 0 }
 
 -- in the group, before anything was done
 abbrev entered_on : List Item → EventState
-entered_on left = record { left = left; current = []; saved = []; pass = false; stopped = false; beeps = 0; entered = 1; put = 0; saves = 0 }
+entered_on left = record { left = left; current = values; saved = saves; pass = false; stopped = false; beeps = 0; entered = 1; put = 0; saves = 0 }
 
 abbrev done_in : ℕ → List Item → Option Chosen → EventState
 done_in n left chosen = do_group (load_keyboard n) (enter_group 49 (load_keyboard n) press_a) press_a (load_group n) chosen (entered_on left)
@@ -32,7 +43,7 @@ rule_acts : (n i : ℕ) → done_in n (left_after i) (Some (load_rule i, caught_
 rule_acts n zero = refl
 rule_acts n (suc i) = refl
 
-pressed_a : (n i : ℕ) → i ≤ n → after_key (load_keyboard n) press_a (begin_event (left_after i) [] []) ≡ one_put (left_after (suc i))
+pressed_a : (n i : ℕ) → i ≤ n → after_key (load_keyboard n) press_a (begin_event (left_after i) values saves) ≡ one_put (left_after (suc i))
 unfolding after_key same_name
 pressed_a n i within =
     ap (done_in n (left_after i)) (chosen_after (content_now (load_keyboard n) (entered_on (left_after i))) n i within) ∙ rule_acts n i
@@ -48,14 +59,14 @@ default_acts : (n i : ℕ) → spaced_in n (left_after (suc i)) None ≡ one_put
 unfolding by_default char_of_press us_characters
 default_acts n i = refl
 
-pressed_space : (n i : ℕ) → after_key (load_keyboard n) press_space (begin_event (left_after (suc i)) [] []) ≡ one_put (left_at_end i)
+pressed_space : (n i : ℕ) → after_key (load_keyboard n) press_space (begin_event (left_after (suc i)) values saves) ≡ one_put (left_at_end i)
 unfolding after_key same_name
 pressed_space n i =
     ap (spaced_in n (left_after (suc i))) (space_unmatched (content_now (load_keyboard n) (entered_on (left_after (suc i)))) (suc i) 0 (suc n)) ∙ default_acts n i
 
 -- the state with a text before the caret
 abbrev state_of : List Item → State
-state_of left = record { left = left; right = []; names = []; current = []; saved = [] }
+state_of left = record { left = left; right = []; names = option_names system_options; current = values; saved = saves }
 
 a_happens : (n i : ℕ) → i ≤ n → event_of (load_keyboard n) (state_of (left_after i)) (event.Key press_a) ≡ Ok (happening_of press_a (one_put (left_after (suc i))) (state_of (left_after i)))
 unfolding happening

@@ -4,6 +4,7 @@ use Rattle.kmn_base.specs.declared.events.Event.{Event}
 use Rattle.kmn_base.specs.declared.events.Event.TheVariants as event
 use Rattle.kmn_base.specs.declared.keys.KeyPress.{KeyPress}
 use Rattle.kmn_base.specs.declared.keys.RuleKey.TheVariants as key
+use Rattle.rule_model.specs.System.{system_options}
 use Rattle.rule_model.specs.Keyboard.{Named, IsChar, PutChar, KeyPattern, OneKey, RuleMeaning, GroupMeaning, Keyboard, Best}
 
 -- the key K_A, with no shift key
@@ -20,12 +21,12 @@ abbrev pub rules_from : ℕ → ℕ → List RuleMeaning
 rules_from i zero = []
 rules_from i (suc count) = load_rule i ∷ rules_from (suc i) count
 
--- the keyboard of a load: one group with the first rule and so many behind it
+-- the keyboard of a load: one group with the first rule and so many behind it, and no store of its own
 abbrev pub load_group : ℕ → GroupMeaning
 load_group n = record { name = codes "main"; using_keys = true; rules = rules_from 0 (suc n); on_match = None; on_nomatch = None }
 
 abbrev pub load_keyboard : ℕ → Keyboard
-load_keyboard n = record { start = Named (codes "main"); stores = []; groups = load_group n ∷ []; dictionary = []; choice = Best }
+load_keyboard n = record { start = Named (codes "main"); stores = system_options; groups = load_group n ∷ []; dictionary = []; choice = Best }
 
 abbrev pub press_a : KeyPress
 press_a = record { code = 65; mods = 0 }

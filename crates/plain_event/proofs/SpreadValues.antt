@@ -49,14 +49,14 @@ module _ {X : Type 0} where
       let within : k < length options = omega arith in
       (λ j. unwrap_or-slice_get options k v j ∷ r j) ∙ sym (drop_more options k v within)
 
-  spread_store : (k : ℕ) (name : List ℕ) (elements : List Element) (is_option : Bool) (ss : List StoreMeaning) (v : X) (vs options : List X)
+  spread_store : (k : ℕ) (name : List ℕ) (elements : List Element) (is_option is_system : Bool) (ss : List StoreMeaning) (v : X) (vs options : List X)
       → ((m : ℕ) → length options ≡ m + length (of_options ss vs) → of_options ss (spread (option_numbers m ss) vs options) ≡ drop m options)
-      → let s : StoreMeaning = record { name = name; elements = elements; is_option = is_option } in
+      → let s : StoreMeaning = record { name = name; elements = elements; is_option = is_option; is_system = is_system } in
       length options ≡ k + length (of_options (s ∷ ss) (v ∷ vs)) → of_options (s ∷ ss) (spread (option_numbers k (s ∷ ss)) (v ∷ vs) options) ≡ drop k options
-  spread_store k name elements true ss v vs options rest e =
+  spread_store k name elements true is_system ss v vs options rest e =
       let q : length options ≡ k + 1 + length (of_options ss vs) = omega arith in
       first_option k options _ v (length (of_options ss vs)) e (rest (k + 1) q)
-  spread_store k name elements false ss v vs options rest e = rest k e
+  spread_store k name elements false is_system ss v vs options rest e = rest k e
 
   spread_from : (k : ℕ) (stores : List StoreMeaning) (values options : List X) → length options ≡ k + length (of_options stores values) → of_options stores (spread (option_numbers k stores) values options) ≡ drop k options
   spread_from k [] values options e = sym (drop_all k options (omega arith))
@@ -66,18 +66,18 @@ module _ {X : Type 0} where
         | false ↦ sym (drop_all k options (omega arith))
       ]
   spread_from k (s ∷ ss) (v ∷ vs) options e =
-      spread_store k s.name s.elements s.is_option ss v vs options (λ m h. spread_from m ss vs options h) e
+      spread_store k s.name s.elements s.is_option s.is_system ss v vs options (λ m h. spread_from m ss vs options h) e
 
   -- the options of what was spread are what was spread, where each option has a value
   pub spread_options : (stores : List StoreMeaning) (values options : List X) → length options ≡ length (of_options stores values) → of_options stores (spread (option_numbers 0 stores) values options) ≡ options
   spread_options stores values options e = spread_from 0 stores values options (omega arith)
 
-  others_store : (k : ℕ) (name : List ℕ) (elements : List Element) (is_option : Bool) (ss : List StoreMeaning) (v : X) (vs options : List X)
+  others_store : (k : ℕ) (name : List ℕ) (elements : List Element) (is_option is_system : Bool) (ss : List StoreMeaning) (v : X) (vs options : List X)
       → ((m : ℕ) → of_others ss (spread (option_numbers m ss) vs options) ≡ of_others ss vs)
-      → let s : StoreMeaning = record { name = name; elements = elements; is_option = is_option } in
+      → let s : StoreMeaning = record { name = name; elements = elements; is_option = is_option; is_system = is_system } in
       of_others (s ∷ ss) (spread (option_numbers k (s ∷ ss)) (v ∷ vs) options) ≡ of_others (s ∷ ss) (v ∷ vs)
-  others_store k name elements true ss v vs options rest = rest (k + 1)
-  others_store k name elements false ss v vs options rest = ap (λ r. v ∷ r) (rest k)
+  others_store k name elements true is_system ss v vs options rest = rest (k + 1)
+  others_store k name elements false is_system ss v vs options rest = ap (λ r. v ∷ r) (rest k)
 
   -- the other stores keep their values
   pub spread_others : (k : ℕ) (stores : List StoreMeaning) (values options : List X) → of_others stores (spread (option_numbers k stores) values options) ≡ of_others stores values
@@ -85,7 +85,7 @@ module _ {X : Type 0} where
   spread_others k (s ∷ ss) [] options =
       elim (s.is_option) as (λ b. of_others (s ∷ ss) (spread (if b then Some k ∷ option_numbers (k + 1) ss else None ∷ option_numbers k ss) [] options) ≡ of_others (s ∷ ss) []) [ true ↦ refl | false ↦ refl ]
   spread_others k (s ∷ ss) (v ∷ vs) options =
-      others_store k s.name s.elements s.is_option ss v vs options (λ m. spread_others m ss vs options)
+      others_store k s.name s.elements s.is_option s.is_system ss v vs options (λ m. spread_others m ss vs options)
 
   pub length-spread : (numbers : List (Option ℕ)) (values options : List X) → length values ≡ length numbers → length (spread numbers values options) ≡ length values
   length-spread [] values options e = sym e

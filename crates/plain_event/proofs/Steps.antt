@@ -1,5 +1,5 @@
 -- What a plain state means after a step.
-use Rattle.std.proofs.Common.{◌≡◌, ℕ, true, false, List, length, map, take, drop, Option, Some, None, refl, sym, ap, subst, ◌∙◌, length-set}
+use Rattle.std.proofs.Common.{◌≡◌, ◌+◌, ℕ, true, false, List, length, map, Option, Some, None, refl, sym, ap, subst, ◌∙◌, length-set}
 use Rattle.std.specs.Prelude.{if◌then◌else◌, position}
 use Rattle.kmn_base.specs.declared.items.Item.{Item}
 use Rattle.kmn_base.specs.declared.items.Element.{Element}
@@ -11,17 +11,17 @@ use Rattle.plain_event.specs.declared.state.PlainState.{PlainState}
 use Rattle.rule_model.specs.declared.tables.Tables.{Tables}
 use Rattle.rule_model.specs.Keyboard.{StoreMeaning}
 use Rattle.rule_model.specs.KeyEvent.{begin_event, after_key, outcome_of}
-use Rattle.rule_model.specs.Event.{State, has_name, no_outcome, text_becomes, by_editor, happening_of, key_event, only_state, set_option, setting_event}
+use Rattle.rule_model.specs.Event.{State, has_name, no_outcome, by_editor, happening_of, key_event, only_state, set_option, setting_event}
 use Rattle.rule_model.specs.Tab.{tab, tab_options}
 use Rattle.rule_model.specs.Plain.{option_numbers, of_options, option_names}
-use Rattle.rule_model.proofs.PlainOptions.{length-option_numbers, length-with_options}
+use Rattle.rule_model.proofs.SystemOptions.{length-all_options}
 use Rattle.rule_model.proofs.PlainCounts.{SameCounts, after_key-counts}
-use Rattle.plain_event.specs.PlainStates.{of_others, state_of, acted, given, with_text, KeepsOthers, IsMadeBy, IsStateOf}
+use Rattle.plain_event.specs.PlainStates.{of_others, state_of, acted, given, KeepsOthers, IsMadeBy, IsStateOf}
 use Rattle.plain_event.proofs.SpreadValues.{spread_options, spread_others, length-spread}
 
-count_of_numbers : (tables : Tables) → length (option_numbers 0 (tab tables).stores) ≡ length tables.stores
+count_of_numbers : (tables : Tables) → length (option_numbers 0 (tab tables).stores) ≡ length tables.stores + 2
 unfolding tab
-count_of_numbers tables = length-option_numbers 0 (tab tables).stores ∙ length-with_options (tab_options tables) 0 tables.stores
+count_of_numbers tables = length-all_options (tab_options tables) tables.stores
 
 -- what an event begins with
 abbrev begun : Tables → PlainState → EventState
@@ -112,13 +112,3 @@ option_given tables state is name value option s0 s outcome after begins found g
       current = keeps_along _ _ _ _ (ap (λ (p : PlainState). p.current) is_acted) (acted_current tables state is s counts outcome);
       saved = keeps_along _ _ _ _ (ap (λ (p : PlainState). p.saved) is_acted) (acted_saved tables state is s counts outcome);
     }
-
--- a text takes the place of the whole text, with the caret at a place of it
-pub text_given : (tables : Tables) (state after : PlainState) (text : List ℕ) (caret : ℕ) → after ≡ with_text text caret state
-    → IsMadeBy tables state (only_state (text_becomes (take caret text) (drop caret text) (state_of tables state))) after
-text_given tables state after text caret is = record {
-  after = ap (state_of tables) is;
-  outcome = ap (λ (p : PlainState). p.last) is;
-  current = keeps_along _ _ _ _ (ap (λ (p : PlainState). p.current) is) (record { others = refl; count = refl });
-  saved = keeps_along _ _ _ _ (ap (λ (p : PlainState). p.saved) is) (record { others = refl; count = refl });
-}

@@ -1,5 +1,5 @@
 -- What a plain state means, and what one event makes of it. Values stand by store number there.
-use Rattle.std.specs.Prelude.{◌≡◌, ℕ, ◌^◌, ◌<◌, ◌≤◌, not, is_some, if◌then◌else◌, List, [], ◌∷◌, length, take, drop, Option, Some, None, unwrap_or, slice_get, slice_set}
+use Rattle.std.specs.Prelude.{◌≡◌, ◌+◌, ℕ, ◌^◌, ◌<◌, ◌≤◌, not, is_some, if◌then◌else◌, List, [], ◌∷◌, length, take, drop, Option, Some, None, unwrap_or, slice_get, slice_set}
 use Rattle.kmn_base.specs.declared.events.Event.{Event}
 use Rattle.kmn_base.specs.declared.events.Event.TheVariants as event
 use Rattle.kmn_base.specs.declared.events.Outcome.{Outcome}
@@ -51,11 +51,11 @@ IsWithin text (event.Setting name value) = Unit {0}
 IsWithin text (event.Caret place) = place ≤ length text
 IsWithin text (event.Edit from to new) = (from ≤ to) × (to ≤ length text)
 
--- a plain state has a current and a saved value for each store, and fewer than 2^32 items before the caret
+-- a plain state has a current and a saved value for each store and for each of the two system options, and fewer than 2^32 items before the caret
 pub record IsStateOf (tables : Tables) (state : PlainState) : Type 0 where
   pub left : length state.left < 2 ^ 32
-  pub current : length state.current ≡ length tables.stores
-  pub saved : length state.saved ≡ length tables.stores
+  pub current : length state.current ≡ length tables.stores + 2
+  pub saved : length state.saved ≡ length tables.stores + 2
 
 -- of values by store number those of the stores that have an option number
 abbrev pub picked : {X : Type 0} → List (Option ℕ) → List X → List X

@@ -3,6 +3,7 @@ ghost use Rattle.rule_model.specs.Keyboard.{Numbered};
 ghost use Rattle.rule_model.specs.Match.{element_at};
 ghost use Rattle.rule_model.specs.Act.{content_now};
 ghost use Rattle.rule_model.specs.Tab.{tab};
+ghost use Rattle.rule_model.specs.System.{system_ref};
 
 use indexed_tables::IndexedTables;
 use kmn_base::Element;
@@ -19,14 +20,22 @@ pub fn value_at(state: &EventState, option: usize) -> &[Element]
 }
 
 /// What a store has at a moment: the current value of an option, else its elements.
-#[tactic(auto, using(rule_model::proofs::PlainOptions::content_of_option, rule_model::proofs::PlainOptions::content_of_other, rule_model::proofs::PlainOptions::elements_with_options), unfolding(rule_model::specs::Tab::tab))]
+#[tactic(auto, using(rule_model::proofs::PlainOptions::content_of_option, rule_model::proofs::PlainOptions::content_of_other))]
 pub fn content<'a>(indexed: &'a IndexedTables, state: &'a EventState, store: u32) -> &'a [Element]
     ensures { result.now ≡ content_now (tab indexed.now) state.now (Numbered store) }
 {
     match indexed.option_number(store) {
         Some(option) => value_at(state, option),
-        None => indexed.elements(store),
+        None => indexed.stated(store),
     }
+}
+
+/// What a system option has at a moment.
+#[tactic(auto, using(rule_model::proofs::SystemOptions::content_by_option))]
+pub fn system_content<'a>(indexed: &IndexedTables, state: &'a EventState, id: u32) -> &'a [Element]
+    ensures { result.now ≡ content_now (tab indexed.now) state.now (system_ref id) }
+{
+    value_at(state, indexed.system_option(id))
 }
 
 /// The element at a place of what a store has at a moment, where there is such a place.

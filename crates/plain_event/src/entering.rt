@@ -12,7 +12,7 @@ use crate::elements::item_caught;
 use crate::left;
 use crate::matching::chosen_in;
 use crate::outputs::{
-    put_any, put_context, put_index, put_item, reset_current, save_current, set_current,
+    put_any, put_context, put_index, put_item, reset_current, save_current, set_current, set_system,
 };
 use indexed_tables::IndexedTables;
 use kmn_base::limits::EVENT_ENTRIES;
@@ -51,6 +51,7 @@ fn act_one(
         }
         Out::Enter(group) => enter_if_allowed(entering, group, state),
         Out::Set(store, value) => set_current(indexed, store, value, state),
+        Out::SetSystem(id, value) => set_system(indexed, id, value, state),
         Out::Save(store) => save_current(indexed, store, state),
         Out::Reset(store) => reset_current(indexed, store, state),
         Out::Beep => {

@@ -3,16 +3,17 @@ ghost use Rattle.std.specs.List.{list_all, list_any};
 ghost use Rattle.rule_model.specs.Match.{takes_item, matches, place_for, catches_from};
 ghost use Rattle.rule_model.specs.Hold.{is_true, is_at_start, pattern_count, has_room, caught_by, holds};
 ghost use Rattle.rule_model.specs.Choose.{first};
+ghost use Rattle.rule_model.specs.System.{is_equal, system_ref};
 ghost use Rattle.rule_model.specs.Act.{content_now};
 ghost use Rattle.rule_model.specs.Enter.{chosen_in};
 ghost use Rattle.rule_model.specs.Tab.{tab, tab_pattern, tab_rule, tab_group};
 ghost use Rattle.rule_model.specs.Plain.{caught_last};
 
-use crate::contents::{content, element};
+use crate::contents::{content, element, system_content};
 use crate::elements::{
     is_element, is_item, is_same, item_caught, place_caught, place_of, same_value,
 };
-use indexed_tables::IndexedTables;
+use indexed_tables::{IndexedTables, PLATFORM, has_words};
 use kmn_base::{Element, Item, KeyPress, Memory, RuleKey, Seq};
 use rule_model::{Catch, Caught, EventState, Group, Pat, Rule};
 use virtual_keys::Pressed;
@@ -21,7 +22,10 @@ use virtual_keys::Pressed;
 fn takes_item(pattern: Pat) -> bool
     ensures { result ≡ takes_item (tab_pattern [] pattern) }
 {
-    !matches!(&pattern, Pat::Equal(..) | Pat::Unequal(..) | Pat::Nul)
+    !matches!(
+        &pattern,
+        Pat::Equal(..) | Pat::Unequal(..) | Pat::SystemEqual(..) | Pat::SystemUnequal(..) | Pat::Nul
+    )
 }
 
 /// Whether an item stands to a pattern as the pattern asks, behind what was caught so far.
@@ -47,7 +51,11 @@ fn matches(
             )
         }
         Pat::ContextAt(offset) => is_same(item, item_caught(seen, offset)),
-        Pat::Equal(..) | Pat::Unequal(..) | Pat::Nul => true,
+        Pat::Equal(..)
+        | Pat::Unequal(..)
+        | Pat::SystemEqual(..)
+        | Pat::SystemUnequal(..)
+        | Pat::Nul => true,
     }
 }
 
@@ -97,6 +105,19 @@ fn catches_from(
     catches_from(indexed, state, seen, rest, behind)
 }
 
+/// Whether a system option is what a condition for equal wants.
+#[tactic(auto, using(std::proofs::lemmas::Bool::Decides::nat_tests))]
+fn is_system_equal(indexed: &IndexedTables, state: &EventState, id: u32, value: &[Element]) -> bool
+    ensures { result ≡ is_equal (system_ref id) (content_now (tab indexed.now) state.now (system_ref id)) value.now }
+{
+    let held = system_content(indexed, state, id);
+    if id == PLATFORM {
+        has_words(held, value)
+    } else {
+        same_value(held, value)
+    }
+}
+
 /// Whether a condition is true at a moment; any other item of a context is none.
 fn is_true(indexed: &IndexedTables, state: &EventState, pattern: Pat) -> bool
     ensures { result ≡ is_true (content_now (tab indexed.now) state.now) (tab_pattern indexed.now.stores pattern) }
@@ -108,6 +129,13 @@ fn is_true(indexed: &IndexedTables, state: &EventState, pattern: Pat) -> bool
         Pat::Unequal(store, value) => {
             !same_value(content(indexed, state, store), indexed.elements(value))
         }
+        Pat::SystemEqual(id, value) => is_system_equal(indexed, state, id, indexed.elements(value)),
+        Pat::SystemUnequal(id, value) => !is_system_equal(
+            indexed,
+            state,
+            id,
+            indexed.elements(value),
+        ),
         _ => true,
     }
 }

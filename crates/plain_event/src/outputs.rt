@@ -4,6 +4,7 @@ ghost use Rattle.rule_model.specs.Content.{option_number, elements_at};
 ghost use Rattle.rule_model.specs.Match.{element_at};
 ghost use Rattle.rule_model.specs.Act.{put_item, put_items, item_list, put_element, items_caught, content_now, place_for_index, set_current, save_current, value_to_reset, reset_current};
 ghost use Rattle.rule_model.specs.Tab.{tab, elements_of};
+ghost use Rattle.rule_model.specs.System.{system_ref};
 
 use crate::contents::{element, value_at};
 use crate::elements::{item_of, place_caught};
@@ -108,6 +109,21 @@ pub fn set_current(
     Ok(())
 }
 
+/// What `set` of a system option does.
+pub fn set_system(
+    indexed: &IndexedTables,
+    id: u32,
+    value: u32,
+    state: &mut EventState,
+) -> Result<(), Memory>
+    ensures { OnOk result (state.new ≡ set_current
+        (option_number (tab indexed.now).stores (system_ref id)) (elements_of indexed.now.stores value) state.old) }
+{
+    let value = Seq::from_slice(indexed.alloc(), indexed.elements(value))?;
+    set_value(&mut state.current, indexed.system_option(id), value);
+    Ok(())
+}
+
 /// What `save` does.
 pub fn save_current(
     indexed: &IndexedTables,
@@ -137,7 +153,6 @@ fn value_to_reset<'a>(state: &'a EventState, option: usize, stated: &'a [Element
 }
 
 /// What `reset` does.
-#[tactic(auto, using(rule_model::proofs::PlainOptions::elements_with_options), unfolding(rule_model::specs::Tab::tab))]
 pub fn reset_current(
     indexed: &IndexedTables,
     store: u32,
@@ -149,7 +164,7 @@ pub fn reset_current(
     let Some(option) = indexed.option_number(store) else {
         return Ok(());
     };
-    let value = value_to_reset(state, option, indexed.elements(store));
+    let value = value_to_reset(state, option, indexed.stated(store));
     let value = Seq::from_slice(indexed.alloc(), value)?;
     set_value(&mut state.current, option, value);
     Ok(())

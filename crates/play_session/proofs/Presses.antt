@@ -62,6 +62,12 @@ press_is_done engine editor press outcome after text h is_text told gave =
       few = omega (arith, h.few);
     }
 
+-- what it inserts
+pub press_inserts : (engine : EngineState) (editor : EditorText) (press : KeyPress) (text : List ℕ) → AreTogether 995_000 engine editor → text ≡ editor.left
+    → (press_leaves text press engine).inserted ≡ inserted (stands_for engine editor).left (press_gives engine.tables press (stands_for engine editor)).left
+press_inserts engine editor press text h is_text =
+    (press_is_done engine editor press (press_outcome text press engine) (press_leaves text press engine) text h is_text refl refl).inserts
+
 -- what is known then of both
 pub record IsEditedBy (engine : EngineState) (editor : EditorText) (press : KeyPress) (after : EngineState) (edited : EditorText) : Type 0 where
   pub state : stands_for after edited ≡ acted (press_gives engine.tables press (stands_for engine editor)) (stands_for engine editor)

@@ -1,5 +1,5 @@
 -- The changes of a step are those that a transcript prints.
-use Rattle.std.proofs.Common.{◌≡◌, ℕ, zero, suc, ◌+◌, ◌<◌, Bool, true, false, not, List, [], ◌∷◌, ◌++◌, length, map, drop, Option, Some, None, refl, sym, ap, ◌∙◌, arith, append_assoc, append-nil, length-set}
+use Rattle.std.proofs.Common.{◌≡◌, ℕ, suc, ◌+◌, ◌<◌, Bool, true, false, not, List, [], ◌∷◌, ◌++◌, length, map, drop, Option, Some, None, refl, sym, ap, ◌∙◌, arith, append_assoc, append-nil, length-set}
 use Rattle.std.specs.Prelude.{if◌then◌else◌, position, slice_get, unwrap_or, flat_map}
 use Rattle.std.specs.Option.{option_flatten}
 use Rattle.std.proofs.lemmas.List.{drop_more, length-map}
@@ -12,7 +12,6 @@ use Rattle.kmn_base.specs.declared.events.Event.TheVariants as event
 use Rattle.kmn_base.specs.declared.keys.KeyPress.{KeyPress}
 use Rattle.virtual_keys.specs.Fits.{is_plain}
 use Rattle.rule_model.specs.declared.event_state.EventState.{EventState}
-use Rattle.rule_model.specs.declared.tables.Store.{Store}
 use Rattle.rule_model.specs.declared.tables.Tables.{Tables}
 use Rattle.rule_model.specs.Content.{option_number}
 use Rattle.rule_model.specs.Event.{State, happening, by_editor, after_press, set_option, has_name}
@@ -20,15 +19,16 @@ use Rattle.rule_model.specs.Keyboard.{StoreMeaning, Numbered, Keyboard}
 use Rattle.rule_model.specs.KeyEvent.{begin_event, after_key}
 use Rattle.rule_model.specs.Match.{same_value}
 use Rattle.rule_model.specs.Plain.{option_numbers}
-use Rattle.rule_model.specs.Tab.{tab, tab_options, with_options}
+use Rattle.rule_model.specs.Tab.{tab}
 use Rattle.rule_model.specs.Trace.{options_of}
 use Rattle.rule_model.specs.Transcript as transcript
 use Rattle.rule_model.specs.Transcript.{value_line}
 use Rattle.rule_model.proofs.PlainCounts.{after_key-counts}
 use Rattle.rule_model.proofs.PlainOptions.{number_found, content_of_option}
+use Rattle.rule_engine.specs.Engine.{name_in, name_of}
 use Rattle.play_session.specs.declared.changes.Change.{Change}
 use Rattle.play_session.specs.Changes.{Values, current_at, saved_at, is_newly_saved, current_change, saved_change, changes_from}
-use Rattle.play_session.specs.Printed.{name_in, name_of, change_line, change_lines, IsSession, printed_changes}
+use Rattle.play_session.specs.Printed.{change_line, change_lines, IsSession, printed_changes}
 use Rattle.play_session.specs.Session.{SessionState, first_session, after_step, values_of}
 
 -- ---- the options of a state stay
@@ -100,20 +100,6 @@ current_left values k within = drop_more values k [] within ∙ ap (λ value. va
 saved_left : (saves : List (Option (List Element))) (k : ℕ) → k < length saves → drop k saves ≡ option_flatten (slice_get saves k) ∷ drop (k + 1) saves
 saved_left saves k within = drop_more saves k None within ∙ ap (λ saved. saved ∷ drop (k + 1) saves) (sym (ap option_flatten (slice_get-get_or saves k None within)))
 
--- the name of a store as its keyboard has it
-abbrev meant_name : Option StoreMeaning → List ℕ
-meant_name None = []
-meant_name (Some store) = store.name
-
-meant_names : (options : List ℕ) (m : ℕ) (stores : List Store) (n : ℕ) → name_in (slice_get stores n) ≡ meant_name (slice_get (with_options options m stores) n)
-meant_names options m [] n = refl
-meant_names options m (store ∷ stores) zero = refl
-meant_names options m (store ∷ stores) (suc n) = meant_names options (m + 1) stores n
-
-names_meant : (tables : Tables) (n : ℕ) → name_of tables n ≡ meant_name (slice_get (tab tables).stores n)
-unfolding tab
-names_meant tables n = meant_names (tab_options tables) 0 tables.stores n
-
 module _ (session : SessionState) (before : Values) where
   abbrev pub stores : List StoreMeaning
   stores = (tab session.tables).stores
@@ -130,7 +116,7 @@ module _ (session : SessionState) (before : Values) where
 
   -- the stores that are left: their names, and their option numbers
   record IsLeft (n k : ℕ) (rest : List StoreMeaning) : Type 0 where
-    names : (i : ℕ) → name_of session.tables (n + i) ≡ meant_name (slice_get rest i)
+    names : (i : ℕ) → name_of session.tables (n + i) ≡ name_in (slice_get rest i)
     numbers : (i : ℕ) → option_number stores (Numbered (n + i)) ≡ option_flatten (slice_get (option_numbers k rest) i)
 
   abbrev pub lines_left : ℕ → List StoreMeaning → List ℕ
@@ -166,11 +152,11 @@ module _ (session : SessionState) (before : Values) where
       saved_by None = None
       saved_by (Some option) = option_flatten (slice_get after.saved option)
 
-  store_printed : (n k : ℕ) (name : List ℕ) (elements : List Element) (is_option : Bool) (rest : List StoreMeaning)
+  store_printed : (n k : ℕ) (name : List ℕ) (elements : List Element) (is_option is_system : Bool) (rest : List StoreMeaning)
       → ((m : ℕ) → HasOptions m (length (options_of rest)) → IsLeft (n + 1) m rest → Printed (n + 1) m rest)
-      → let store : StoreMeaning = record { name = name; elements = elements; is_option = is_option } in
+      → let store : StoreMeaning = record { name = name; elements = elements; is_option = is_option; is_system = is_system } in
       HasOptions k (length (options_of (store ∷ rest))) → IsLeft n k (store ∷ rest) → Printed n k (store ∷ rest)
-  store_printed n k name elements true rest printed has left =
+  store_printed n k name elements true is_system rest printed has left =
       let behind : Printed (n + 1) (k + 1) rest = printed (k + 1)
       (record { current = omega (arith, has.current); saved = omega (arith, has.saved); current_after = omega (arith, has.current_after); saved_after = omega (arith, has.saved_after) })
       (record {
@@ -187,7 +173,7 @@ module _ (session : SessionState) (before : Values) where
     where
       next : (i : ℕ) → n + 1 + i ≡ n + suc i
       next i = omega arith
-  store_printed n k name elements false rest printed has left =
+  store_printed n k name elements false is_system rest printed has left =
       printed k has
       (record {
         names = λ i. ap (name_of session.tables) (next i) ∙ left.names (suc i);
@@ -200,12 +186,12 @@ module _ (session : SessionState) (before : Values) where
   printed_from : (n k : ℕ) (rest : List StoreMeaning) → HasOptions k (length (options_of rest)) → IsLeft n k rest → Printed n k rest
   printed_from n k [] has left = refl
   printed_from n k (store ∷ rest) has left =
-      store_printed n k store.name store.elements store.is_option rest (λ m. printed_from (n + 1) m rest) has left
+      store_printed n k store.name store.elements store.is_option store.is_system rest (λ m. printed_from (n + 1) m rest) has left
 
   pub all_printed : HasOptions 0 (length (options_of stores)) → lines_left 0 stores ≡ flat_map (change_line session) (changes_from before after 0 (option_numbers 0 stores))
   all_printed has = printed_from 0 0 stores has
       (record {
-        names = λ i. ap (name_of session.tables) (none i) ∙ names_meant session.tables i;
+        names = λ i. ap (name_of session.tables) (none i);
         numbers = λ i. ap (λ m. option_number stores (Numbered m)) (none i) ∙ sym (number_found stores i);
       })
     where

@@ -1,8 +1,7 @@
 -- What a session tells of a store, and that its changes are those that a transcript prints.
-use Rattle.std.specs.Prelude.{◌≡◌, ℕ, Bool, true, false, List, [], flat_map, length, Option, Some, None, slice_get, unwrap_or}
+use Rattle.std.specs.Prelude.{◌≡◌, ℕ, Bool, true, false, List, [], flat_map, length, Option, Some, unwrap_or}
 use Rattle.kmn_base.specs.declared.items.Element.{Element}
 use Rattle.kmn_base.specs.declared.events.Event.{Event}
-use Rattle.rule_model.specs.declared.tables.Store.{Store}
 use Rattle.rule_model.specs.declared.tables.Tables.{Tables}
 use Rattle.rule_model.specs.Content.{content}
 use Rattle.rule_model.specs.Event.{State}
@@ -10,17 +9,10 @@ use Rattle.rule_model.specs.Keyboard.{Numbered}
 use Rattle.rule_model.specs.Tab.{tab}
 use Rattle.rule_model.specs.Trace.{options_of, first_state}
 use Rattle.rule_model.specs.Transcript.{value_line, changes}
+use Rattle.rule_engine.specs.Engine.{name_of}
 use Rattle.rule_matching.specs.Moment.{saved_of}
 use Rattle.play_session.specs.declared.changes.Change.{Change}
 use Rattle.play_session.specs.Session.{SessionState, first_session, after_step}
-
--- the name of a store, empty where there is no such store
-abbrev pub name_in : Option Store → List ℕ
-name_in None = []
-name_in (Some store) = store.name
-
-abbrev pub name_of : Tables → ℕ → List ℕ
-name_of tables store = name_in (slice_get tables.stores store)
 
 -- the current value of a store, or the saved one that there may be; a store that is no option has its elements, and
 -- nothing is saved

@@ -19,7 +19,7 @@ pub struct Change {
 /// Appends what changed of all stores, where they held this before.
 #[tactic(auto, using(crate::proofs::Comparing::number_at_store))]
 pub(crate) fn put_changes(changes: &mut Vec<Change>, engine: &Engine, before: &Options)
-    requires stores { length before.now ≡ length engine.now.tables.stores }
+    requires stores { length before.now ≡ length (tab engine.now.tables).stores }
     requires numbers { length (option_numbers 0 (tab engine.now.tables).stores) < 2 ^ 32 }
     requires none { changes.old.items ≡ [] }
     requires room { 2 * length (option_numbers 0 (tab engine.now.tables).stores) ≤ vec_capacity changes.old }
@@ -40,7 +40,7 @@ fn put_store_changes(
     engine: &Engine,
     before: &Options,
 )
-    requires stores { length before.now ≡ length engine.now.tables.stores }
+    requires stores { length before.now ≡ length (tab engine.now.tables).stores }
     requires number { number ≡ option_number (tab engine.now.tables).stores (Numbered store) }
     requires room { vec_len changes.old + 1 < vec_capacity changes.old }
     ensures changes { changes.new.items ≡ changes.old.items ++ store_changes (values_in engine.now.tables before.now) (values_now engine.now) store number }
@@ -55,7 +55,7 @@ fn put_store_changes(
 
 /// Appends the change of an option's current value, where it changed.
 fn put_current_change(changes: &mut Vec<Change>, store: u32, engine: &Engine, before: &Options)
-    requires stores { length before.now ≡ length engine.now.tables.stores }
+    requires stores { length before.now ≡ length (tab engine.now.tables).stores }
     requires room { vec_len changes.old < vec_capacity changes.old }
     ensures changes { (option : _) → option_number (tab engine.now.tables).stores (Numbered store) ≡ Some option
         → changes.new.items ≡ changes.old.items ++ current_change (values_in engine.now.tables before.now) (values_now engine.now) store option }
@@ -73,7 +73,7 @@ fn put_current_change(changes: &mut Vec<Change>, store: u32, engine: &Engine, be
 
 /// Appends the change of an option's saved value, where it changed.
 fn put_saved_change(changes: &mut Vec<Change>, store: u32, engine: &Engine, before: &Options)
-    requires stores { length before.now ≡ length engine.now.tables.stores }
+    requires stores { length before.now ≡ length (tab engine.now.tables).stores }
     requires room { vec_len changes.old < vec_capacity changes.old }
     ensures changes { (option : _) → option_number (tab engine.now.tables).stores (Numbered store) ≡ Some option
         → changes.new.items ≡ changes.old.items ++ saved_change (values_in engine.now.tables before.now) (values_now engine.now) store option }

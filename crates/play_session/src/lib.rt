@@ -4,7 +4,8 @@
 //! its caret. The layer above uses `Session`, which contracts see as a `SessionState`: the tables, the state that it
 //! stands for, the number of the last step, what that step inserted and which option values it changed. After `start` and
 //! `fresh` that is `first_session` of the file's tables, and `step` answers `step_of` and leaves `after_step`, or refuses the event
-//! as its meaning does. The laws in `laws` say that its changes are those that a transcript prints.
+//! as its meaning does; `preview` tells of a press what `step` would, and changes nothing. The laws in `laws` say that its changes
+//! are those that a transcript prints.
 #![tactic(auto)]
 
 mod changes;
@@ -13,4 +14,5 @@ mod playing;
 mod session;
 
 pub use changes::Change;
+pub use rule_engine::Preview;
 pub use session::{Session, Step, StepError};

@@ -12,7 +12,7 @@ use crate::session::StepError;
 use editor_model::Editor;
 use kmn_base::limits::EVENT_PUTS;
 use kmn_base::{KeyPress, Memory, Outcome};
-use rule_engine::Engine;
+use rule_engine::{Engine, Preview};
 use std::alloc::Global;
 
 /// What a key press inserts at most, and one character that the editor may insert by itself.
@@ -70,6 +70,21 @@ pub(crate) fn key_event(
         pass_on(engine, editor, press);
     }
     Ok(outcome)
+}
+
+/// What a key press would do. Nothing changes.
+#[tactic(auto, using(crate::proofs::Presses::press_is_done, crate::proofs::Presses::press_inserts))]
+pub(crate) fn preview_key(
+    alloc: Global,
+    engine: &Engine,
+    editor: &Editor,
+    press: KeyPress,
+) -> Result<Preview, Memory>
+    requires together { AreTogether TEXT_CHARS_AT_KEY engine.now editor.now }
+    ensures outcome { IfOk result (λ preview. preview.outcome ≡ (key_event (tab engine.now.tables) press (stands_for engine.now editor.now)).outcome) }
+    ensures inserted { IfOk result (λ preview. preview.inserted ≡ (key_event (tab engine.now.tables) press (stands_for engine.now editor.now)).inserted) }
+{
+    engine.preview(alloc, editor.left(), press)
 }
 
 /// A caret event, which takes no memory.

@@ -10,12 +10,12 @@ ghost use Rattle.rule_model.specs.Tab.{tab};
 ghost use Rattle.rule_model.specs.Trace.{first_state};
 
 use crate::changes::{Change, put_changes};
-use crate::playing::{caret_event, edit_event, key_event, setting_event};
+use crate::playing::{caret_event, edit_event, key_event, preview_key, setting_event};
 use editor_model::{EditError, Editor};
 use kmn_base::limits::TEXT_CHARS_AT_KEY;
 use kmn_base::{Element, Event, KeyPress, Memory, Outcome, Seq, Text};
 use kmx_verifier::Verified;
-use rule_engine::Engine;
+use rule_engine::{Engine, Preview};
 use std::alloc::Global;
 use std::marker::Model;
 use thiserror::Error;
@@ -104,27 +104,22 @@ impl<'a> Model for Session<'a> {
 impl<'a> Session<'a> {
     ghost use Rattle.play_session.specs.Session.{engine_of, text_with_context, first_session, happened, after_step};
     ghost use Rattle.play_session.specs.Answers.{step_of, code_of};
-    ghost use Rattle.play_session.specs.Printed.{name_of, value_of};
+    ghost use Rattle.rule_engine.specs.Engine.{name_of};
+    ghost use Rattle.play_session.specs.Printed.{value_of};
 
     /// A session before its first event: an empty text, each option with its elements, and none saved.
     pub fn start(alloc: Global, file: &Verified<'a>) -> Result<Session<'a>, Memory>
         ensures { IfOk result (λ session. session ≡ first_session (tables_of file.now)) }
     {
-        let engine = Engine::start(alloc, file)?;
-        Session::with_engine(alloc, engine, file.store_count())
+        Session::with_engine(alloc, Engine::start(alloc, file)?)
     }
 
-    /// A session with an engine before its first press, whose tables have so many stores.
-    pub(crate) fn with_engine(
-        alloc: Global,
-        engine: Engine<'a>,
-        stores: u32,
-    ) -> Result<Session<'a>, Memory>
-        requires first { engine ≡ first_engine engine.tables }
-        requires stores { stores ≡ length engine.tables.stores }
+    /// A session with an engine before its first press.
+    pub(crate) fn with_engine(alloc: Global, engine: Engine<'a>) -> Result<Session<'a>, Memory>
+        requires { engine ≡ first_engine engine.tables }
         ensures { IfOk result (λ session. session ≡ first_session engine.entry.tables) }
     {
-        let room = 2 * stores as usize;
+        let room = 2 * engine.store_count() as usize;
         Ok(Session {
             engine,
             editor: Editor::new(alloc),
@@ -138,9 +133,7 @@ impl<'a> Session<'a> {
     pub fn fresh(&self, alloc: Global) -> Result<Session<'a>, Memory>
         ensures { IfOk result (λ session. session ≡ first_session self.now.tables) }
     {
-        let stores = self.engine.file().store_count();
-        let engine = self.engine.fresh(alloc)?;
-        Session::with_engine(alloc, engine, stores)
+        Session::with_engine(alloc, self.engine.fresh(alloc)?)
     }
 
     /// A session on the same file and in the same state. What one of both does then changes nothing of the other.
@@ -246,6 +239,21 @@ impl<'a> Session<'a> {
         Ok(next_step(&mut self.number, NO_OUTCOME))
     }
 
+    /// What a key press would do as the next event: its outcome, and the text that it would insert. `Length` comes exactly where
+    /// the event would be refused so; nothing changes.
+    #[tactic(auto, unfolding(rule_model::specs::Event::happening))]
+    pub fn preview(&self, alloc: Global, press: KeyPress) -> Result<Preview, StepError>
+        ensures happens { IfOk result (λ _. event_of (tab self.now.tables) self.now.state (event.Key press) ≡ Ok (happened self.now (event.Key press))) }
+        ensures outcome { IfOk result (λ preview. preview.outcome ≡ (happened self.now (event.Key press)).outcome) }
+        ensures inserted { IfOk result (λ preview. preview.inserted ≡ (happened self.now (event.Key press)).inserted) }
+        ensures refused { IfErr result (λ error. code_of error ≡ event_refusal self.now.state (event.Key press)) }
+    {
+        if self.editor.left().len() + self.editor.right().len() > TEXT_CHARS_AT_KEY {
+            return Err(StepError::Length);
+        }
+        Ok(preview_key(alloc, &self.engine, &self.editor, press)?)
+    }
+
     /// The text with its caret. The list before the caret that a session stands for is this text, whose last items are the
     /// engine's context.
     pub fn editor(&self) -> &Editor
@@ -276,15 +284,16 @@ impl<'a> Session<'a> {
         }
     }
 
-    /// The option values that the last step changed: by store number, the current value before the saved one.
+    /// The option values that the last step changed: by store number, the current value before the saved one. The layer and the
+    /// platform have the two numbers behind the stores of the file.
     pub fn changes(&self) -> &[Change]
         ensures { result.now ≡ self.now.changes }
     {
         self.changes.as_slice()
     }
 
-    /// The current or the saved value of a store. A store that is no option has its elements, and nothing is saved; None
-    /// comes exactly for a saved value that there is none of.
+    /// The current or the saved value of a store, or of the layer or the platform, which have the two numbers behind the stores.
+    /// A store that is no option has its elements, and nothing is saved; None comes exactly for a saved value that there is none of.
     pub fn value(
         &self,
         alloc: Global,
@@ -302,14 +311,11 @@ impl<'a> Session<'a> {
         }
     }
 
-    /// The name of a store, empty where it has none or there is no such store.
+    /// The name of a store, or of the layer or the platform; empty where it has none or there is no such store.
     pub fn name(&self, alloc: Global, store: u32) -> Result<Text, Memory>
         ensures { IfOk result (λ name. name ≡ name_of self.now.tables store) }
     {
-        match self.engine.file().store(store) {
-            Some(store) => store.name(alloc),
-            None => Ok(Seq::new(alloc)),
-        }
+        self.engine.name(alloc, store)
     }
 }
 

@@ -1,6 +1,6 @@
 //! Keyboards that are played by the plain evaluator of their meaning.
 
-ghost use Rattle.std.specs.Prelude.{◌≤◌, ℕ, List, length, IsTrue};
+ghost use Rattle.std.specs.Prelude.{◌≡◌, ◌+◌, ◌≤◌, ℕ, List, length, IsTrue};
 ghost use Rattle.plain_event.specs.PlainStates.{IsWithin};
 
 use crate::fixtures::{characters, press, sign, tables};
@@ -10,17 +10,41 @@ use rule_model::{Out, Pat, Rule, Store, Tables};
 use std::alloc::Global;
 use std::test::Fail;
 
-/// On each line the stores of a keyboard, each with one character as its name, then its records, then the events that it
-/// is played, each with the text that it leaves, whose caret is `|`. The items of a record are parted by dots: `*` is a
-/// mark, `?s` any(s), `=sv` a condition, `#so` index(s,o), and `:sv` a set. An event is the name of a key, `@` with a
-/// place of the caret, `+` with characters that come to the start of the text, or `o=` with a value for the store `o`.
+/// On each line the stores of a keyboard, each with one character as its name or with a name up to a colon, then its records,
+/// then the events that it is played, each with the text that it leaves, whose caret is `|`. In a value `*` is a mark, and `_`
+/// a space. The items of a record are parted by dots: `*` is a mark, `?s` any(s), `=sv` a condition, `!sv` one for unequal,
+/// `#so` index(s,o), `:sv` a set, and `^` enters the group again; `l` is the layer and `p` the platform in place of a store.
+/// An event is the name of a key, `@` with a place of the caret, `+` with characters that come to the start of the text, or
+/// the name of an option with `=` and a value.
 const CASES: &str = "\
 ; a,c>y ,c>x ; K_A a| ; K_C y| ; K_F5 y| ; K_LEFT |y
 ; *,a>à ,`>* ; K_BKQUOTE *| ; K_A à| ; K_BKSP |
 vaea wxyz ; ?0,1>#11 ; K_A a| ; K_1 x|
 oab vba ; ?0,1>:01.#01 ; K_A a| ; K_1 b|
 o0 v1 ; =01,a>x ,a>y ; K_A y| ; o=1 y| ; K_A yx|
-; ,a>b ; K_A b| ; +xy xyb| ; @1 x|yb";
+o0 v1 ; !01,a>x ,a>y ; K_A x| ; o=1 x| ; K_A xy|
+; ,a>b ; K_A b| ; +xy xyb| ; @1 x|yb
+vs ; =l0,a>y ,a>n ; K_A n| ; &layer=s n| ; K_A ny| ; &layer=S ny| ; K_A nyn|
+vx ; =l0,a>y !l0,a>n ; K_A n| ; &Layer=x n| ; K_A ny| ; &LAYER=_x ny| ; K_A nyn|
+vz ; =l0,a>y =p0,a>z ,a>n ; layer=z | ; platform=z | ; K_A n| ; @0 |n
+vDefault wdefault ; =l0,a>y =l1,a>x ,a>n !l0,b>u ; K_A x| ; K_B xu|
+v wdefault ; =l0,a>e =l1,a>d ,b>:l0.z ; K_A d| ; K_B dz| ; K_A dze|
+wdefault ; =l0,a>d ,a>n ,b>:l0 ; K_B | ; K_A d| ; &layer=x d| ; K_A dn| ; K_B dn| ; K_A dnd|
+vs ; =l0,a>x ,a>:l0.^ ; K_A x| ; K_A xx|
+vs wt ; =l0.=l1,a>x =l1,a>t =l0,a>:l1.s ,a>:l0.^ ; K_A s| ; K_A st|
+vs wab xyz ; =l0.?1,1>#22 ; &layer=s | ; K_B b| ; K_1 z|
+&layer:0 v1 wdefault ; =01,a>y =l2,a>x ,a>n =l2,b>d ; K_A x| ; &layer=1 x| ; K_A xy| ; K_B xyd|
+&layer:0 v1 ; =l1,a>y ,a>n ; K_A n| ; &layer=1 n| ; K_A ny|
+&platform:0 v1 ; =01,a>y =p1,a>x ,a>n ; K_A n| ; &PLATFORM=1 n| ; K_A ny|
+v* ; =l0,a>y ,a>n ,b>:l0 ; K_A n| ; K_B n| ; K_A ny|
+vNative__WINDOWS ; =p0,a>y ,a>n ; K_A y| ; &platform=web y| ; K_A yn| ; &platform=__NATIVE_windows__ yn| ; K_A yny|
+vNative__WINDOWS ; =p0,a>y ,a>n ; &platform=_ | ; K_A n| ; &platform=native n| ; K_A nn|
+v__ w ; =p0,a>y =p1,b>y !p0,c>z !p1,d>z ; K_A y| ; K_B yy| ; K_C yyc| ; K_D yycd| ; &platform= yycd| ; K_A yycdy|
+vnative_native_DESKTOP ; =p0,a>y ,a>n ; K_A y| ; &platform=desktop_native y| ; K_A yy|
+vnativ wwindows_web ; =p0,a>y =p1,a>z !p0,a>n ; K_A n| ; &platform=nativ_web n| ; K_A ny|
+vé ; =p0,a>y ,a>n ; &platform=É | ; K_A n| ; &platform=x_é n| ; K_A ny|
+v* wnative* ; =p0,a>y =p1,a>z !p1,a>n ; K_A n| ; &platform=native n| ; K_A nn|
+vweb wweb_x ; !p0,a>n =l1,a>z ,a>y ; K_A n| ; &platform=web_x n| ; K_A ny| ; &layer=web_x ny| ; K_A nyz|";
 
 fn digit(byte: u8) -> u32 {
     u32::from(byte.saturating_sub(b'0'))
@@ -30,20 +54,49 @@ fn character(text: &str) -> char {
     text.chars().next().unwrap_or('?')
 }
 
+/// The system id of a letter that stands in place of a store's number.
+fn system_id(letter: u8) -> Option<u32> {
+    match letter {
+        b'l' => Some(33),
+        b'p' => Some(31),
+        _ => None,
+    }
+}
+
+/// A condition that a store, or a system option, has a value or, for unequal, has another.
+fn condition(is_equal: bool, store: u8, value: u8) -> Pat {
+    match (system_id(store), is_equal) {
+        (Some(id), true) => Pat::SystemEqual(id, digit(value)),
+        (Some(id), false) => Pat::SystemUnequal(id, digit(value)),
+        (None, true) => Pat::Equal(digit(store), digit(value)),
+        (None, false) => Pat::Unequal(digit(store), digit(value)),
+    }
+}
+
 fn pattern(text: &str) -> Pat {
     match text.as_bytes() {
         [b'*'] => Pat::Mark(1),
         [b'?', store] => Pat::Any(digit(*store)),
-        [b'=', store, value] => Pat::Equal(digit(*store), digit(*value)),
+        [b'=', store, value] => condition(true, *store, *value),
+        [b'!', store, value] => condition(false, *store, *value),
         _ => Pat::Char(character(text)),
+    }
+}
+
+/// A set of a store, or of a system option.
+fn set(store: u8, value: u8) -> Out {
+    match system_id(store) {
+        Some(id) => Out::SetSystem(id, digit(value)),
+        None => Out::Set(digit(store), digit(value)),
     }
 }
 
 fn output(text: &str) -> Out {
     match text.as_bytes() {
         [b'*'] => Out::Mark(1),
+        [b'^'] => Out::Enter(0),
         [b'#', store, offset] => Out::Index(digit(*store), digit(*offset)),
-        [b':', store, value] => Out::Set(digit(*store), digit(*value)),
+        [b':', store, value] => set(*store, *value),
         _ => Out::Char(character(text)),
     }
 }
@@ -69,18 +122,25 @@ fn rule(alloc: Global, text: &str) -> Result<Rule, Memory> {
     })
 }
 
-/// Characters as elements.
+/// The elements of a value.
 fn elements(alloc: Global, text: &str) -> Result<Seq<Element>, Memory> {
     let mut elements = Vec::new(alloc);
     for c in text.chars() {
-        elements.push(Element::Char(c))?;
+        elements.push(match c {
+            '*' => Element::Mark(1),
+            '_' => Element::Char(' '),
+            _ => Element::Char(c),
+        })?;
     }
     Ok(Seq::from_vec(elements))
 }
 
-/// A store, by its name and its characters.
+/// A store, by its name and its value.
 fn store(alloc: Global, text: &str) -> Result<Store, Memory> {
-    let (name, value) = text.split_at_checked(1).unwrap_or(("", ""));
+    let (name, value) = match text.split_once(':') {
+        Some(parts) => parts,
+        None => text.split_at_checked(1).unwrap_or(("", "")),
+    };
     Ok(Store {
         system: 0,
         name: Seq::from_slice(alloc, name.as_bytes())?,
@@ -101,12 +161,19 @@ fn keyboard(alloc: Global, stores: &str, records: &str) -> Result<Tables, Memory
     tables(alloc, Seq::from_vec(made), Seq::from_vec(rules))
 }
 
-/// Before the first event: no text, each store with its elements, and nothing saved.
+/// The elements of the system options, which stand behind the stores.
+const SYSTEM_OPTIONS: &[&str] = &["default", "windows_desktop_hardware_native"];
+
+/// Before the first event: no text, each store and system option with its elements, and nothing saved.
 fn start(alloc: Global, tables: &Tables) -> Result<PlainState, Memory> {
     let mut current = Vec::new(alloc);
     let mut saved = Vec::new(alloc);
     for store in tables.stores.as_slice() {
         current.push(store.elements.copy(alloc)?)?;
+        saved.push(None)?;
+    }
+    for value in SYSTEM_OPTIONS {
+        current.push(elements(alloc, value)?)?;
         saved.push(None)?;
     }
     Ok(PlainState {
@@ -142,7 +209,7 @@ fn event(alloc: Global, text: &str) -> Result<Event, Memory> {
     };
     Ok(Event::Setting {
         name: Seq::from_slice(alloc, name.as_bytes())?,
-        value: Seq::from_vec(value.chars().collect(alloc)?),
+        value: Seq::from_vec(value.replace(alloc, "_", " ")?.chars().collect(alloc)?),
     })
 }
 
@@ -170,6 +237,13 @@ fn is_within(count: usize, event: &Event) -> bool
     }
 }
 
+/// Whether there is one for each store and each system option.
+fn is_full(count: usize, tables: &Tables) -> bool
+    ensures { IsTrue result → count ≡ length tables.now.stores + 2 }
+{
+    count >= 2 && count - 2 == tables.stores.len()
+}
+
 /// The state after one event.
 fn played(
     alloc: Global,
@@ -180,8 +254,8 @@ fn played(
     let event = event(alloc, text)?;
     let before = characters(alloc, state.left.as_slice())?.len();
     if state.left.len() < 0x1_0000_0000
-        && state.current.len() == tables.stores.len()
-        && state.saved.len() == tables.stores.len()
+        && is_full(state.current.len(), tables)
+        && is_full(state.saved.len(), tables)
         && is_within(before.saturating_add(state.right.len()), &event)
     {
         return Ok(plain_event(alloc, tables, state, &event)?);

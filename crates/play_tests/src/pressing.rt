@@ -1,4 +1,4 @@
-//! Presses of keys on an engine, and texts that it reads again.
+//! Presses of keys on an engine, texts that it reads again, and the options that it finds by name.
 
 use crate::fixtures::{press, sign};
 use kmn_base::{Item, Memory, Outcome, Seq};
@@ -156,6 +156,47 @@ fn worked_keyboards(rt: HostRuntime) -> Result<(), Fail> {
         let wrong = wrong_in_case(rt.alloc(), case)?;
         assert!(rt; wrong.is_none(), "{}", wrong.unwrap_or(""));
     }
+    Ok(())
+}
+
+/// Names, and whether an option of the keyboard of `set_options` has them.
+const NAMES: &[(&str, bool)] = &[
+    ("o", true),
+    ("O", true),
+    ("s", false),
+    ("", false),
+    ("&layer", true),
+    ("&LAYER", true),
+    ("layer", false),
+    ("&Platform", true),
+    ("platform", false),
+    ("&layers", false),
+    ("&bitmap", false),
+];
+
+/// The first name of which a setting answers otherwise.
+fn wrong_name(alloc: Global, engine: &mut Engine) -> Result<Option<&'static str>, Fail> {
+    for &(name, is_option) in NAMES {
+        if engine.setting(alloc, name.as_bytes(), &['x'])? != is_option {
+            return Ok(Some(name));
+        }
+    }
+    Ok(None)
+}
+
+/// The first wrong name with a keyboard that has an option `o` and another store `s`.
+fn set_options(alloc: Global) -> Result<Option<&'static str>, Fail> {
+    let text =
+        b"store(o) '0'\nstore(s) '0'\nbegin Unicode > use(main)\ngroup(main) using keys\n+ 'a' > save(o)\n";
+    let bytes = compile(alloc, text, &[])?.bytes;
+    let mut engine = started(alloc, bytes.as_slice())?;
+    wrong_name(alloc, &mut engine)
+}
+
+#[test]
+fn names_of_options(rt: HostRuntime) -> Result<(), Fail> {
+    let wrong = set_options(rt.alloc())?;
+    assert!(rt; wrong.is_none(), "{}", wrong.unwrap_or(""));
     Ok(())
 }
 

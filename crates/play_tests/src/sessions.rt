@@ -1,6 +1,6 @@
 //! Sessions with compiled keyboards, event by event.
 
-use crate::fixtures::{press, sign};
+use crate::fixtures::{press, sign, with_system_options};
 use kmn_base::{Element, Event, Item, KeyPress, Memory, Seq};
 use kmn_compiler::compile;
 use kmx_verifier::{Verified, verify};
@@ -33,6 +33,38 @@ K_X x,x, ; K_BKQUOTE ,x*, ; |0 ,, ; |1 ,x, ; K_A y,xy,
 K_X x,x, ; K_BKQUOTE ,x*, ; -0,0,uu ,uux, ; |9 E1 ; -2,1, E1 ; -3,4, E1
 K_X x,x, ; K_BKQUOTE ,x*, ; -1,1,u ,x*,
 K_BKQUOTE ,*, ; K_Q à,à,";
+
+/// Keyboards that look at the layer and the platform in place of their first two stores, each with the steps of sessions.
+/// The second has an option that is called as the layer is.
+const ON_SYSTEM_OPTIONS: &[(&[u8], &str)] = &[
+    (
+        b"store(layer) 'l'\nstore(platform) 'p'\nstore(o) '0'\nbegin Unicode > use(main)\ngroup(main) using keys\n\
+        if(layer = 's') + 'a' > 'x'\nif(platform = 'WEB') + 'a' > 'w'\nif(o = '1') + 'a' > 'o'\n+ 'a' > 'y'\n\
+        + 's' > set(layer = 's')\n+ 'd' > set(layer = 'default')\n+ 'e' > set(layer = '')\nif(layer != '') + 'f' > 'n'\n\
+        + 'o' > set(layer = 's') set(o = '1') save(o)\n+ 'r' > reset(o)\n",
+        "\
+K_A y,y, ; K_S ,y,&layers ; K_A x,yx, ; K_S ,yx, ; K_D ,yx,&layerdefault ; K_A y,yxy,
+K_F n,n, ; K_E ,n,&layer ; K_F f,nf, ; K_D ,nf,&layerdefault ; K_E ,nf,&layer
+K_D ,, ; =&Layer,x ,,&layerx!&layerx ; =&LAYER,x ,, ; =layer,z ,, ; K_A y,y, ; K_S ,y,&layers ; K_A x,yx,
+=platform,web ,, ; K_A y,y, ; =&platform,web ,y,&platformweb!&platformweb ; K_A w,yw, ; =&PLATFORM,weB ,yw,&platformweB!&platformweB
+=&platform,webs ,,&platformwebs!&platformwebs ; K_A y,y, ; =&platform, ,y,&platform!&platform ; K_A y,yy,
+K_O ,,o1!o1&layers ; K_A x,x, ; K_D ,x,&layerdefault ; K_A o,xo, ; =o,0 ,xo,o0!o0 ; K_A y,xoy, ; K_R ,xoy,
+=&layer,s ,,&layers!&layers ; |0 ,, ; K_X x,x, ; -0,0,u ,ux, ; K_A x,uxx, ; |9 E1 ; K_D ,uxx,&layerdefault",
+    ),
+    (
+        b"store(layer) 'l'\nstore(platform) 'p'\nstore(~layer) '0'\nbegin Unicode > use(main)\ngroup(main) using keys\n\
+        if(~layer = '1') + 'a' > 'o'\nif(layer = 'default') + 'a' > 'd'\n+ 'a' > 'y'\n+ 's' > set(layer = 's')\n",
+        "\
+K_A d,d, ; =&layer,1 ,d,&layer1!&layer1 ; K_A o,do, ; =&Layer,s ,do,&layers!&layers ; K_A d,dod, ; K_S ,dod,&layers ; K_A y,dody,",
+    ),
+];
+
+/// Numbers of a file without stores, each with the name and the value that it has before the first event.
+const NUMBERS: &[(u32, &str, &str)] = &[
+    (0, "&layer", "default"),
+    (1, "&platform", "windows desktop hardware native"),
+    (2, "", ""),
+];
 
 /// A number of the table.
 fn number(text: &str) -> u32 {
@@ -132,14 +164,29 @@ fn copy_shows(alloc: Global, session: &Session, step: &str) -> Result<bool, Fail
     shows(alloc, &mut copy, step)
 }
 
-/// The first step of a session, or of a copy made before it, that shows something else.
+/// Whether a preview of a step shows what the step is to insert, where it is a press.
+fn preview_shows(alloc: Global, session: &Session, step: &str) -> Result<bool, Fail> {
+    let (word, wanted) = step.split_once(' ').unwrap_or((step, ""));
+    let Event::Key(press) = event(alloc, word)? else {
+        return Ok(true);
+    };
+    let preview = session.preview(alloc, press)?;
+    let mut inserted = String::new(alloc);
+    for c in preview.inserted.as_slice() {
+        inserted.push(*c)?;
+    }
+    Ok(inserted.as_str() == wanted.split_once(',').unwrap_or((wanted, "")).0)
+}
+
+/// The first step of a session, of a copy made before it, or of a preview, that shows something else.
 fn wrong_step(
     alloc: Global,
     session: &mut Session,
     case: &'static str,
 ) -> Result<Option<&'static str>, Fail> {
     for step in case.split(" ; ") {
-        if !copy_shows(alloc, session, step)? || !shows(alloc, session, step)? {
+        let tried = preview_shows(alloc, session, step)? && copy_shows(alloc, session, step)?;
+        if !tried || !shows(alloc, session, step)? {
             return Ok(Some(step));
         }
     }
@@ -156,9 +203,13 @@ fn wrong_case(
     wrong_step(alloc, &mut session, case)
 }
 
-/// The first wrong step of the cases with the keyboard of a file.
-fn wrong_in(alloc: Global, file: &Verified) -> Result<Option<&'static str>, Fail> {
-    for case in CASES.lines() {
+/// The first wrong step of cases with the keyboard of a file.
+fn wrong_in(
+    alloc: Global,
+    file: &Verified,
+    cases: &'static str,
+) -> Result<Option<&'static str>, Fail> {
+    for case in cases.lines() {
         if let Some(step) = wrong_case(alloc, file, case)? {
             return Ok(Some(step));
         }
@@ -170,12 +221,71 @@ fn wrong_in(alloc: Global, file: &Verified) -> Result<Option<&'static str>, Fail
 fn wrong_with_keyboard(alloc: Global) -> Result<Option<&'static str>, Fail> {
     let compiled = compile(alloc, KEYBOARD, &[])?;
     let file = verify(alloc, compiled.bytes.as_slice())?;
-    wrong_in(alloc, &file)
+    wrong_in(alloc, &file, CASES)
 }
 
 #[test]
 fn events_of_every_kind(rt: HostRuntime) -> Result<(), Fail> {
     let wrong = wrong_with_keyboard(rt.alloc())?;
+    assert!(rt; wrong.is_none(), "{}", wrong.unwrap_or(""));
+    Ok(())
+}
+
+/// The first wrong step of cases with a keyboard that looks at system options.
+fn wrong_with_system_options(
+    alloc: Global,
+    keyboard: &[u8],
+    cases: &'static str,
+) -> Result<Option<&'static str>, Fail> {
+    let compiled = compile(alloc, keyboard, &[])?;
+    let bytes = with_system_options(alloc, compiled.bytes.as_slice())?;
+    let file = verify(alloc, bytes.as_slice())?;
+    wrong_in(alloc, &file, cases)
+}
+
+#[test]
+fn events_with_system_options(rt: HostRuntime) -> Result<(), Fail> {
+    for &(keyboard, cases) in ON_SYSTEM_OPTIONS {
+        let wrong = wrong_with_system_options(rt.alloc(), keyboard, cases)?;
+        assert!(rt; wrong.is_none(), "{}", wrong.unwrap_or(""));
+    }
+    Ok(())
+}
+
+/// Whether a number has a name, a value and nothing saved.
+fn has_value(
+    alloc: Global,
+    session: &Session,
+    number: u32,
+    name: &str,
+    value: &str,
+) -> Result<bool, Fail> {
+    let mut text = String::new(alloc);
+    if let Some(elements) = session.value(alloc, number, false)? {
+        show_value(&mut text, elements.as_slice())?;
+    }
+    Ok(
+        session.name(alloc, number)?.as_slice() == name.as_bytes()
+            && text.as_str() == value
+            && session.value(alloc, number, true)?.is_none(),
+    )
+}
+
+/// The name of the first number that is wrong before the first event on the file of one rule.
+fn wrong_number(alloc: Global) -> Result<Option<&'static str>, Fail> {
+    let file = verify(alloc, ONE_RULE)?;
+    let session = Session::start(alloc, &file)?;
+    for &(number, name, value) in NUMBERS {
+        if !has_value(alloc, &session, number, name, value)? {
+            return Ok(Some(name));
+        }
+    }
+    Ok(None)
+}
+
+#[test]
+fn numbers_behind_the_stores(rt: HostRuntime) -> Result<(), Fail> {
+    let wrong = wrong_number(rt.alloc())?;
     assert!(rt; wrong.is_none(), "{}", wrong.unwrap_or(""));
     Ok(())
 }

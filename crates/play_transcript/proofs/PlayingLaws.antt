@@ -23,8 +23,7 @@ use Rattle.play_session.specs.Changes.{Values, current_at, saved_at, is_newly_sa
 use Rattle.play_session.specs.Session.{SessionState, first_session, happened, after_step, values_of}
 use Rattle.rule_model.specs.Match.{same_value}
 use Rattle.rule_model.specs.Plain.{option_numbers}
-use Rattle.rule_model.specs.Tab.{tab_options, with_options}
-use Rattle.rule_model.proofs.PlainOptions.{length-option_numbers, length-with_options}
+use Rattle.rule_model.proofs.PlainOptions.{length-option_numbers}
 use Rattle.std.proofs.lemmas.List.Elements.{All-nil, All-cons, All-append}
 use Rattle.std.specs.List.{All}
 use Rattle.play_transcript.specs.declared.playing.Counts.{Counts}
@@ -208,15 +207,10 @@ module _ (before after : Values) where
       All-append (IsWithin count) (store_changes before after store number) (changes_from before after (store + 1) numbers)
       (store_within store count number (omega arith)) (changes_within (store + 1) numbers count (omega arith))
 
--- each store of tables has its option number, or none
-number_count : (tables : Tables) → length (option_numbers 0 (tab tables).stores) ≡ length tables.stores
-unfolding tab
-number_count tables = length-option_numbers 0 (with_options (tab_options tables) 0 tables.stores) ∙ length-with_options (tab_options tables) 0 tables.stores
-
 pub step_of_stores : (before after : SessionState) (event : Event) → after ≡ after_step before event → AreOfStores after
 step_of_stores before after event left =
     subst AreOfStores (sym left)
-    (changes_within (values_of before.state) (values_of (happened before event).after) 0 (option_numbers 0 (tab before.tables).stores) (length before.tables.stores) (omega (arith, number_count before.tables)))
+    (changes_within (values_of before.state) (values_of (happened before event).after) 0 (option_numbers 0 (tab before.tables).stores) (length (tab before.tables).stores) (omega (arith, length-option_numbers 0 (tab before.tables).stores)))
 
 -- what is printed of a step is what its session tells of it
 pub happened_prints : ChangesArePrinted → (before after : SessionState) (event : Event) (step : Step) → IsSession before

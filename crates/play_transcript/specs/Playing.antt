@@ -54,9 +54,9 @@ event_lines session event = happening_lines session.state (one_more session.numb
 abbrev pub happened_lines : SessionState → Step → List ℕ
 happened_lines session step = event_line step.number step.outcome session.inserted (window session.state.left) ++ change_lines session
 
--- the changes of a session are of its stores
+-- the changes of a session are of its stores, the layer and the platform among them
 abbrev pub AreOfStores : SessionState → Type 0
-AreOfStores session = All (λ (change : Change). change.store < length session.tables.stores) session.changes
+AreOfStores session = All (λ (change : Change). change.store < length (tab session.tables).stores) session.changes
 
 -- the line of an expected text, where it differs
 abbrev pub expect_lines : State → ℕ → List ℕ → List ℕ

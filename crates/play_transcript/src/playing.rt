@@ -174,7 +174,7 @@ fn put_changes<S: Sink>(
     changes: &[Change],
     out: &mut S,
 ) -> Result<(), WriteError>
-    requires { All (λ change. change.store < length session.now.tables.stores) changes.now }
+    requires { All (λ change. change.store < length (tab session.now.tables).stores) changes.now }
     ensures counts { WriteCounts (S.faults out.old) (S.faults out.new) result }
     ensures told { S.told out.new ≡ S.told out.old }
     ensures prints { IsTrue (S.told out.old) → Prints (S.written out.old) (S.written out.new) (flat_map (change_line session.now) changes.now) result }
@@ -193,7 +193,7 @@ fn put_change<S: Sink>(
     change: &Change,
     out: &mut S,
 ) -> Result<(), WriteError>
-    requires { change.now.store < length session.now.tables.stores }
+    requires { change.now.store < length (tab session.now.tables).stores }
     ensures counts { WriteCounts (S.faults out.old) (S.faults out.new) result }
     ensures told { S.told out.new ≡ S.told out.old }
     ensures prints { IsTrue (S.told out.old) → Prints (S.written out.old) (S.written out.new) (change_line session.now change.now) result }
@@ -204,7 +204,7 @@ fn put_change<S: Sink>(
 
 /// The line of an option's new value.
 fn change_line(alloc: Global, session: &Session, change: Change) -> Result<Text, Memory>
-    requires { change.store < length session.now.tables.stores }
+    requires { change.store < length (tab session.now.tables).stores }
     ensures { IfOk result (λ line. line ≡ change_line session.now change) }
 {
     let name = session.name(alloc, change.store)?;

@@ -1,11 +1,12 @@
 -- Whether a rule holds is seen in the window, since no context is longer.
-use Rattle.std.proofs.Common.{◌≡◌, ◌≢◌, ℕ, zero, suc, ◌+◌, ◌-◌, ◌≤◌, min, Bool, List, [], ◌∷◌, length, drop, map, Some, refl, sym, ◌∙◌, ap, subst, inl, inr, arith, eqb, leb}
+use Rattle.std.proofs.Common.{◌≡◌, ◌≢◌, ℕ, ◌+◌, ◌-◌, ◌≤◌, min, Bool, List, [], ◌∷◌, length, drop, map, Some, refl, sym, ◌∙◌, ap, subst, inl, inr, arith, eqb, leb}
 use Rattle.std.specs.Prelude.{◌&&◌, if◌then◌else◌, None, slice_get}
 use Rattle.std.specs.List.{list_all, list_any, All}
 use Rattle.std.proofs.lemmas.Bool.{cases_lt}
 use Rattle.std.proofs.lemmas.Bool.Decides.{nat_tests}
 use Rattle.std.proofs.lemmas.List.{drop-drop, length-map}
-use Rattle.std.proofs.lemmas.List.Elements.{All-head, All-tail}
+use Rattle.std.proofs.lemmas.List.Elements.{All-head, All-tail, All-get_or}
+use Rattle.std.proofs.lemmas.Option.{get_or_from_slice_get, slice_get_within}
 use Rattle.kmn_base.specs.declared.items.Item.{Item}
 use Rattle.kmn_base.specs.declared.keys.KeyPress.{KeyPress}
 use Rattle.kmn_base.specs.Lists.{window}
@@ -21,7 +22,7 @@ use Rattle.rule_model.specs.Hold.{is_true, is_at_start, pattern_count, has_room,
 use Rattle.rule_model.specs.Tab.{tab_pattern, tab_rule}
 use Rattle.rule_index.proofs.ContextCounts.{few_patterns}
 use Rattle.rule_matching.specs.Moment.{AreShort}
-use Rattle.rule_engine.specs.Event.{HasShortContexts}
+use Rattle.rule_engine.specs.Event.{GroupChangesOwn, HasShortContexts, PlatformStays}
 
 same_eq : (len n : ℕ) → n ≤ 63 → eqb len n ≡ eqb (min 64 len) n
 same_eq len n few = elim (cases_lt len 64) [
@@ -68,13 +69,13 @@ first_in_window content left press stores using_keys (rule ∷ rules) short =
     let behind = first_in_window content left press stores using_keys rules (All-tail (λ (r : Rule). length r.context ≤ 60) rule rules short) in
     λ i. first_with (tab_rule stores using_keys rule) (here i) (behind i)
 
--- a group of tables has short contexts
-short_at : (groups : List Group) (n : ℕ) (group : Group) → All (λ (g : Group). AreShort g.rules) groups → slice_get groups n ≡ Some group → AreShort group.rules
-short_at [] n group short is = absurd (cc)
-short_at (g ∷ groups) zero group short is =
-    let same : g ≡ group = cc in
-    subst (λ (x : Group). AreShort x.rules) same (All-head (λ (x : Group). AreShort x.rules) g groups short)
-short_at (g ∷ groups) (suc n) group short is = short_at groups n group (All-tail (λ (x : Group). AreShort x.rules) g groups short) is
+-- what holds of all groups of tables holds of one
+all_at : (P : Group → Type 0) (groups : List Group) (n : ℕ) (group : Group) → All P groups → slice_get groups n ≡ Some group → P group
+all_at P groups n group all is =
+    subst P (get_or_from_slice_get groups n group group is) (All-get_or P groups n group (slice_get_within groups n group is) all)
 
 pub short_in_group : (tables : Tables) (n : ℕ) (group : Group) → HasShortContexts tables → slice_get tables.groups n ≡ Some group → AreShort group.rules
-short_in_group tables n group short is = short_at tables.groups n group short is
+short_in_group tables n group short is = all_at (λ (g : Group). AreShort g.rules) tables.groups n group short is
+
+pub own_in_group : (tables : Tables) (n : ℕ) (group : Group) → PlatformStays tables → slice_get tables.groups n ≡ Some group → GroupChangesOwn (length tables.stores) group
+own_in_group tables n group own is = all_at (GroupChangesOwn (length tables.stores)) tables.groups n group own is

@@ -1,6 +1,6 @@
 -- What an engine is made of, at its start and then.
 use Rattle.std.proofs.Common.{◌≡◌, ℕ, suc, ◌<◌, get_or, Bool, true, false, List, [], ◌∷◌, length, map, Option, Some, None, refl, sym, ◌∙◌, ap, arith}
-use Rattle.std.specs.Prelude.{if◌then◌else◌, position, slice_get, slice_set}
+use Rattle.std.specs.Prelude.{if◌then◌else◌, slice_get, slice_set}
 use Rattle.std.specs.Option.{option_flatten}
 use Rattle.std.proofs.lemmas.Option.{slice_get-get_or}
 use Rattle.std.proofs.lemmas.List.{length-map}
@@ -10,11 +10,10 @@ use Rattle.kmn_base.specs.declared.items.Element.TheVariants.{Char}
 use Rattle.kmn_base.specs.declared.limits.TheConstants.{EVENT_PUTS}
 use Rattle.rule_model.specs.declared.tables.Tables.{Tables}
 use Rattle.rule_model.specs.Keyboard.{StoreMeaning, Numbered}
-use Rattle.rule_model.specs.Plain.{of_options, option_numbers, option_named as named_option}
+use Rattle.rule_model.specs.Plain.{of_options}
 use Rattle.rule_model.specs.Content.{option_number}
-use Rattle.rule_model.proofs.PlainOptions.{first_named}
-use Rattle.rule_model.specs.Event.{State, has_name, set_option}
-use Rattle.rule_model.specs.Tab.{tab, tab_options}
+use Rattle.rule_model.specs.Event.{State, set_option}
+use Rattle.rule_model.specs.Tab.{tab}
 use Rattle.rule_model.specs.Trace.{options_of, first_state}
 use Rattle.option_store.specs.declared.options.Cell.{Cell}
 use Rattle.option_store.specs.Cells.{first_cells, changed, host_cell, current_value, saved_value}
@@ -23,7 +22,8 @@ use Rattle.option_store.proofs.FirstCells.{first_cells_count}
 use Rattle.option_store.proofs.Meaning.{calls_follow, first_option_values, first_option_saves}
 use Rattle.event_text.specs.Texts.{InsertedValue}
 use Rattle.rule_engine.specs.Engine.{EngineState, IsEngine, IsRunnable, IsAtWork, engine_with, first_engine, option_named, with_option, set_by_host}
-use Rattle.rule_matching.proofs.StoreContents.{stores_meant}
+use Rattle.rule_engine.specs.Event.{moment_with}
+use Rattle.rule_matching.specs.Moment.{truths_at}
 
 -- there are as many values of options as options
 module _ {X : Type 0} where
@@ -39,48 +39,43 @@ module _ {X : Type 0} where
       one true behind = ap suc behind
       one false behind = behind
 
-pub at_work_is_engine : (tables : Tables) (context : List Item) (cells : List Cell) (inserted : InsertedValue) → IsAtWork tables context cells inserted
+pub at_work_is_engine : (tables : Tables) (context : List Item) (cells : List Cell) (truths : List Bool) (inserted : InsertedValue) → IsAtWork tables context cells truths inserted
     → IsEngine (engine_with tables context cells inserted.text)
-at_work_is_engine tables context cells inserted h =
+at_work_is_engine tables context cells truths inserted h =
     let stores : List StoreMeaning = (tab tables).stores in
-    let count : length cells ≡ length stores = h.stores ∙ sym (stores_meant tables) in
     record {
       few = h.few;
-      current = values_counted stores _ (length-map cells (current_value (stated stores)) ∙ count);
-      saved = values_counted stores _ (length-map cells (saved_value (stated stores)) ∙ count);
+      current = values_counted stores _ (length-map cells (current_value (stated stores)) ∙ h.stores);
+      saved = values_counted stores _ (length-map cells (saved_value (stated stores)) ∙ h.stores);
       inserted = h.text;
     }
 
 abbrev pub nothing_inserted : InsertedValue
 nothing_inserted = record { text = []; room = EVENT_PUTS }
 
-pub first_is_at_work : (tables : Tables) → IsRunnable tables → IsAtWork tables [] (first_cells 0 (length tables.stores)) nothing_inserted
-first_is_at_work tables can = record {
+pub first_is_at_work : (tables : Tables) (context : List Item) (cells : List Cell) (truths : List Bool) (inserted : InsertedValue) → IsRunnable tables → context ≡ []
+    → cells ≡ first_cells 0 (length (tab tables).stores) → truths ≡ truths_at (moment_with tables cells) → inserted ≡ nothing_inserted
+    → IsAtWork tables context cells truths inserted
+first_is_at_work tables context cells truths inserted can empty are right nothing = record {
   runnable = can;
-  few = omega arith;
-  stores = first_cells_count 0 (length tables.stores);
-  text = omega arith;
-  room = refl;
+  few = omega (arith, ap length empty);
+  stores = ap length are ∙ first_cells_count 0 (length (tab tables).stores);
+  right = right;
+  text = omega (arith, ap (λ (value : InsertedValue). length value.text) nothing);
+  room = ap (λ (value : InsertedValue). value.room) nothing;
 }
 
-pub first_values : (tables : Tables) → engine_with tables [] (first_cells 0 (length tables.stores)) [] ≡ first_engine tables
-first_values tables =
+pub first_values : (tables : Tables) (cells : List Cell) → cells ≡ first_cells 0 (length (tab tables).stores) → engine_with tables [] cells [] ≡ first_engine tables
+first_values tables cells are =
     let stores : List StoreMeaning = (tab tables).stores in
-    let cells : first_cells 0 (length tables.stores) ≡ first_cells 0 (length stores) = ap (first_cells 0) (sym (stores_meant tables)) in
     λ i. record (first_engine tables) {
-      current = (ap (option_values stores) cells ∙ first_option_values stores) i;
-      saved = (ap (option_saves stores) cells ∙ first_option_saves stores) i;
+      current = (ap (option_values stores) are ∙ first_option_values stores) i;
+      saved = (ap (option_saves stores) are ∙ first_option_saves stores) i;
     }
 
 -- the number that a list of numbers has at a place
 pub number_there : (numbers : List (Option ℕ)) (n : ℕ) (d : Option ℕ) → n < length numbers → option_flatten (slice_get numbers n) ≡ get_or numbers n d
 number_there numbers n d within = ap (λ (number : Option (Option ℕ)). option_flatten number) (slice_get-get_or numbers n d within)
-
--- the option of a name by the stores of the tables
-pub named_is_option : (tables : Tables) (name : List ℕ)
-    → named_option name (option_numbers 0 (tab tables).stores) tables.stores ≡ position (has_name name) (first_state (tab tables)).names
-unfolding tab
-named_is_option tables name = first_named name (tab_options tables) tables.stores
 
 -- the host gives the store of an option a text
 by_state : (option : Option ℕ) (value : List Element) (engine : EngineState) (state : State) → state.current ≡ engine.current → state.saved ≡ engine.saved

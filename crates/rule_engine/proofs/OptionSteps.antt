@@ -12,7 +12,7 @@ use Rattle.option_store.specs.Cells.{changed, set_cell, save_cell, reset_cell}
 use Rattle.option_store.specs.Meaning.{with_values}
 use Rattle.option_store.proofs.Meaning.{calls_follow}
 use Rattle.rule_engine.specs.Event.{EventValue, keyboard_of}
-use Rattle.rule_matching.proofs.StoreContents.{elements_meant}
+use Rattle.rule_engine.proofs.Stores.{own_elements_meant}
 
 module _ (tables : Tables) (cells : List Cell) (n : ℕ) (s : EventState) where
   abbrev stores : List StoreMeaning
@@ -21,11 +21,11 @@ module _ (tables : Tables) (cells : List Cell) (n : ℕ) (s : EventState) where
   abbrev number : Option ℕ
   number = option_number (tab tables).stores (Numbered n)
 
-  pub set_follows : (v : ℕ) → n < length cells
+  pub set_follows : (v : ℕ) → n < length cells → v < length tables.stores
       → with_values (tab tables).stores (changed n (set_cell v) cells) s
       ≡ set_current (option_number (tab tables).stores (Numbered n)) (elements_of tables.stores v) (with_values (tab tables).stores cells s)
-  set_follows v few =
-      sym (ap (λ (value : List Element). set_current number value (with_values stores cells s)) (sym (elements_meant tables v))
+  set_follows v few own =
+      sym (ap (λ (value : List Element). set_current number value (with_values stores cells s)) (sym (own_elements_meant tables v own))
       ∙ (calls_follow stores cells n few).set v s)
 
   pub reset_follows : n < length cells
@@ -56,12 +56,12 @@ module _ (tables : Tables) (lent : List ℕ) (cells after : List Cell) (n : ℕ)
   abbrev reset_in : EventValue → EventValue
   reset_in e = record e { state = reset_current (option_number (keyboard_of e).stores (Numbered n)) (elements_at (keyboard_of e).stores (Some n)) e.state }
 
-  pub event_after_set : (v : ℕ) → after ≡ changed n (set_cell v) cells
+  pub event_after_set : (v : ℕ) → v < length tables.stores → after ≡ changed n (set_cell v) cells
       → record { tables = tables; lent = lent; state = with_values (tab tables).stores after s }
       ≡ record event { state = set_current (option_number (keyboard_of event).stores (Numbered n)) (elements_of event.tables.stores v) event.state }
-  event_after_set v set =
+  event_after_set v own set =
       ap event_with set
-      ∙ (ap (λ (t : EventState). record { tables = tables; lent = lent; state = t }) (set_follows tables cells n s v few) ∙ ap (set_in v) is)
+      ∙ (ap (λ (t : EventState). record { tables = tables; lent = lent; state = t }) (set_follows tables cells n s v few own) ∙ ap (set_in v) is)
 
   pub event_after_reset : after ≡ changed n (reset_cell n) cells
       → record { tables = tables; lent = lent; state = with_values (tab tables).stores after s }

@@ -1,5 +1,5 @@
 -- What an engine is, and what a press and a new text make of it.
-use Rattle.std.specs.Prelude.{◌≡◌, ◌≤◌, ℕ, List, [], length, map, Option, Some, None, position, slice_set}
+use Rattle.std.specs.Prelude.{◌≡◌, ◌≤◌, ℕ, List, [], length, map, Option, Some, None, Bool, position, slice_get, slice_set}
 use Rattle.kmn_base.specs.declared.items.Item.{Item}
 use Rattle.kmn_base.specs.declared.items.Element.{Element}
 use Rattle.kmn_base.specs.declared.items.Element.TheVariants.{Char}
@@ -10,6 +10,7 @@ use Rattle.kmn_base.specs.Lists.{read_again, window}
 use Rattle.rule_model.specs.declared.event_state.EventState.{EventState}
 use Rattle.rule_model.specs.declared.tables.Tables.{Tables}
 use Rattle.rule_model.specs.Event.{has_name}
+use Rattle.rule_model.specs.Keyboard.{StoreMeaning}
 use Rattle.rule_model.specs.KeyEvent.{begin_event, after_key, outcome_of, inserted}
 use Rattle.rule_model.specs.Tab.{tab}
 use Rattle.rule_model.specs.Trace.{options_of, first_state}
@@ -17,10 +18,11 @@ use Rattle.option_store.specs.declared.options.Cell.{Cell}
 use Rattle.option_store.specs.Meaning.{option_values, option_saves}
 use Rattle.rule_index.specs.Stores.{HaveFewElements}
 use Rattle.event_text.specs.Texts.{InsertedValue}
-use Rattle.rule_engine.specs.Event.{HasShortContexts, HaveFewRecords}
+use Rattle.rule_matching.specs.Moment.{truths_at}
+use Rattle.rule_engine.specs.Event.{HasShortContexts, HaveFewRecords, PlatformStays, moment_with}
 
--- an engine: its tables, the last items before the caret, of each option store, in order, the current value and the saved
--- one, and what the last press inserted
+-- an engine: its tables, the last items before the caret, of each option, in order, the current value and the saved one, and
+-- what the last press inserted
 pub record EngineState : Type 0 where
   pub tables : Tables
   pub context : List Item
@@ -59,18 +61,21 @@ engine_with tables context cells inserted =
     }
 
 -- tables that can be run: a context has no more items than are caught, a group no more records and a store no more elements
--- than are indexed, and there are no more stores than a file may have
+-- than are indexed, there are no more stores than a file may have, and no output changes the platform
 pub record IsRunnable (tables : Tables) : Type 0 where
   pub short : HasShortContexts tables
   pub few : HaveFewRecords tables.groups
   pub elements : HaveFewElements tables.stores
   pub stores : length tables.stores ≤ STORES
+  pub platform : PlatformStays tables
 
--- what an engine is made of: tables that can be run, the last items, a cell for each store, and room for a press
-pub record IsAtWork (tables : Tables) (context : List Item) (cells : List Cell) (inserted : InsertedValue) : Type 0 where
+-- what an engine is made of: tables that can be run, the last items, a cell for each store, for each store whether the platform
+-- has the words of its elements, and room for a press
+pub record IsAtWork (tables : Tables) (context : List Item) (cells : List Cell) (truths : List Bool) (inserted : InsertedValue) : Type 0 where
   pub runnable : IsRunnable tables
   pub few : length context ≤ WINDOW_ITEMS
-  pub stores : length cells ≡ length tables.stores
+  pub stores : length cells ≡ length (tab tables).stores
+  pub right : truths ≡ truths_at (moment_with tables cells)
   pub text : length inserted.text ≤ EVENT_PUTS
   pub room : inserted.room ≡ EVENT_PUTS
 
@@ -94,11 +99,19 @@ press_leaves text press engine =
       inserted = inserted (read_again engine.context text) s.left;
     }
 
+-- the name of a store of a keyboard, the layer and the platform among them; empty where there is no such store
+abbrev pub name_in : Option StoreMeaning → List ℕ
+name_in None = []
+name_in (Some store) = store.name
+
+abbrev pub name_of : Tables → ℕ → List ℕ
+name_of tables store = name_in (slice_get (tab tables).stores store)
+
 -- the engine after the text was read again
 abbrev pub synced : List ℕ → EngineState → EngineState
 synced text engine = record engine { context = window (read_again engine.context text) }
 
--- the option of a name: the first store that has it
+-- the option of a name: the first store that has it, the layer and the platform behind those of the file
 abbrev pub option_named : List ℕ → EngineState → Option ℕ
 option_named name engine = position (has_name name) (first_state (tab engine.tables)).names
 

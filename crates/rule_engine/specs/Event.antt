@@ -1,15 +1,20 @@
 -- The state inside an event as the engine has it: the tables, the lent text, and the state of the event that they stand for.
-use Rattle.std.specs.Prelude.{◌≤◌, ℕ, List, length, All}
+use Rattle.std.specs.Prelude.{◌≡◌, ◌<◌, ◌≤◌, ℕ, Bool, List, length, All}
 use Rattle.kmn_base.specs.declared.limits.TheConstants.{RECORDS}
 use Rattle.rule_model.specs.declared.event_state.EventState.{EventState}
 use Rattle.rule_model.specs.declared.tables.Group.{Group}
+use Rattle.rule_model.specs.declared.tables.Out.{Out}
+use Rattle.rule_model.specs.declared.tables.Out.TheVariants as output
+use Rattle.rule_model.specs.declared.tables.Rule.{Rule}
 use Rattle.rule_model.specs.declared.tables.Tables.{Tables}
 use Rattle.rule_model.specs.Keyboard.{Ref, Keyboard}
 use Rattle.rule_model.specs.Match.{Content}
 use Rattle.rule_model.specs.Act.{content_now}
 use Rattle.rule_model.specs.Enter.{enter_group}
 use Rattle.rule_model.specs.Tab.{tab}
-use Rattle.rule_matching.specs.Moment.{MomentValue, AreShort}
+use Rattle.option_store.specs.declared.options.Cell.{Cell}
+use Rattle.option_store.specs.Meaning.{option_values}
+use Rattle.rule_matching.specs.Moment.{MomentValue, AreShort, truths_at}
 use Rattle.rule_engine.specs.declared.entering.Entering.{Entering}
 
 -- an event on tables and on a text that is lent, with its state
@@ -29,9 +34,37 @@ content_in event = content_now (keyboard_of event) event.state
 abbrev pub moment_of : EventValue → MomentValue
 moment_of event = record { tables = event.tables; current = event.state.current }
 
+-- tables at a moment, with the values that cells stand for
+abbrev pub moment_with : Tables → List Cell → MomentValue
+moment_with tables cells = record { tables = tables; current = option_values (tab tables).stores cells }
+
 -- how an entering enters a group
 abbrev pub enters : EventValue → Entering → Ref → EventState → EventState
 enters event entering = enter_group entering.depth (keyboard_of event) entering.press
+
+-- what an item of an output sets or resets is a store of the file, of which there are so many, or the layer; a value is that of
+-- such a store too
+abbrev pub ChangesOwn : ℕ → Out → Type 0
+ChangesOwn count (output.Set store value) = (store < count) × (value < count)
+ChangesOwn count (output.SetSystem id value) = (id ≡ 33) × (value < count)
+ChangesOwn count (output.Reset store) = store < count
+ChangesOwn count _ = Unit {0}
+
+-- so does each item of an output, of a rule, and of all that a group puts out
+abbrev pub AllChangeOwn : ℕ → List Out → Type 0
+AllChangeOwn count output = All (ChangesOwn count) output
+
+abbrev pub RuleChangesOwn : ℕ → Rule → Type 0
+RuleChangesOwn count rule = AllChangeOwn count rule.output
+
+pub record GroupChangesOwn (count : ℕ) (group : Group) : Type 0 where
+  pub rules : All (RuleChangesOwn count) group.rules
+  pub on_match : AllChangeOwn count group.on_match
+  pub on_nomatch : AllChangeOwn count group.on_nomatch
+
+-- so the content of the platform stays in an event
+abbrev pub PlatformStays : Tables → Type 0
+PlatformStays tables = All (GroupChangesOwn (length tables.stores)) tables.groups
 
 -- no context has more items than are caught
 abbrev pub HasShortContexts : Tables → Type 0
@@ -40,3 +73,11 @@ HasShortContexts tables = All (λ (group : Group). AreShort group.rules) tables.
 -- no group has more records than a file may have
 abbrev pub HaveFewRecords : List Group → Type 0
 HaveFewRecords groups = All (λ (group : Group). length group.rules ≤ RECORDS) groups
+
+-- what holds while an event acts on tables: no context has more items than are caught, no output changes the platform, there is
+-- a cell for each store, and it is right of each store whether the platform has the words of its elements
+pub record CanAct (tables : Tables) (cells : List Cell) (truths : List Bool) : Type 0 where
+  pub short : HasShortContexts tables
+  pub platform : PlatformStays tables
+  pub stores : length cells ≡ length (tab tables).stores
+  pub right : truths ≡ truths_at (moment_with tables cells)

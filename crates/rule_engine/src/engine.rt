@@ -1,5 +1,5 @@
-ghost use Rattle.std.specs.Prelude.{◌≡◌, ◌<◌, ◌≤◌, ◌^◌, length, option_map, IfOk, MatchResult, is_some};
-ghost use Rattle.kmn_base.specs.declared.limits.TheConstants.{EVENT_PUTS};
+ghost use Rattle.std.specs.Prelude.{◌≡◌, ◌<◌, ◌≤◌, ◌+◌, ◌^◌, length, option_map, IfOk, MatchResult, is_some};
+ghost use Rattle.kmn_base.specs.declared.limits.TheConstants.{EVENT_PUTS, STORES};
 ghost use Rattle.kmx_format.specs.TablesOf.{tables_of};
 ghost use Rattle.option_store.specs.Meaning.{option_values, option_saves};
 ghost use Rattle.rule_model.specs.Content.{content};
@@ -11,10 +11,10 @@ ghost use Rattle.rule_matching.specs.StoreValues.{elements_in};
 
 use crate::entering::press;
 use crate::event::{Event, Pressed};
-use crate::naming::store_named;
+use crate::naming::{name_of, store_named};
 use crate::workspace::Workspace;
 use file_parts::FileTables;
-use kmn_base::{Item, KeyPress, Memory, Outcome};
+use kmn_base::{Item, KeyPress, Memory, Outcome, Seq, Text};
 use kmx_verifier::Verified;
 use option_store::Options;
 use rule_index::IndexedKeyboard;
@@ -32,6 +32,13 @@ pub struct Engine<'a> {
     workspace: Workspace,
 }
 
+/// What a press would do: its outcome, and the text that it would insert.
+#[derive(Drop)]
+pub struct Preview {
+    pub outcome: Outcome,
+    pub inserted: Seq<char>,
+}
+
 impl<'a> Model for Engine<'a> {
     ghost use Rattle.std.specs.Arc.{arc_value};
     ghost use Rattle.rule_engine.specs.Engine.{EngineState, engine_with, IsAtWork};
@@ -40,11 +47,21 @@ impl<'a> Model for Engine<'a> {
 
     ghost view = { λ engine. engine_with (arc_value engine.indexed) engine.workspace.cache engine.workspace.options engine.workspace.inserted.text };
 
-    ghost invariant = { λ engine. IsAtWork (arc_value engine.indexed) engine.workspace.cache engine.workspace.options engine.workspace.inserted };
+    ghost invariant = { λ engine. IsAtWork (arc_value engine.indexed) engine.workspace.cache engine.workspace.options engine.workspace.truths.items engine.workspace.inserted };
+}
+
+/// How many stores the keyboard of a file has: the layer and the platform stand behind those of the file.
+#[tactic(auto, using(crate::proofs::Stores::all_stores))]
+fn keyboard_stores(file: &FileTables<'_>) -> u32
+    requires { length file.now.stores ≤ STORES }
+    ensures value { result ≡ length (tab file.now).stores }
+    ensures few { result ≤ STORES + 2 }
+{
+    file.store_count() + 2
 }
 
 impl<'a> Engine<'a> {
-    ghost use Rattle.rule_engine.specs.Engine.{IsEngine, first_engine, option_named, set_by_host, synced};
+    ghost use Rattle.rule_engine.specs.Engine.{IsEngine, first_engine, name_of, option_named, set_by_host, synced};
     ghost use Rattle.rule_matching.specs.Moment.{saved_of};
 
     /// The engine of a file: an empty text, each option with its elements, and none saved.
@@ -61,8 +78,9 @@ impl<'a> Engine<'a> {
         requires { IsRunnable file }
         ensures { IfOk result (λ engine. engine ≡ first_engine file.entry) }
     {
-        let workspace = Workspace::new(alloc, file.store_count())?;
+        let mut workspace = Workspace::new(alloc, keyboard_stores(&file))?;
         let indexed = IndexedKeyboard::new(alloc, file)?;
+        workspace.begin(&indexed);
         Ok(Engine {
             indexed: Arc::new(alloc, indexed)?,
             workspace,
@@ -74,7 +92,8 @@ impl<'a> Engine<'a> {
     pub fn fresh(&self, alloc: Global) -> Result<Engine<'a>, Memory>
         ensures { IfOk result (λ engine. engine ≡ first_engine self.now.tables) }
     {
-        let workspace = Workspace::new(alloc, self.indexed.file().store_count())?;
+        let mut workspace = Workspace::new(alloc, self.indexed.store_count())?;
+        workspace.begin(&self.indexed);
         Ok(Engine {
             indexed: Arc::try_clone(&self.indexed)?,
             workspace,
@@ -85,8 +104,7 @@ impl<'a> Engine<'a> {
     pub fn copy(&self, alloc: Global) -> Result<Engine<'a>, Memory>
         ensures { IfOk result (λ engine. engine ≡ self.now) }
     {
-        let stores = self.indexed.file().store_count();
-        let workspace = self.workspace.copy(alloc, stores)?;
+        let workspace = self.workspace.copy(alloc, self.indexed.store_count())?;
         Ok(Engine {
             indexed: Arc::try_clone(&self.indexed)?,
             workspace,
@@ -108,6 +126,22 @@ impl<'a> Engine<'a> {
         done.outcome
     }
 
+    /// What a press would do where the text before the caret is `left`; nothing changes. What an event works on is copied for it,
+    /// and neither the text nor what is looked up in the file.
+    pub fn preview(&self, alloc: Global, left: &[char], press: KeyPress) -> Result<Preview, Memory>
+        requires { length left.now < 2 ^ 32 }
+        ensures outcome { IfOk result (λ preview. preview.outcome ≡ press_outcome left.now press self.now) }
+        ensures inserted { IfOk result (λ preview. preview.inserted ≡ (press_leaves left.now press self.now).inserted) }
+    {
+        let workspace = self.workspace.copy(alloc, self.indexed.store_count())?;
+        let done = pressed(&self.indexed, left, press, workspace);
+        let inserted = Seq::from_slice(alloc, done.workspace.inserted.as_slice())?;
+        Ok(Preview {
+            outcome: done.outcome,
+            inserted,
+        })
+    }
+
     /// The characters that the last press inserted; none before the first press.
     pub fn inserted(&self) -> &[char]
         ensures value { result.now ≡ self.now.inserted }
@@ -117,7 +151,6 @@ impl<'a> Engine<'a> {
     }
 
     /// The last 64 items before the caret, or all where there are fewer. All marks are among them.
-    #[tactic(auto, using(crate::proofs::Engines::at_work_is_engine))]
     pub fn context(&self) -> &[Item]
         ensures value { result.now ≡ self.now.context }
         ensures engine { IsEngine self.now }
@@ -135,27 +168,43 @@ impl<'a> Engine<'a> {
     }
 
     /// The host gives the option of a name a value, as current and as saved one: the first store that has the name, without
-    /// ASCII case; a store without a name is found by none. The answer tells whether there is such a store.
-    #[tactic(auto, using(crate::proofs::Engines::named_is_option))]
+    /// ASCII case, else the layer or the platform, which are named `&layer` and `&platform`; a store without a name is found by
+    /// none. The answer tells whether there is such an option.
     pub fn setting(&mut self, alloc: Global, name: &[u8], value: &[char]) -> Result<bool, Memory>
         ensures found { IfOk result (λ found. found ≡ is_some (option_named name.now self.old)) }
         ensures engine { MatchResult result (λ _. self.new ≡ set_by_host name.now value.now self.old) (λ _. self.new ≡ self.old) }
     {
-        let named = store_named(alloc, name, &self.indexed)?;
+        let indexed: &IndexedKeyboard<'_> = &self.indexed;
+        let named = store_named(alloc, name, indexed)?;
         let Some(store) = named else {
             return Ok(false);
         };
-        self.workspace.options.host_set(alloc, store, value)?;
+        self.workspace.host_set(alloc, indexed, store, value)?;
         Ok(true)
     }
 
-    /// What each store holds.
+    /// What each store holds, and behind those of the file the layer and the platform.
     pub fn options(&self) -> &Options
         ensures current { option_values (tab self.now.tables).stores result.now ≡ self.now.current }
         ensures saved { option_saves (tab self.now.tables).stores result.now ≡ self.now.saved }
-        ensures stores { length result.now ≡ length self.now.tables.stores }
+        ensures stores { length result.now ≡ length (tab self.now.tables).stores }
     {
         &self.workspace.options
+    }
+
+    /// How many stores there are, the layer and the platform among them.
+    pub fn store_count(&self) -> u32
+        ensures { result ≡ length (tab self.now.tables).stores }
+    {
+        self.indexed.store_count()
+    }
+
+    /// The name of a store, or of the layer or the platform, which have the two numbers behind those of the file; empty where it
+    /// has none or there is no such store.
+    pub fn name(&self, alloc: Global, store: u32) -> Result<Text, Memory>
+        ensures { IfOk result (λ name. name ≡ name_of self.now.tables store) }
+    {
+        name_of(alloc, &self.indexed, store)
     }
 
     /// The tables of the file.
@@ -195,7 +244,7 @@ impl<'a> Engine<'a> {
 
     /// What a store has where the stores hold this.
     pub fn content_with<'c>(&'c self, options: &'c Options, store: u32) -> StoreValue<'c>
-        requires { length options.now ≡ length self.now.tables.stores }
+        requires { length options.now ≡ length (tab self.now.tables).stores }
         ensures { elements_in result ≡ content (tab self.now.tables).stores (option_values (tab self.now.tables).stores options.now) (Numbered store) }
     {
         rule_matching::content(&self.indexed, options, store)
@@ -203,7 +252,7 @@ impl<'a> Engine<'a> {
 
     /// The saved value of a store where the stores hold this.
     pub fn saved_with<'c>(&'c self, options: &'c Options, store: u32) -> Option<StoreValue<'c>>
-        requires { length options.now ≡ length self.now.tables.stores }
+        requires { length options.now ≡ length (tab self.now.tables).stores }
         ensures { option_map elements_in result ≡ saved_of (tab self.now.tables).stores (option_saves (tab self.now.tables).stores options.now) store }
     {
         rule_matching::saved_of(&self.indexed, options, store)
@@ -213,11 +262,11 @@ impl<'a> Engine<'a> {
 /// What a press leaves of the text before the caret and of the options.
 fn pressed(indexed: &IndexedKeyboard, left: &[char], key: KeyPress, workspace: Workspace) -> Pressed
     requires few { length left.now < 2 ^ 32 }
-    requires work { IsAtWork indexed.now workspace.cache workspace.options workspace.inserted }
+    requires work { IsAtWork indexed.now workspace.cache workspace.options workspace.truths.items workspace.inserted }
     ensures outcome { result.outcome ≡ press_outcome left.now key (engine_with indexed.now workspace.cache workspace.options workspace.inserted.text) }
     ensures engine { engine_with indexed.now result.workspace.cache result.workspace.options result.workspace.inserted.text
         ≡ press_leaves left.now key (engine_with indexed.now workspace.cache workspace.options workspace.inserted.text) }
-    ensures work { IsAtWork indexed.now result.workspace.cache result.workspace.options result.workspace.inserted }
+    ensures work { IsAtWork indexed.now result.workspace.cache result.workspace.options result.workspace.truths.items result.workspace.inserted }
 {
     let mut event = Event::begin(indexed, left, workspace);
     press(key, &mut event);

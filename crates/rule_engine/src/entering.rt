@@ -7,7 +7,7 @@ ghost use Rattle.rule_model.specs.KeyEvent.{after_key};
 ghost use Rattle.rule_model.specs.Tab.{tab_output, tab_rule, tab_group};
 ghost use Rattle.rule_index.specs.Groups.{IsRuleIndexOf};
 ghost use Rattle.rule_matching.specs.Moment.{AreShort};
-ghost use Rattle.rule_engine.specs.Event.{keyboard_of, enters};
+ghost use Rattle.rule_engine.specs.Event.{AllChangeOwn, ChangesOwn, GroupChangesOwn, RuleChangesOwn, keyboard_of, enters};
 
 use crate::defaults::by_default;
 use crate::event::Event;
@@ -29,6 +29,7 @@ pub struct Entering {
 /// What one item of an output does.
 #[cycle(acts)]
 fn act_one(entering: Entering, caught: &Caught, output: Out, event: &mut Event)
+    requires { ChangesOwn (length event.old.tables.stores) output }
     ensures { event.new ≡ record event.old {
       state = act_one
           (keyboard_of event.old) (enters event.old entering) caught.now (tab_output event.old.tables.stores output) event.old.state;
@@ -42,6 +43,7 @@ fn act_one(entering: Entering, caught: &Caught, output: Out, event: &mut Event)
         Out::ContextAt(offset) => put_any(item_caught(caught.found(), offset), event),
         Out::Enter(group) => enter_if_allowed(entering, group, event),
         Out::Set(store, value) => event.set_current(store, value),
+        Out::SetSystem(_, value) => event.set_current(event.indexed().layer(), value),
         Out::Save(store) => event.save_current(store),
         Out::Reset(store) => event.reset_current(store),
         Out::Beep => event.beep(),
@@ -53,6 +55,7 @@ fn act_one(entering: Entering, caught: &Caught, output: Out, event: &mut Event)
 /// What the next item of an output does, unless the event is stopped.
 #[cycle(acts)]
 fn act_next(entering: Entering, caught: &Caught, output: Out, event: &mut Event)
+    requires { ChangesOwn (length event.old.tables.stores) output }
     ensures { event.new ≡ record event.old {
       state = if event.old.state.stopped then event.old.state else act_one
           (keyboard_of event.old) (enters event.old entering) caught.now (tab_output event.old.tables.stores output) event.old.state;
@@ -66,6 +69,7 @@ fn act_next(entering: Entering, caught: &Caught, output: Out, event: &mut Event)
 /// The items of an output act in order; once the event is stopped nothing changes.
 #[cycle(acts)]
 fn act(entering: Entering, caught: &Caught, outputs: Outputs<'_>, event: &mut Event)
+    requires { AllChangeOwn (length event.old.tables.stores) outputs }
     ensures { event.new ≡ record event.old {
       state = act
           (keyboard_of event.old) (enters event.old entering) caught.now (map (tab_output event.old.tables.stores) outputs.entry) event.old.state;
@@ -108,6 +112,8 @@ fn do_chosen(
     caught: &mut Caught,
     event: &mut Event,
 )
+    requires group { GroupChangesOwn (length event.old.tables.stores) group.now }
+    requires rule { RuleChangesOwn (length event.old.tables.stores) rule.now }
     ensures { event.new ≡ record event.old {
       state = do_chosen (keyboard_of event.old) (enters event.old entering)
           (tab_group event.old.tables.stores group.now) (tab_rule event.old.tables.stores group.now.using_keys rule.now, caught.old) event.old.state;
@@ -122,7 +128,8 @@ fn do_chosen(
 /// Where no record holds: the nomatch output, for which nothing is caught, else the default of a group with keys.
 #[cycle(acts)]
 fn do_unmatched(entering: Entering, group: &FileGroup<'_>, nothing: &Caught, event: &mut Event)
-    requires { nothing.now ≡ record { catches = []; key_place = None } }
+    requires nothing { nothing.now ≡ record { catches = []; key_place = None } }
+    requires group { GroupChangesOwn (length event.old.tables.stores) group.now }
     ensures { event.new ≡ record event.old {
       state = do_unmatched (keyboard_of event.old) (enters event.old entering) entering.press
           (tab_group event.old.tables.stores group.now).on_nomatch group.now.using_keys event.old.state;
@@ -140,6 +147,7 @@ fn do_unmatched(entering: Entering, group: &FileGroup<'_>, nothing: &Caught, eve
 fn do_group(entering: Entering, group: &FileGroup<'_>, records: &RuleIndex, event: &mut Event)
     requires short { AreShort group.now.rules }
     requires index { IsRuleIndexOf group.now records.now }
+    requires group { GroupChangesOwn (length event.old.tables.stores) group.now }
     ensures { event.new ≡ record event.old {
       state = do_group (keyboard_of event.old) (enters event.old entering) entering.press (tab_group event.old.tables.stores group.now)
           (chosen_in (keyboard_of event.old) entering.press (tab_group event.old.tables.stores group.now) event.old.state) event.old.state;
@@ -154,7 +162,7 @@ fn do_group(entering: Entering, group: &FileGroup<'_>, records: &RuleIndex, even
 
 /// What the group of a number does, if there is one.
 #[cycle(acts)]
-#[tactic(auto, using(crate::proofs::Contexts::short_in_group))]
+#[tactic(auto, using(crate::proofs::Contexts::short_in_group, crate::proofs::Contexts::own_in_group))]
 fn in_group(entering: Entering, group: u32, event: &mut Event)
     ensures { event.new ≡ record event.old {
       state = in_group (keyboard_of event.old) (enters event.old entering) entering.press

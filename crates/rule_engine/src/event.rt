@@ -1,4 +1,5 @@
-ghost use Rattle.std.specs.Prelude.{◌≡◌, ◌≤◌, ◌<◌, ◌+◌, ◌^◌, length, option_map, None, Some, true};
+ghost use Rattle.std.specs.Prelude.{◌≡◌, ◌≤◌, ◌<◌, ◌+◌, ◌^◌, IfSome, length, option_map, None, Some, true};
+ghost use Rattle.std.specs.List.{Contains};
 ghost use Rattle.kmn_base.specs.declared.limits.TheConstants.{EVENT_PUTS};
 ghost use Rattle.kmn_base.specs.Lists.{characters, window, without_last, read_again};
 ghost use Rattle.option_store.specs.Meaning.{option_values, option_saves};
@@ -10,7 +11,7 @@ ghost use Rattle.rule_model.specs.KeyEvent.{begin_event, deleted, inserted, outc
 ghost use Rattle.rule_model.specs.Tab.{tab, elements_of, tab_group, tab_rule};
 ghost use Rattle.rule_index.specs.Groups.{IsRuleIndexOf};
 ghost use Rattle.rule_matching.specs.Moment.{AreShort};
-ghost use Rattle.rule_engine.specs.Event.{HasShortContexts, keyboard_of, moment_of};
+ghost use Rattle.rule_engine.specs.Event.{CanAct, HasShortContexts, PlatformStays, keyboard_of, moment_of};
 
 use crate::workspace::Workspace;
 use context_cache::Cache;
@@ -31,6 +32,7 @@ pub struct Event<'a> {
     indexed: &'a IndexedKeyboard<'a>,
     left: Left<'a>,
     options: Options,
+    truths: Vec<bool>,
     places: PlaceMemory,
     pass: bool,
     stopped: bool,
@@ -47,10 +49,10 @@ pub struct Pressed {
 }
 
 impl<'a> Model for Event<'a> {
-    ghost use Rattle.std.specs.Prelude.{◌≡◌, [], length};
+    ghost use Rattle.std.specs.Prelude.{[]};
     ghost use Rattle.option_store.specs.Meaning.{with_values};
     ghost use Rattle.rule_model.specs.Tab.{tab};
-    ghost use Rattle.rule_engine.specs.Event.{EventValue, HasShortContexts};
+    ghost use Rattle.rule_engine.specs.Event.{CanAct, EventValue};
 
     ghost Value = { EventValue };
 
@@ -70,7 +72,7 @@ impl<'a> Model for Event<'a> {
       });
     } };
 
-    ghost invariant = { λ event. (length event.options ≡ length event.indexed.now.stores) × HasShortContexts event.indexed.now };
+    ghost invariant = { λ event. CanAct event.indexed.now event.options event.truths.items };
 }
 
 impl<'a> Event<'a> {
@@ -84,8 +86,7 @@ impl<'a> Event<'a> {
     ) -> Event<'a>
         requires few { length lent.now < 2 ^ 32 }
         requires room { workspace.inserted.room ≡ EVENT_PUTS }
-        requires stores { length workspace.options ≡ length indexed.now.stores }
-        requires short { HasShortContexts indexed.now }
+        requires can { CanAct indexed.now workspace.options workspace.truths.items }
         ensures { result ≡ record {
           tables = indexed.now;
           lent = lent.now;
@@ -97,6 +98,7 @@ impl<'a> Event<'a> {
             indexed,
             left: Left::begin(lent, workspace.inserted, workspace.cache),
             options: workspace.options,
+            truths: workspace.truths,
             places: workspace.places,
             pass: false,
             stopped: false,
@@ -113,7 +115,7 @@ impl<'a> Event<'a> {
         ensures cache { result.workspace.cache ≡ window self.entry.state.left }
         ensures current { option_values (keyboard_of self.entry).stores result.workspace.options ≡ self.entry.state.current }
         ensures saved { option_saves (keyboard_of self.entry).stores result.workspace.options ≡ self.entry.state.saved }
-        ensures stores { length result.workspace.options ≡ length self.entry.tables.stores }
+        ensures can { CanAct self.entry.tables result.workspace.options result.workspace.truths.items }
         ensures room { result.workspace.inserted.room ≡ EVENT_PUTS }
         ensures few { length result.workspace.inserted.text ≤ EVENT_PUTS }
     {
@@ -131,6 +133,7 @@ impl<'a> Event<'a> {
             workspace: Workspace {
                 cache: edited.cache,
                 options: self.options,
+                truths: self.truths,
                 inserted: edited.inserted,
                 places: self.places,
             },
@@ -141,6 +144,7 @@ impl<'a> Event<'a> {
     pub fn indexed(&self) -> &'a IndexedKeyboard<'a>
         ensures value { result.now ≡ self.now.tables }
         ensures short { HasShortContexts result.now }
+        ensures platform { PlatformStays result.now }
     {
         self.indexed
     }
@@ -149,7 +153,7 @@ impl<'a> Event<'a> {
     pub fn moment(&self) -> Moment<'_>
         ensures { result ≡ moment_of self.now }
     {
-        Moment::of(self.indexed, &self.options)
+        Moment::of(self.indexed, &self.options, self.truths.as_slice())
     }
 
     /// Whether the event's remaining effects are ended.
@@ -212,10 +216,11 @@ impl<'a> Event<'a> {
         ensures chosen { option_map (λ rule. (tab_rule self.old.tables.stores group.now.using_keys rule, caught.new)) result ≡ chosen_in
             (keyboard_of self.old) press (tab_group self.old.tables.stores group.now) self.old.state }
         ensures none { result ≡ None → caught.new ≡ caught.old }
+        ensures among { IfSome result (λ rule. Contains group.now.rules rule) }
         ensures same { self.new ≡ self.old }
     {
         let window = self.window();
-        let moment = Moment::of(self.indexed, &self.options);
+        let moment = Moment::of(self.indexed, &self.options, self.truths.as_slice());
         let entered = EnteredGroup {
             press,
             group,
@@ -260,9 +265,11 @@ impl<'a> Event<'a> {
         }
     }
 
-    /// What `set` does.
+    /// What `set` does of a store of the file, or of the layer. The truths stay, since they are by the platform.
     #[tactic(auto, using(rule_matching::proofs::StoreContents::option_within, crate::proofs::OptionSteps::set_follows, crate::proofs::OptionSteps::nothing_set))]
     pub fn set_current(&mut self, store: u32, value: u32)
+        requires store { store + 1 < length (keyboard_of self.old).stores }
+        requires value { value < length self.old.tables.stores }
         ensures { self.new ≡ record self.old {
           state = set_current
               (option_number (keyboard_of self.old).stores (Numbered store)) (elements_of self.old.tables.stores value) self.old.state;
@@ -287,9 +294,10 @@ impl<'a> Event<'a> {
         }
     }
 
-    /// What `reset` does.
+    /// What `reset` does of a store of the file.
     #[tactic(auto, using(rule_matching::proofs::StoreContents::option_within, crate::proofs::OptionSteps::reset_follows, crate::proofs::OptionSteps::nothing_reset))]
     pub fn reset_current(&mut self, store: u32)
+        requires { store < length self.old.tables.stores }
         ensures { self.new ≡ record self.old {
           state = reset_current
               (option_number (keyboard_of self.old).stores (Numbered store)) (elements_at (keyboard_of self.old).stores (Some store)) self.old.state;

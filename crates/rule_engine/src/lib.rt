@@ -6,9 +6,9 @@
 //! parts where they lie, on `event_text` for the text before the caret and on `option_store` for the values of options. The
 //! layer above lends the text before the caret at each call, makes the edit in it, and does the editor's own default for a key
 //! that is passed on. It sees an engine as an `EngineState`: after `start` that is `first_engine` of the file's tables, `key`
-//! answers `press_outcome` and leaves `press_leaves`, `sync` leaves `synced`, and `setting` leaves `set_by_host`; `fresh` gives
-//! `first_engine` again, and `copy` the same engine, both without a walk over the file. All memory that a press needs is taken by
-//! `start`, `fresh` and `copy`: `key` and `sync` take none and refuse nothing.
+//! answers `press_outcome` and leaves `press_leaves`, `preview` tells both and leaves the engine as it is, `sync` leaves `synced`, and
+//! `setting` leaves `set_by_host`; `fresh` gives `first_engine` again, and `copy` the same engine, both without a walk over the file.
+//! All memory that a press needs is taken by `start`, `fresh` and `copy`: `key` and `sync` take none and refuse nothing.
 #![tactic(auto)]
 
 mod defaults;
@@ -19,5 +19,5 @@ mod naming;
 mod outputs;
 mod workspace;
 
-pub use engine::Engine;
+pub use engine::{Engine, Preview};
 pub use rule_matching::StoreValue;

@@ -1,12 +1,13 @@
-ghost use Rattle.std.specs.Prelude.{◌≡◌, ◌<◌, ◌&&◌, [], IfOk, MatchOption, is_some, length, option_and_then, option_map, slice_get, unwrap_or};
+ghost use Rattle.std.specs.Prelude.{◌≡◌, ◌<◌, ◌≤◌, ◌&&◌, IfOk, MatchOption, is_some, length, option_and_then, position};
 ghost use Rattle.rule_model.specs.Content.{option_number};
 ghost use Rattle.rule_model.specs.Event.{has_name};
 ghost use Rattle.rule_model.specs.Keyboard.{Numbered};
-ghost use Rattle.rule_model.specs.Plain.{option_named, option_numbers};
+ghost use Rattle.rule_model.specs.Plain.{option_names};
 ghost use Rattle.rule_model.specs.Tab.{tab};
+ghost use Rattle.rule_engine.specs.Engine.{name_of};
 
-use kmn_base::Memory;
 use kmn_base::names::same_name;
+use kmn_base::{Memory, Seq, Text};
 use rule_index::IndexedKeyboard;
 use std::alloc::Global;
 
@@ -17,21 +18,30 @@ fn has_name(name: &[u8], other: &[u8]) -> bool
     !other.is_empty() && same_name(other, name)
 }
 
-/// Whether the store of a number has a name.
-fn store_has_name(
-    alloc: Global,
-    name: &[u8],
-    indexed: &IndexedKeyboard<'_>,
-    store: u32,
-) -> Result<bool, Memory>
-    ensures { IfOk result (λ found. found ≡ has_name name.now (unwrap_or (option_map (λ s. s.name) (slice_get indexed.now.stores store)) [])) }
+/// The name of the layer or of the platform; empty for a number behind theirs.
+#[tactic(auto, using(crate::proofs::Stores::layer_name, crate::proofs::Stores::platform_name, crate::proofs::Stores::no_name))]
+fn system_name(indexed: &IndexedKeyboard<'_>, store: u32) -> &'static [u8]
+    requires { length indexed.now.stores ≤ store }
+    ensures { result.now ≡ name_of indexed.now store }
+{
+    if store == indexed.layer() {
+        b"&layer"
+    } else if store == indexed.platform() {
+        b"&platform"
+    } else {
+        &[]
+    }
+}
+
+/// The name of a store of a file, or of the layer or the platform, which have the two numbers behind; empty where there is no
+/// such store. It is read where it lies.
+#[tactic(auto, using(crate::proofs::Stores::own_name))]
+pub fn name_of(alloc: Global, indexed: &IndexedKeyboard<'_>, store: u32) -> Result<Text, Memory>
+    ensures { IfOk result (λ name. name ≡ name_of indexed.now store) }
 {
     match indexed.file().store(store) {
-        Some(store) => {
-            let other = store.name(alloc)?;
-            Ok(has_name(name, other.as_slice()))
-        }
-        None => Ok(false),
+        Some(store) => store.name(alloc),
+        None => Ok(Seq::from_slice(alloc, system_name(indexed, store))?),
     }
 }
 
@@ -42,28 +52,28 @@ fn is_option_named(
     indexed: &IndexedKeyboard<'_>,
     store: u32,
 ) -> Result<bool, Memory>
-    ensures { IfOk result (λ found. found ≡ (is_some (option_number (tab indexed.now).stores (Numbered store))
-        && has_name name.now (unwrap_or (option_map (λ s. s.name) (slice_get indexed.now.stores store)) []))) }
+    ensures { IfOk result (λ found. found ≡ (is_some (option_number (tab indexed.now).stores (Numbered store)) && has_name name.now (name_of indexed.now store))) }
 {
     if indexed.option_number(store).is_none() {
         return Ok(false);
     }
-    store_has_name(alloc, name, indexed, store)
+    let other = name_of(alloc, indexed, store)?;
+    Ok(has_name(name, other.as_slice()))
 }
 
-/// The first store of a name that is an option. Each name is read where it lies.
-#[tactic(auto, using(crate::proofs::OptionNames::named_here, crate::proofs::OptionNames::named_is_some, crate::proofs::OptionNames::passed_here, crate::proofs::OptionNames::none_named))]
+/// The first store of a name that is an option: those of the file, then the layer and the platform.
+#[tactic(auto, using(crate::proofs::OptionNames::named_here, crate::proofs::OptionNames::named_is_some, crate::proofs::OptionNames::passed_here, crate::proofs::OptionNames::none_named, crate::proofs::OptionNames::named_of_all))]
 pub fn store_named(
     alloc: Global,
     name: &[u8],
     indexed: &IndexedKeyboard<'_>,
 ) -> Result<Option<u32>, Memory>
-    ensures found { IfOk result (λ store. is_some store ≡ is_some (option_named name.now (option_numbers 0 (tab indexed.now).stores) indexed.now.stores)) }
+    ensures found { IfOk result (λ store. is_some store ≡ is_some (position (has_name name.now) (option_names (tab indexed.now).stores))) }
     ensures option { IfOk result (λ store. option_and_then (λ s. option_number (tab indexed.now).stores (Numbered s)) store
-        ≡ option_named name.now (option_numbers 0 (tab indexed.now).stores) indexed.now.stores) }
-    ensures within { IfOk result (λ store. MatchOption store (Unit {0}) (λ s. s < length indexed.now.stores)) }
+        ≡ position (has_name name.now) (option_names (tab indexed.now).stores)) }
+    ensures within { IfOk result (λ store. MatchOption store (Unit {0}) (λ s. s < length (tab indexed.now).stores)) }
 {
-    for store in 0..indexed.file().store_count() {
+    for store in 0..indexed.store_count() {
         if is_option_named(alloc, name, indexed, store)? {
             return Ok(Some(store));
         }

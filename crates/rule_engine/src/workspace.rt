@@ -1,72 +1,128 @@
-ghost use Rattle.std.specs.Prelude.{◌≡◌, ◌≤◌, [], IfOk};
+ghost use Rattle.std.specs.Prelude.{◌≡◌, ◌≤◌, ◌<◌, ◌+◌, [], length, IfOk, MatchResult};
 ghost use Rattle.kmn_base.specs.declared.limits.TheConstants.{EVENT_PUTS, STORES};
-ghost use Rattle.option_store.specs.Cells.{first_cells};
+ghost use Rattle.option_store.specs.Cells.{changed, first_cells, host_cell};
+ghost use Rattle.rule_model.specs.Tab.{tab};
+ghost use Rattle.rule_matching.specs.Moment.{truths_at};
+ghost use Rattle.rule_engine.specs.Event.{moment_with};
 
 use context_cache::Cache;
 use event_text::Inserted;
 use kmn_base::Memory;
 use option_store::Options;
-use rule_matching::PlaceMemory;
+use rule_index::IndexedKeyboard;
+use rule_matching::{PlaceMemory, StoreValue};
 use std::alloc::Global;
 
-/// What an event works on and leaves to the next one: the last items before the caret, what the stores hold, what the last press
-/// inserted, and room for the places that are found while a record is chosen.
+/// What an event works on and leaves to the next one: the last items before the caret, what the stores hold, whether the platform
+/// has the words of each store's elements, what the last press inserted, and room for the places that are found while a record is
+/// chosen.
 #[derive(Drop)]
 pub struct Workspace {
     pub cache: Cache,
     pub options: Options,
+    pub truths: Vec<bool>,
     pub inserted: Inserted,
     pub places: PlaceMemory,
 }
 
 impl Workspace {
-    /// The one of the first event, for so many stores.
+    /// One for so many stores of a keyboard, which tells nothing of the platform yet.
     pub fn new(alloc: Global, stores: u32) -> Result<Workspace, Memory>
-        requires { stores ≤ STORES }
+        requires { stores ≤ STORES + 2 }
         ensures cache { IfOk result (λ workspace. workspace.cache ≡ []) }
         ensures options { IfOk result (λ workspace. workspace.options ≡ first_cells 0 stores) }
+        ensures truths { IfOk result (λ workspace. length workspace.truths.items ≡ stores) }
         ensures inserted { IfOk result (λ workspace. workspace.inserted ≡ record { text = []; room = EVENT_PUTS }) }
     {
         let options = Options::new(alloc, stores)?;
+        let truths = vec![in alloc; false; stores as usize]?;
         let places = PlaceMemory::new(alloc, stores as usize)?;
         let inserted = Inserted::with_room(alloc)?;
         Ok(Workspace {
             cache: Cache::new(),
             options,
+            truths,
             inserted,
             places,
         })
+    }
+
+    /// The one of the first event: the platform is the one that the keyboard states.
+    #[tactic(auto, using(crate::proofs::Truths::truths_at_first))]
+    pub fn begin(&mut self, indexed: &IndexedKeyboard<'_>)
+        requires cells { self.old.options ≡ first_cells 0 (length (tab indexed.now).stores) }
+        requires truths { length self.old.truths.items ≡ length (tab indexed.now).stores }
+        ensures truths { self.new.truths.items ≡ truths_at (moment_with indexed.now self.new.options) }
+        ensures cache { self.new.cache ≡ self.old.cache }
+        ensures options { self.new.options ≡ self.old.options }
+        ensures inserted { self.new.inserted ≡ self.old.inserted }
+    {
+        let stated = indexed.stated(indexed.platform());
+        indexed.find_truths(self.truths.as_mut_slice(), stated);
     }
 
     /// What stands in its place while an event works on it: it has no room, and takes no memory.
     pub fn without_room(alloc: Global) -> Workspace
         ensures cache { result.cache ≡ [] }
         ensures options { result.options ≡ [] }
+        ensures truths { result.truths.items ≡ [] }
         ensures inserted { result.inserted ≡ record { text = []; room = 0 } }
     {
         Workspace {
             cache: Cache::new(),
             options: Options::none(alloc),
+            truths: Vec::new(alloc),
             inserted: Inserted::without_room(alloc),
             places: PlaceMemory::without_room(alloc),
         }
     }
 
-    /// The same once more, for so many stores, with room of its own.
+    /// The same once more, for so many stores of a keyboard, with room of its own.
     pub fn copy(&self, alloc: Global, stores: u32) -> Result<Workspace, Memory>
-        requires { stores ≤ STORES }
+        requires { stores ≤ STORES + 2 }
         ensures cache { IfOk result (λ workspace. workspace.cache ≡ self.now.cache) }
         ensures options { IfOk result (λ workspace. workspace.options ≡ self.now.options) }
+        ensures truths { IfOk result (λ workspace. workspace.truths.items ≡ self.now.truths.items) }
         ensures inserted { IfOk result (λ workspace. workspace.inserted ≡ self.now.inserted) }
     {
         let options = self.options.copy(alloc)?;
+        let mut truths = Vec::with_capacity(alloc, self.truths.len())?;
+        truths.extend_from_slice(self.truths.as_slice())?;
         let places = PlaceMemory::new(alloc, stores as usize)?;
         let inserted = self.inserted.copy(alloc)?;
         Ok(Workspace {
             cache: self.cache.copy(),
             options,
+            truths,
             inserted,
             places,
         })
+    }
+
+    /// The host gives a store of a keyboard a text, as current and as saved value. Where it is the platform, the truths are found
+    /// in place, and all memory is taken before: after want of memory nothing has changed.
+    #[tactic(auto, using(crate::proofs::Truths::truths_given))]
+    pub fn host_set(
+        &mut self,
+        alloc: Global,
+        indexed: &IndexedKeyboard<'_>,
+        store: u32,
+        text: &[char],
+    ) -> Result<(), Memory>
+        requires store { store < length (tab indexed.now).stores }
+        requires cells { length self.old.options ≡ length (tab indexed.now).stores }
+        requires truths { self.old.truths.items ≡ truths_at (moment_with indexed.now self.old.options) }
+        ensures options { MatchResult result (λ _. self.new.options ≡ changed store (host_cell text.now) self.old.options) (λ _. self.new.options ≡ self.old.options) }
+        ensures truths { self.new.truths.items ≡ truths_at (moment_with indexed.now self.new.options) }
+        ensures cache { self.new.cache ≡ self.old.cache }
+        ensures inserted { self.new.inserted ≡ self.old.inserted }
+    {
+        if store != indexed.platform() {
+            return self.options.host_set(alloc, store, text);
+        }
+        let content = StoreValue::Text(text).copy(alloc)?;
+        self.options.host_set(alloc, store, text)?;
+        indexed.find_truths(self.truths.as_mut_slice(), content.as_slice());
+        Ok(())
     }
 }

@@ -28,6 +28,8 @@ same_after stores before (pattern.Index s offset) = refl
 same_after stores before (pattern.ContextAt offset) = refl
 same_after stores before (pattern.Equal s value) = refl
 same_after stores before (pattern.Unequal s value) = refl
+same_after stores before (pattern.SystemEqual id value) = refl
+same_after stores before (pattern.SystemUnequal id value) = refl
 same_after stores before pattern.Nul = refl
 
 same_last : (stores : List Store) (before : ℕ) (context : List Pat) → last_class before (map (tab_pattern []) context) ≡ last_class before (map (tab_pattern stores) context)

@@ -1,5 +1,5 @@
 -- The numbers of stores tell whether their elements are the same.
-use Rattle.std.proofs.Common.{◌≡◌, ℕ, zero, suc, ◌+◌, ◌*◌, ◌<◌, ◌≤◌, ◌&&◌, Bool, true, false, eqb, List, [], ◌∷◌, ◌++◌, length, map, slice_index, slice_index_or, Option, refl, sym, ◌∙◌, ap, inl, inr, arith}
+use Rattle.std.proofs.Common.{◌≡◌, ℕ, zero, suc, ◌+◌, ◌*◌, ◌<◌, ◌≤◌, ◌&&◌, Bool, true, false, eqb, List, [], ◌∷◌, ◌++◌, length, map, slice_index, slice_index_or, Option, Some, refl, sym, ◌∙◌, ap, inl, inr, arith}
 use Rattle.std.specs.Prelude.{bytes_eq, unwrap_or}
 use Rattle.std.proofs.lemmas.Bool.{cases_Bool, eqb-true, eq-eqb}
 use Rattle.std.proofs.lemmas.Bool.Decides.{nat_tests}
@@ -8,10 +8,10 @@ use Rattle.std.proofs.lemmas.Option.{slice_get_cases, get_or_from_slice_get}
 use Rattle.std.proofs.lemmas.Slice.Eq.{bytes_eq-Decides}
 use Rattle.kmn_base.specs.declared.items.Element.{Element}
 use Rattle.kmn_base.specs.declared.items.Element.TheVariants as element
-use Rattle.rule_model.specs.declared.tables.Store.{Store}
 use Rattle.rule_model.specs.Match.{same_element, same_value}
-use Rattle.rule_model.specs.Tab.{elements_of}
-use Rattle.rule_index.specs.Stores.{store_contents}
+use Rattle.rule_model.specs.Content.{elements_at}
+use Rattle.rule_model.specs.Keyboard.{StoreMeaning}
+use Rattle.rule_index.specs.Stores.{keyboard_contents}
 use Rattle.rule_index.specs.Values.{element_code, value_code, number_for, AreNumbersOf}
 
 -- no code begins as another, so codes are the same where elements are
@@ -50,25 +50,25 @@ same_codes (a ∷ rest) (b ∷ others) =
     (λ i. same_element a b && same_codes rest others i) ∙ same_first a b (value_code rest) (value_code others)
 
 -- the codes of no elements and of each store's
-abbrev codes_of : List Store → List (List ℕ)
-codes_of stores = map value_code ([] ∷ store_contents stores)
+abbrev codes_of : List StoreMeaning → List (List ℕ)
+codes_of stores = map value_code ([] ∷ keyboard_contents stores)
 
-code_at : (stores : List Store) (n : ℕ) → slice_index_or (codes_of stores) (suc n) [] ≡ value_code (elements_of stores n)
+code_at : (stores : List StoreMeaning) (n : ℕ) → slice_index_or (codes_of stores) (suc n) [] ≡ value_code (elements_at stores (Some n))
 code_at [] zero = refl
 code_at [] (suc n) = refl
 code_at (store ∷ stores) zero = refl
 code_at (store ∷ stores) (suc n) = code_at stores n
 
-absent : (stores : List Store) (n : ℕ) → length stores ≤ n → elements_of stores n ≡ []
+absent : (stores : List StoreMeaning) (n : ℕ) → length stores ≤ n → elements_at stores (Some n) ≡ []
 absent [] zero past = refl
 absent [] (suc n) past = refl
 absent (store ∷ stores) zero past = absurd (omega arith)
 absent (store ∷ stores) (suc n) past = absent stores n (omega arith)
 
-count_of : (stores : List Store) → length (codes_of stores) ≡ suc (length stores)
+count_of : (stores : List StoreMeaning) → length (codes_of stores) ≡ suc (length stores)
 count_of stores =
-    let contents : length (store_contents stores) ≡ length stores = length-map stores (λ (store : Store). store.elements) in
-    let codes : length (map value_code (store_contents stores)) ≡ length (store_contents stores) = length-map (store_contents stores) value_code in
+    let contents : length (keyboard_contents stores) ≡ length stores = length-map stores (λ (store : StoreMeaning). store.elements) in
+    let codes : length (map value_code (keyboard_contents stores)) ≡ length (keyboard_contents stores) = length-map (keyboard_contents stores) value_code in
     omega (arith, contents, codes)
 
 -- where the number of a store stands, which has the store's code
@@ -78,8 +78,8 @@ record IsNumberAt (codes : List (List ℕ)) (numbers : List ℕ) (wanted : ℕ) 
   number : wanted ≡ slice_index numbers place
   code : slice_index_or codes place [] ≡ value
 
-number_at : (stores : List Store) (numbers : List ℕ) (n : ℕ) → length numbers ≡ length (codes_of stores)
-    → IsNumberAt (codes_of stores) numbers (number_for numbers n) (value_code (elements_of stores n))
+number_at : (stores : List StoreMeaning) (numbers : List ℕ) (n : ℕ) → length numbers ≡ length (codes_of stores)
+    → IsNumberAt (codes_of stores) numbers (number_for numbers n) (value_code (elements_at stores (Some n)))
 number_at stores numbers n count = elim (slice_get_cases numbers (n + 1)).1 [
   | inl found ↦ record {
     place = n + 1;
@@ -96,33 +96,33 @@ number_at stores numbers n count = elim (slice_get_cases numbers (n + 1)).1 [
 ]
 
 -- there is at least the number of no elements
-pub some_numbers : (stores : List Store) (numbers : List ℕ) → AreNumbersOf (map value_code ([] ∷ store_contents stores)) numbers → 0 < length numbers
+pub some_numbers : (stores : List StoreMeaning) (numbers : List ℕ) → AreNumbersOf (map value_code ([] ∷ keyboard_contents stores)) numbers → 0 < length numbers
 some_numbers stores numbers are = omega (arith, are.count, count_of stores)
 
 -- stores with the same number have the same elements, and others haven't
-pub same_number : (stores : List Store) (numbers : List ℕ) (n m : ℕ) → AreNumbersOf (map value_code ([] ∷ store_contents stores)) numbers
-    → eqb (number_for numbers n) (number_for numbers m) ≡ same_value (elements_of stores n) (elements_of stores m)
-same_number stores numbers n m are = decided ∙ sym (same_codes (elements_of stores n) (elements_of stores m))
+pub same_number : (stores : List StoreMeaning) (numbers : List ℕ) (n m : ℕ) → AreNumbersOf (map value_code ([] ∷ keyboard_contents stores)) numbers
+    → eqb (number_for numbers n) (number_for numbers m) ≡ same_value (elements_at stores (Some n)) (elements_at stores (Some m))
+same_number stores numbers n m are = decided ∙ sym (same_codes (elements_at stores (Some n)) (elements_at stores (Some m)))
   where
-    one : IsNumberAt (codes_of stores) numbers (number_for numbers n) (value_code (elements_of stores n))
+    one : IsNumberAt (codes_of stores) numbers (number_for numbers n) (value_code (elements_at stores (Some n)))
     one = number_at stores numbers n are.count
 
-    other : IsNumberAt (codes_of stores) numbers (number_for numbers m) (value_code (elements_of stores m))
+    other : IsNumberAt (codes_of stores) numbers (number_for numbers m) (value_code (elements_at stores (Some m)))
     other = number_at stores numbers m are.count
 
-    codes_same : number_for numbers n ≡ number_for numbers m → value_code (elements_of stores n) ≡ value_code (elements_of stores m)
+    codes_same : number_for numbers n ≡ number_for numbers m → value_code (elements_at stores (Some n)) ≡ value_code (elements_at stores (Some m))
     codes_same e = sym one.code ∙ are.other one.place other.place one.within other.within (sym one.number ∙ e ∙ other.number) ∙ other.code
 
-    numbers_same : value_code (elements_of stores n) ≡ value_code (elements_of stores m) → number_for numbers n ≡ number_for numbers m
+    numbers_same : value_code (elements_at stores (Some n)) ≡ value_code (elements_at stores (Some m)) → number_for numbers n ≡ number_for numbers m
     numbers_same e = one.number ∙ are.same one.place other.place one.within other.within (one.code ∙ e ∙ sym other.code) ∙ sym other.number
 
-    decided : eqb (number_for numbers n) (number_for numbers m) ≡ bytes_eq (value_code (elements_of stores n)) (value_code (elements_of stores m))
+    decided : eqb (number_for numbers n) (number_for numbers m) ≡ bytes_eq (value_code (elements_at stores (Some n))) (value_code (elements_at stores (Some m)))
     decided = elim (cases_Bool (eqb (number_for numbers n) (number_for numbers m))) [
-      | inl same ↦ same ∙ sym ((bytes_eq-Decides (value_code (elements_of stores n)) (value_code (elements_of stores m))).1 (codes_same (eqb-true (number_for numbers n) (number_for numbers m) same)))
-      | inr differs ↦ elim (cases_Bool (bytes_eq (value_code (elements_of stores n)) (value_code (elements_of stores m)))) [
+      | inl same ↦ same ∙ sym ((bytes_eq-Decides (value_code (elements_at stores (Some n))) (value_code (elements_at stores (Some m)))).1 (codes_same (eqb-true (number_for numbers n) (number_for numbers m) same)))
+      | inr differs ↦ elim (cases_Bool (bytes_eq (value_code (elements_at stores (Some n))) (value_code (elements_at stores (Some m))))) [
         | inl same ↦
             let is : eqb (number_for numbers n) (number_for numbers m) ≡ true
-            = eq-eqb (number_for numbers n) (number_for numbers m) (numbers_same ((bytes_eq-Decides (value_code (elements_of stores n)) (value_code (elements_of stores m))).0 same)) in
+            = eq-eqb (number_for numbers n) (number_for numbers m) (numbers_same ((bytes_eq-Decides (value_code (elements_at stores (Some n))) (value_code (elements_at stores (Some m)))).0 same)) in
             let never : true ≡ false = sym is ∙ differs in
             cc
         | inr apart ↦ differs ∙ sym apart

@@ -85,7 +85,7 @@ fn put_store(
 
 /// The rows of all stores, store by store.
 fn gathered(alloc: Global, stores: &[Seq<Element>]) -> Result<Vec<Holding>, Memory>
-    requires count { length stores.now ≤ STORES }
+    requires count { length stores.now ≤ STORES + 2 }
     requires few { All (λ elements. length elements ≤ STORE_ELEMENTS) stores.now }
     ensures { IfOk result (λ rows. AreGathered stores.now rows.items (length stores.now)) }
 {
@@ -130,7 +130,7 @@ fn between(rows: &[Holding], from: usize, to: usize) -> &[Holding]
 impl Holdings {
     /// The rows of these stores.
     pub fn of(alloc: Global, stores: &[Seq<Element>]) -> Result<Holdings, Memory>
-        requires count { length stores.now ≤ STORES }
+        requires count { length stores.now ≤ STORES + 2 }
         requires few { All (λ elements. length elements ≤ STORE_ELEMENTS) stores.now }
         ensures { IfOk result (λ holdings. AreHoldings stores.now holdings) }
     {

@@ -1,15 +1,16 @@
-ghost use Rattle.std.specs.Prelude.{◌≡◌, ◌≤◌, All, IfOk, IfSome, length, option_copied, option_map, slice_get};
+ghost use Rattle.std.specs.Prelude.{◌≡◌, ◌≤◌, ◌+◌, ◌-◌, Some, All, IfOk, IfSome, length, map, option_copied, option_map, slice_get};
 ghost use Rattle.std.specs.Option.{option_flatten};
-ghost use Rattle.kmn_base.specs.declared.limits.TheConstants.{FILE_BYTES, RECORDS, STORES};
+ghost use Rattle.kmn_base.specs.declared.limits.TheConstants.{RECORDS, STORES};
 ghost use Rattle.virtual_keys.specs.Dictionary.{name_in};
-ghost use Rattle.rule_model.specs.Content.{option_number};
-ghost use Rattle.rule_model.specs.Keyboard.{Numbered};
+ghost use Rattle.rule_model.specs.Content.{elements_at, option_number};
+ghost use Rattle.rule_model.specs.Keyboard.{Numbered, StoreMeaning};
 ghost use Rattle.rule_model.specs.Match.{place_of, same_value};
 ghost use Rattle.rule_model.specs.Plain.{option_numbers};
-ghost use Rattle.rule_model.specs.Tab.{elements_of, tab};
+ghost use Rattle.rule_model.specs.System.{has_words};
+ghost use Rattle.rule_model.specs.Tab.{tab};
 ghost use Rattle.rule_index.specs.Groups.{AreIndexesOf, IsRuleIndexOf};
 ghost use Rattle.rule_index.specs.Holdings.{AreHoldersOf};
-ghost use Rattle.rule_index.specs.Stores.{store_contents, HaveFewElements};
+ghost use Rattle.rule_index.specs.Stores.{keyboard_contents, store_contents, HaveFewElements};
 
 use crate::holding::Holding;
 use crate::holdings::Holdings;
@@ -17,7 +18,8 @@ use crate::options::option_numbers;
 use crate::own_names::own_keys;
 use crate::rule_index::RuleIndex;
 use crate::values::{number_for, store_numbers};
-use file_parts::{Elements, FileGroup, FileStore, FileTables, Parts};
+use file_parts::{FileGroup, FileStore, FileTables};
+use indexed_tables::{has_words, system_elements};
 use kmn_base::{Element, Item, Memory, Seq};
 use std::alloc::Global;
 use std::marker::Model;
@@ -25,7 +27,8 @@ use virtual_keys::KeyDictionary;
 
 /// A file with what an engine looks up: each store by place, its option number, the stores that have an item, a number that
 /// the stores with the same elements have, an index of each group's records, and the names of own keys. Elements, contexts
-/// and these names are copied, and nothing else of the file. Contracts see the file's tables.
+/// and these names are copied, and nothing else of the file. Behind the stores of the file stand the two system options, in all
+/// that is looked up by store. Contracts see the file's tables.
 #[derive(Drop)]
 pub struct IndexedKeyboard<'a> {
     alloc: Global,
@@ -39,13 +42,14 @@ pub struct IndexedKeyboard<'a> {
 }
 
 impl<'a> Model for IndexedKeyboard<'a> {
-    ghost use Rattle.std.specs.Prelude.{◌≡◌, [], ◌∷◌, map};
+    ghost use Rattle.std.specs.Prelude.{◌≡◌, ◌≤◌, [], ◌∷◌, length, map};
+    ghost use Rattle.kmn_base.specs.declared.limits.TheConstants.{STORES};
     ghost use Rattle.rule_model.specs.declared.tables.Tables.{Tables};
     ghost use Rattle.rule_model.specs.Plain.{option_numbers};
     ghost use Rattle.rule_model.specs.Tab.{tab};
     ghost use Rattle.rule_index.specs.Groups.{AreIndexesOf};
     ghost use Rattle.rule_index.specs.Holdings.{AreHoldings};
-    ghost use Rattle.rule_index.specs.Stores.{store_contents};
+    ghost use Rattle.rule_index.specs.Stores.{keyboard_contents};
     ghost use Rattle.rule_index.specs.Values.{value_code, AreNumbersOf};
 
     ghost Value = { Tables };
@@ -56,9 +60,10 @@ impl<'a> Model for IndexedKeyboard<'a> {
         (keyboard.numbers.items ≡ option_numbers 0 (tab keyboard.file).stores)
         × AreIndexesOf keyboard.file.groups keyboard.indexes.items
         × (keyboard.names ≡ (tab keyboard.file).dictionary)
-        × (keyboard.stores.items ≡ store_contents keyboard.file.stores)
-        × AreHoldings (store_contents keyboard.file.stores) keyboard.holdings
-        × AreNumbersOf (map value_code ([] ∷ store_contents keyboard.file.stores)) keyboard.values.items };
+        × (keyboard.stores.items ≡ keyboard_contents (tab keyboard.file).stores)
+        × AreHoldings (keyboard_contents (tab keyboard.file).stores) keyboard.holdings
+        × AreNumbersOf (map value_code ([] ∷ keyboard_contents (tab keyboard.file).stores)) keyboard.values.items
+        × (length keyboard.file.stores ≤ STORES) };
 }
 
 /// A copy of the elements of a store, with room for no more: a file can have four million.
@@ -72,7 +77,7 @@ fn copied(alloc: Global, store: &FileStore<'_>) -> Result<Seq<Element>, Memory>
     Ok(Seq::from_vec(copied))
 }
 
-/// What each store has.
+/// What each store of a file has.
 fn stores_of(alloc: Global, file: &FileTables<'_>) -> Result<Vec<Seq<Element>>, Memory>
     ensures { IfOk result (λ stores. stores.items ≡ store_contents file.now.stores) }
 {
@@ -80,6 +85,16 @@ fn stores_of(alloc: Global, file: &FileTables<'_>) -> Result<Vec<Seq<Element>>, 
     for store in file.stores() {
         stores.push(copied(alloc, &store)?)?;
     }
+    Ok(stores)
+}
+
+/// What each store of a file has, and behind them the two system options.
+fn all_stores_of(alloc: Global, file: &FileTables<'_>) -> Result<Vec<Seq<Element>>, Memory>
+    ensures { IfOk result (λ stores. stores.items ≡ keyboard_contents (tab file.now).stores) }
+{
+    let mut stores = stores_of(alloc, file)?;
+    stores.push(Seq::from_slice(alloc, system_elements(0))?)?;
+    stores.push(Seq::from_slice(alloc, system_elements(1))?)?;
     Ok(stores)
 }
 
@@ -112,7 +127,7 @@ impl<'a> IndexedKeyboard<'a> {
         requires stores { length file.stores ≤ STORES }
         ensures { IfOk result (λ keyboard. keyboard ≡ file.entry) }
     {
-        let stores = stores_of(alloc, &file)?;
+        let stores = all_stores_of(alloc, &file)?;
         let values = store_numbers(alloc, stores.as_slice())?;
         let holdings = Holdings::of(alloc, stores.as_slice())?;
         let numbers = option_numbers(alloc, &file)?;
@@ -190,20 +205,45 @@ impl<'a> IndexedKeyboard<'a> {
         number_at(self.numbers.as_slice(), store)
     }
 
-    /// The elements of a store, none where there is no such store.
-    pub fn elements(&self, store: u32) -> Elements<'a>
-        ensures value { result ≡ elements_of self.now.stores store }
-        ensures few { length result ≤ FILE_BYTES }
+    /// How many stores there are: those of the file and the two system options.
+    #[tactic(auto, using(crate::proofs::StoreIndexes::counted_all, crate::proofs::StoreIndexes::few_in_all))]
+    pub fn store_count(&self) -> u32
+        ensures value { result ≡ length (tab self.now).stores }
+        ensures few { result ≤ STORES + 2 }
     {
-        match self.file.store(store) {
-            Some(store) => store.elements(),
-            None => Parts::none(),
+        self.stores.len() as u32
+    }
+
+    /// The number of the layer, the system option before the last.
+    #[tactic(auto, using(crate::proofs::StoreIndexes::count_of_all))]
+    pub fn layer(&self) -> u32
+        ensures { result ≡ length (tab self.now).stores - 2 }
+    {
+        self.store_count() - 2
+    }
+
+    /// The number of the platform, the last system option.
+    #[tactic(auto, using(crate::proofs::StoreIndexes::count_of_all))]
+    pub fn platform(&self) -> u32
+        ensures { result ≡ length (tab self.now).stores - 1 }
+    {
+        self.store_count() - 1
+    }
+
+    /// The elements that a store is stated with, none where there is no such store.
+    #[tactic(auto, using(crate::proofs::StoreIndexes::contents_found, crate::proofs::StoreIndexes::contents_absent))]
+    pub fn stated(&self, store: u32) -> &[Element]
+        ensures { result.now ≡ elements_at (tab self.now).stores (Some store) }
+    {
+        match self.stores.get(store as usize) {
+            Some(store) => store.as_slice(),
+            None => &[],
         }
     }
 
     /// The first place of an item in a store.
     pub fn place_of(&self, store: u32, item: Item) -> Option<usize>
-        ensures { result ≡ place_of item (elements_of self.now.stores store) }
+        ensures { result ≡ place_of item (elements_at (tab self.now).stores (Some store)) }
     {
         match u16::try_from(store) {
             Ok(store) => self.holdings.place_of(store, item),
@@ -213,28 +253,35 @@ impl<'a> IndexedKeyboard<'a> {
 
     /// The stores that have an item, each with its first place there, by a search.
     pub fn holders(&self, item: Item) -> &[Holding]
-        ensures { AreHoldersOf item (elements_of self.now.stores) result.now }
+        ensures { AreHoldersOf item (λ store. elements_at (tab self.now).stores (Some store)) result.now }
     {
         self.holdings.holders(item)
     }
 
     /// The element at a place of a store.
-    #[tactic(auto, using(crate::proofs::StoreIndexes::contents_found, crate::proofs::StoreIndexes::contents_absent))]
     pub fn element_at(&self, store: u32, place: usize) -> Option<Element>
-        ensures { result ≡ slice_get (elements_of self.now.stores store) place }
+        ensures { result ≡ slice_get (elements_at (tab self.now).stores (Some store)) place }
     {
-        match self.stores.get(store as usize) {
-            Some(store) => store.as_slice().get(place).copied(),
-            None => None,
-        }
+        self.stated(store).get(place).copied()
     }
 
     /// Whether two stores have the same elements.
     #[tactic(auto, using(crate::proofs::StoreValues::some_numbers, crate::proofs::StoreValues::same_number))]
     pub fn same_elements(&self, store: u32, other: u32) -> bool
-        ensures { result ≡ same_value (elements_of self.now.stores store) (elements_of self.now.stores other) }
+        ensures { result ≡ same_value (elements_at (tab self.now).stores (Some store)) (elements_at (tab self.now).stores (Some other)) }
     {
         let values = self.values.as_slice();
         number_for(values, store) == number_for(values, other)
+    }
+
+    /// Finds for each store whether each word of its elements is a word of a content, so that conditions on the platform are
+    /// told by the number of their value.
+    pub fn find_truths(&self, truths: &mut [bool], content: &[Element])
+        requires { length truths.old ≡ length (tab self.now).stores }
+        ensures { truths.new ≡ map (λ (store : StoreMeaning). has_words content.now store.elements) (tab self.now).stores }
+    {
+        for store in 0..self.store_count() {
+            truths[store as usize] = has_words(content, self.stated(store));
+        }
     }
 }

@@ -9,10 +9,11 @@ use Rattle.kmn_base.specs.declared.items.Item.{Item}
 use Rattle.rule_model.specs.declared.tables.Tables.{Tables}
 use Rattle.rule_model.specs.Keyboard.{Numbered}
 use Rattle.rule_model.specs.Match.{Content, place_of}
-use Rattle.rule_model.specs.Tab.{elements_of}
+use Rattle.rule_model.specs.Content.{elements_at}
+use Rattle.rule_model.specs.Tab.{tab}
 use Rattle.rule_index.specs.declared.holding.Holding.{Holding}
 use Rattle.rule_index.specs.Holdings.{AreHoldersOf}
-use Rattle.rule_matching.specs.Matching.{item_before, place_before, place_in_file, IsMarkedRight}
+use Rattle.rule_matching.specs.Matching.{item_before, place_before, place_in_stated, IsMarkedRight}
 use Rattle.rule_matching.specs.StoreMarks.{Marking, has_holder, is_known, is_marked, marked_room}
 use Rattle.rule_matching.proofs.Remembering.{same_or_other}
 
@@ -55,9 +56,13 @@ holders_are_those x contents rows store holders = elim (cases_Bool (has_holder r
   | inr none ↦ none ∙ sym (has_none x contents rows store holders none)
 ]
 
+-- the elements that the stores of tables are stated with
+abbrev stated_in : Tables → ℕ → List Element
+stated_in tables store = elements_at (tab tables).stores (Some store)
+
 -- where the stores that have an item are newly marked, what is known is right
 pub marked_right : (tables : Tables) (left : List Item) (distance : ℕ) (item : Item) (holders : List Holding) (before after : Marking)
-    → Some item ≡ item_before left distance → AreHoldersOf item (elements_of tables.stores) holders
+    → Some item ≡ item_before left distance → AreHoldersOf item (stated_in tables) holders
     → ((d : ℕ) → d ≢ distance → is_known after d ≡ is_known before d)
     → ((s : ℕ) → s < marked_room before → is_marked after s distance ≡ has_holder holders s)
     → ((s d : ℕ) → d ≢ distance → is_marked after s d ≡ is_marked before s d)
@@ -69,15 +74,15 @@ marked_right tables left distance item holders before after is are known_others 
           let inside : s < marked_room before = subst (λ (n : ℕ). s < n) room within in
           elim (same_or_other d distance) [
             | inl this ↦
-                ap (is_marked after s) this ∙ here s inside ∙ holders_are_those item (elements_of tables.stores) holders s are
-                ∙ ap (λ (x : Option Item). is_some (option_and_then (λ item. place_of item (elements_of tables.stores s)) x)) is
-                ∙ ap (λ (n : ℕ). is_some (place_in_file tables left s n)) (sym this)
+                ap (is_marked after s) this ∙ here s inside ∙ holders_are_those item (stated_in tables) holders s are
+                ∙ ap (λ (x : Option Item). is_some (option_and_then (λ item. place_of item (stated_in tables s)) x)) is
+                ∙ ap (λ (n : ℕ). is_some (place_in_stated tables left s n)) (sym this)
             | inr other ↦ others s d other ∙ right.right s d (sym (known_others d other) ∙ known) inside
           ];
     }
 
--- an item stands in what a store has where it stands in the store of the file that is held for it
-pub in_what_is_held : (content : Content) (tables : Tables) (left : List Item) (store held distance : ℕ) → content (Numbered store) ≡ elements_of tables.stores held
-    → is_some (place_in_file tables left held distance) ≡ is_some (place_before content left store distance)
+-- an item stands in what a store has where it stands in the store that is held for it
+pub in_what_is_held : (content : Content) (tables : Tables) (left : List Item) (store held distance : ℕ) → content (Numbered store) ≡ elements_at (tab tables).stores (Some held)
+    → is_some (place_in_stated tables left held distance) ≡ is_some (place_before content left store distance)
 in_what_is_held content tables left store held distance same =
     ap (λ (elements : List Element). is_some (option_and_then (λ item. place_of item elements) (item_before left distance))) (sym same)

@@ -11,7 +11,8 @@ use Rattle.rule_model.specs.declared.tables.Tables.{Tables}
 use Rattle.rule_model.specs.Keyboard.{Numbered, Pattern}
 use Rattle.rule_model.specs.Match.{Content, catches_from, matches, place_for, place_of}
 use Rattle.rule_model.specs.Hold.{is_true, is_at_start}
-use Rattle.rule_model.specs.Tab.{elements_of, tab_pattern}
+use Rattle.rule_model.specs.Content.{elements_at}
+use Rattle.rule_model.specs.Tab.{tab, tab_pattern}
 use Rattle.file_parts.specs.declared.context_item.ContextItem.{ContextItem}
 use Rattle.file_parts.specs.declared.context_item.ContextItem.TheVariants as item
 use Rattle.file_parts.specs.ContextItems.{pattern_of}
@@ -29,14 +30,14 @@ item_before left distance = if ltb distance (length left) then slice_get left (l
 abbrev pub place_before : Content → List Item → ℕ → ℕ → Option ℕ
 place_before content left store distance = option_and_then (λ item. place_of item (content (Numbered store))) (item_before left distance)
 
--- its first place in a store of the file
-abbrev pub place_in_file : Tables → List Item → ℕ → ℕ → Option ℕ
-place_in_file tables left store distance = option_and_then (λ item. place_of item (elements_of tables.stores store)) (item_before left distance)
+-- its first place in a store as it is stated
+abbrev pub place_in_stated : Tables → List Item → ℕ → ℕ → Option ℕ
+place_in_stated tables left store distance = option_and_then (λ item. place_of item (elements_at (tab tables).stores (Some store))) (item_before left distance)
 
 -- where it is known in which stores an item stands, a store that there is room for is marked if the item stands there
 pub record IsMarkedRight (tables : Tables) (left : List Item) (marking : Marking) : Type 0 where
   pub right : (store distance : ℕ) → is_known marking distance ≡ true → store < marked_room marking
-      → is_marked marking store distance ≡ is_some (place_in_file tables left store distance)
+      → is_marked marking store distance ≡ is_some (place_in_stated tables left store distance)
 
 -- whatever place of an item is known is its first in what the store has at this moment, and the stores are marked right
 pub record RemembersRight (moment : MomentValue) (left : List Item) (memory : PlaceMemory) : Type 0 where
@@ -53,6 +54,12 @@ looks_at_store (item.Any store) = true
 looks_at_store (item.NotAny store) = true
 looks_at_store (item.Index store offset) = true
 looks_at_store other = false
+
+-- whether an item of a context is a condition on a store
+abbrev pub compares_store : ContextItem → Bool
+compares_store (item.Equal store value) = true
+compares_store (item.Unequal store value) = true
+compares_store other = false
 
 -- what was taken at an offset, which counts from 1
 abbrev pub taken_at : List Taken → ℕ → Option Taken

@@ -1,5 +1,5 @@
 -- A keyboard at a moment, and which of its records hold then.
-use Rattle.std.specs.Prelude.{◌≤◌, ℕ, List, length, All, Option, Some, None, option_map, option_and_then, slice_get}
+use Rattle.std.specs.Prelude.{◌≤◌, ℕ, Bool, List, length, map, All, Option, Some, None, option_map, option_and_then, slice_get}
 use Rattle.std.specs.Option.{option_flatten}
 use Rattle.kmn_base.specs.declared.limits.TheConstants.{CONTEXT_ITEMS}
 use Rattle.kmn_base.specs.declared.items.Item.{Item}
@@ -8,10 +8,11 @@ use Rattle.kmn_base.specs.declared.keys.KeyPress.{KeyPress}
 use Rattle.rule_model.specs.declared.tables.Rule.{Rule}
 use Rattle.rule_model.specs.declared.tables.Tables.{Tables}
 use Rattle.rule_model.specs.Content.{content, option_number}
-use Rattle.rule_model.specs.Keyboard.{Numbered, RuleMeaning, StoreMeaning}
+use Rattle.rule_model.specs.Keyboard.{Numbered, Platform, RuleMeaning, StoreMeaning}
 use Rattle.rule_model.specs.Match.{Content}
 use Rattle.rule_model.specs.Hold.{holds}
 use Rattle.rule_model.specs.Choose.{Chosen}
+use Rattle.rule_model.specs.System.{has_words}
 use Rattle.rule_model.specs.Tab.{tab}
 
 -- tables, and the current value of each option at this moment
@@ -22,6 +23,10 @@ pub record MomentValue : Type 0 where
 -- what each store has at this moment
 abbrev pub content_at : MomentValue → Content
 content_at moment = content (tab moment.tables).stores moment.current
+
+-- for each store, whether each word of its elements is a word of the platform at this moment
+abbrev pub truths_at : MomentValue → List Bool
+truths_at moment = map (λ (store : StoreMeaning). has_words (content_at moment Platform) store.elements) (tab moment.tables).stores
 
 -- the saved value of a store, None where nothing is saved or the store is no option
 abbrev pub saved_of : List StoreMeaning → List (Option (List Element)) → ℕ → Option (List Element)

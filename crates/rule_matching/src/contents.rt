@@ -1,10 +1,10 @@
-ghost use Rattle.std.specs.Prelude.{◌≡◌, ◌<◌, length, option_map};
+ghost use Rattle.std.specs.Prelude.{◌≡◌, ◌<◌, Some, length, option_map};
 ghost use Rattle.option_store.specs.Cells.{held_value, cell_at};
 ghost use Rattle.option_store.specs.Meaning.{stated, option_values, option_saves};
 ghost use Rattle.option_store.specs.declared.options.Held.TheVariants.{Host};
-ghost use Rattle.rule_model.specs.Content.{content};
+ghost use Rattle.rule_model.specs.Content.{content, elements_at};
 ghost use Rattle.rule_model.specs.Keyboard.{Numbered};
-ghost use Rattle.rule_model.specs.Tab.{elements_of, tab};
+ghost use Rattle.rule_model.specs.Tab.{tab};
 ghost use Rattle.rule_matching.specs.Moment.{saved_of};
 ghost use Rattle.rule_matching.specs.StoreValues.{elements_in};
 
@@ -12,14 +12,7 @@ use crate::store_value::StoreValue;
 use option_store::{Held, Options};
 use rule_index::IndexedKeyboard;
 
-/// The elements of a store, none where there is no such store.
-pub fn elements_of<'c>(indexed: &IndexedKeyboard<'c>, store: u32) -> StoreValue<'c>
-    ensures { elements_in result ≡ elements_of indexed.now.stores store }
-{
-    StoreValue::Elements(indexed.elements(store))
-}
-
-/// What is held for a store: the elements of a store of the tables, or the host's text.
+/// What is held for a store: the elements that a store is stated with, or the host's text.
 #[tactic(auto, using(crate::proofs::StoreContents::elements_held))]
 fn held<'c>(
     indexed: &'c IndexedKeyboard,
@@ -31,7 +24,7 @@ fn held<'c>(
     ensures { elements_in result ≡ held_value (stated (tab indexed.now).stores) (cell_at options.now store).text held }
 {
     match held {
-        Held::Store(value) => elements_of(indexed, value),
+        Held::Store(value) => StoreValue::Elements(indexed.stated(value)),
         Held::Host => StoreValue::Text(options.host_text(store)),
     }
 }
@@ -39,7 +32,7 @@ fn held<'c>(
 /// What a store holds at a moment: the current value of an option, else itself.
 #[tactic(auto, using(crate::proofs::StoreContents::option_within, crate::proofs::StoreContents::current_is_content, crate::proofs::StoreContents::itself_is_content))]
 pub fn held_now(indexed: &IndexedKeyboard, options: &Options, store: u32) -> Held
-    requires { length options.now ≡ length indexed.now.stores }
+    requires { length options.now ≡ length (tab indexed.now).stores }
     ensures value { held_value (stated (tab indexed.now).stores) (cell_at options.now store).text result
         ≡ content (tab indexed.now).stores (option_values (tab indexed.now).stores options.now) (Numbered store) }
     ensures option { result ≡ Host → store < length options.now }
@@ -52,7 +45,7 @@ pub fn held_now(indexed: &IndexedKeyboard, options: &Options, store: u32) -> Hel
 
 /// What a store has at a moment: the current value of an option, else its elements; nothing where there is no such store.
 pub fn content<'c>(indexed: &'c IndexedKeyboard, options: &'c Options, store: u32) -> StoreValue<'c>
-    requires { length options.now ≡ length indexed.now.stores }
+    requires { length options.now ≡ length (tab indexed.now).stores }
     ensures { elements_in result ≡ content (tab indexed.now).stores (option_values (tab indexed.now).stores options.now) (Numbered store) }
 {
     held(indexed, options, store, held_now(indexed, options, store))
@@ -65,7 +58,7 @@ pub fn saved_of<'c>(
     options: &'c Options,
     store: u32,
 ) -> Option<StoreValue<'c>>
-    requires { length options.now ≡ length indexed.now.stores }
+    requires { length options.now ≡ length (tab indexed.now).stores }
     ensures { option_map elements_in result ≡ saved_of (tab indexed.now).stores (option_saves (tab indexed.now).stores options.now) store }
 {
     if indexed.option_number(store).is_none() {

@@ -1,4 +1,4 @@
-ghost use Rattle.std.specs.Prelude.{◌≡◌, ◌≢◌, ◌⊎◌, ◌≤◌, ◌<◌, ℕ, Option, IfOk};
+ghost use Rattle.std.specs.Prelude.{◌≡◌, ◌+◌, ◌≢◌, ◌⊎◌, ◌≤◌, ◌<◌, ℕ, Option, IfOk};
 ghost use Rattle.kmn_base.specs.declared.limits.TheConstants.{STORES, WINDOW_ITEMS};
 ghost use Rattle.rule_matching.specs.KnownPlaces.{known_place, room, memorable, said, known_of, IsBlank};
 
@@ -83,7 +83,7 @@ impl Model for KnownPlaces {
 impl KnownPlaces {
     /// Room for so many stores, of which nothing is known.
     pub fn new(alloc: Global, stores: usize) -> Result<KnownPlaces, Memory>
-        requires { stores ≤ STORES }
+        requires { stores ≤ STORES + 2 }
         ensures unknown { IfOk result (λ memory. (store distance : ℕ) → known_place memory store distance ≡ None) }
         ensures room { IfOk result (λ memory. room memory ≡ stores) }
     {

@@ -4,9 +4,10 @@
 //! lie, on `rule_index` for what is looked up in the tables, and on `option_store` for the values of options. The layer above
 //! lends a `Moment`, the keyboard with what its stores hold, an `EnteredGroup`, which is a group with its index and the press, the
 //! last items before the caret, and a `PlaceMemory`: `first_held` answers the first record of the group that holds then, and what
-//! it has caught. A moment is seen as a `MomentValue`, and what each store has then is `content_at` of it. The memory knows in
-//! which stores of the file the items before the caret stand, a mark for each store and distance (`specs/StoreMarks`), and the
-//! places that were looked for (`specs/KnownPlaces`). What it knows doesn't matter to the layer above: `first_held` forgets it
+//! it has caught. A moment is seen as a `MomentValue`, and what each store has then is `content_at` of it. It is told for each
+//! store whether the platform has its words (`truths_at`), so that no condition walks over words. The memory knows in which stores
+//! the items before the caret stand, a mark for each store and distance (`specs/StoreMarks`), and the places that were looked for
+//! (`specs/KnownPlaces`). What it knows doesn't matter to the layer above: `first_held` forgets it
 //! first. Of each item of a context that is walked over only what it takes is kept (`Taken`): places are looked up for an `index`
 //! and for the record that holds. Memory is taken by `PlaceMemory::new` and by the copy of a `StoreValue` alone. A stranger's file
 //! can have three hundred million items of contexts walked over for one key, so `takes_context` is kept a function by itself in
@@ -30,7 +31,7 @@ mod store_value;
 mod taken;
 
 pub use caught::{Caught, Found};
-pub use contents::{content, elements_of, saved_of};
+pub use contents::{content, saved_of};
 pub use elements::{item_caught, item_of};
 pub use entered_group::EnteredGroup;
 pub use matching::first_held;

@@ -1,7 +1,7 @@
 ghost use Rattle.std.specs.Prelude.{◌≡◌, ◌<◌, true, length, is_some};
 ghost use Rattle.kmn_base.specs.declared.limits.TheConstants.{WINDOW_ITEMS};
 ghost use Rattle.rule_matching.specs.Choices.{RemembersFor};
-ghost use Rattle.rule_matching.specs.Matching.{place_in_file, IsMarkedRight};
+ghost use Rattle.rule_matching.specs.Matching.{place_in_stated, IsMarkedRight};
 ghost use Rattle.rule_matching.specs.StoreMarks.{is_known, marked_room};
 
 use crate::choice::Choice;
@@ -10,7 +10,7 @@ use crate::places::item_before;
 use crate::store_marks::StoreMarks;
 use kmn_base::Item;
 
-/// Marks the stores of the file that have the item which so many items stand behind, once while the list stands still.
+/// Marks the stores that are stated with the item which so many items stand behind, once while the list stands still.
 #[inline(always)]
 fn mark_distance(choice: &Choice<'_>, distance: usize, marks: &mut StoreMarks)
     requires within { distance < length choice.now.left.now }
@@ -29,14 +29,14 @@ fn mark_distance(choice: &Choice<'_>, distance: usize, marks: &mut StoreMarks)
     );
 }
 
-/// Whether that item is in a store of the file that there are marks of.
+/// Whether a store that there are marks of is stated with that item.
 #[inline(always)]
 pub fn is_marked(choice: &Choice<'_>, distance: usize, store: u32, places: &mut PlaceMemory) -> bool
     requires within { distance < length choice.now.left.now }
     requires near { distance < WINDOW_ITEMS }
     requires room { store < marked_room places.old.marks }
     requires right { RemembersFor choice.now places.old }
-    ensures value { result ≡ is_some (place_in_file choice.now.moment.now.tables choice.now.left.now store distance) }
+    ensures value { result ≡ is_some (place_in_stated choice.now.moment.now.tables choice.now.left.now store distance) }
     ensures right { RemembersFor choice.now places.new }
 {
     mark_distance(choice, distance, &mut places.marks);

@@ -1,13 +1,14 @@
-ghost use Rattle.std.specs.Prelude.{◌≡◌, ◌≤◌, ◌<◌, ◌-◌, [], Some, None, drop, false, length, map, nat_eq, option_and_then, option_map, slice_get, true, if◌then◌else◌};
+ghost use Rattle.std.specs.Prelude.{◌≡◌, ◌≤◌, ◌<◌, ◌-◌, [], IfSome, Some, None, drop, false, length, map, nat_eq, option_and_then, option_map, slice_get, true, if◌then◌else◌};
+ghost use Rattle.std.specs.List.{Contains};
 ghost use Rattle.kmn_base.specs.declared.limits.TheConstants.{CONTEXT_ITEMS};
 ghost use Rattle.rule_model.specs.Match.{takes_item};
-ghost use Rattle.rule_model.specs.Hold.{holds};
+ghost use Rattle.rule_model.specs.Hold.{holds, is_true};
 ghost use Rattle.rule_model.specs.Choose.{first};
 ghost use Rattle.rule_model.specs.Tab.{tab_pattern, tab_rule};
 ghost use Rattle.file_parts.specs.ContextItems.{pattern_of};
 ghost use Rattle.rule_index.specs.Groups.{IsRuleIndexOf};
 ghost use Rattle.rule_matching.specs.Choices.{all_caught, caught_in, content_of, meaning_in, record_in, RemembersFor};
-ghost use Rattle.rule_matching.specs.Matching.{allowed_catches, catch_of, is_allowed, item_before, item_meaning, looks_at_store};
+ghost use Rattle.rule_matching.specs.Matching.{allowed_catches, catch_of, compares_store, is_allowed, item_before, item_meaning, looks_at_store};
 ghost use Rattle.rule_matching.specs.Moment.{content_at, held_record, AreShort};
 
 use crate::caught::Caught;
@@ -102,6 +103,23 @@ fn taken_by(
     }
 }
 
+/// Whether a condition on a system option is true at a moment. It stays a call, so that `stands` keeps few arms.
+#[inline(never)]
+fn stands_in_system(moment: &Moment<'_>, item: ContextItem) -> bool
+    requires { compares_store item ≡ false }
+    ensures { result ≡ is_true (content_at moment.now) (item_meaning moment.now.tables.stores item) }
+{
+    match item {
+        ContextItem::SystemEqual(id, value) => {
+            moment.is_system_equal(u32::from(id), u32::from(value))
+        }
+        ContextItem::SystemUnequal(id, value) => {
+            !moment.is_system_equal(u32::from(id), u32::from(value))
+        }
+        _ => true,
+    }
+}
+
 /// Whether an item of a context that looks at no item of the text stands at a moment: a condition is true, and a `nul` stands
 /// where the list has no more items than the context takes.
 fn stands(moment: &Moment<'_>, item: ContextItem, is_whole: bool) -> bool
@@ -111,7 +129,7 @@ fn stands(moment: &Moment<'_>, item: ContextItem, is_whole: bool) -> bool
         ContextItem::Equal(store, value) => moment.is_same(u32::from(store), u32::from(value)),
         ContextItem::Unequal(store, value) => !moment.is_same(u32::from(store), u32::from(value)),
         ContextItem::Nul => is_whole,
-        _ => true,
+        _ => stands_in_system(moment, item),
     }
 }
 
@@ -179,6 +197,7 @@ fn held_record<'g>(
     requires right { RemembersFor choice.now places.old }
     ensures held { option_map (λ rule. (record_in choice.now entered.now.group.now rule, all_caught choice.now taken.new.items)) result
         ≡ held_record (content_of choice.now) choice.now.left.now choice.now.pressed (option_map (record_in choice.now entered.now.group.now) (slice_get entered.now.group.now.rules number)) }
+    ensures among { IfSome result (λ rule. Contains entered.now.group.now.rules rule) }
     ensures right { RemembersFor choice.now places.new }
 {
     let count = entered.records.pattern_count(number);
@@ -218,6 +237,7 @@ pub fn first_held<'g>(
     ensures held { option_map (λ rule. (tab_rule moment.now.tables.stores entered.now.group.now.using_keys rule, caught.new)) result ≡ first
         (holds (content_at moment.now) left.now entered.now.press) (map (tab_rule moment.now.tables.stores entered.now.group.now.using_keys) entered.now.group.now.rules) }
     ensures none { result ≡ None → caught.new ≡ caught.old }
+    ensures among { IfSome result (λ rule. Contains entered.now.group.now.rules rule) }
 {
     places.forget();
     let choice = Choice {

@@ -1,31 +1,35 @@
-ghost use Rattle.std.specs.Prelude.{◌≡◌, IfSome, length, slice_get};
+ghost use Rattle.std.specs.Prelude.{◌≡◌, Some, IfSome, length, slice_get};
 ghost use Rattle.option_store.specs.Meaning.{option_values};
-ghost use Rattle.rule_model.specs.Keyboard.{Numbered};
+ghost use Rattle.rule_model.specs.Content.{elements_at};
+ghost use Rattle.rule_model.specs.Keyboard.{Numbered, Platform};
 ghost use Rattle.rule_model.specs.Match.{element_at, place_of, same_value};
+ghost use Rattle.rule_model.specs.System.{has_words, is_equal, system_ref};
 ghost use Rattle.rule_model.specs.Tab.{elements_of, tab};
 ghost use Rattle.rule_index.specs.Holdings.{AreHoldersOf};
-ghost use Rattle.rule_matching.specs.Moment.{content_at};
+ghost use Rattle.rule_matching.specs.Moment.{content_at, truths_at};
 
-use crate::contents::{elements_of, held_now};
+use crate::contents::held_now;
 use crate::host_text::{element_in_text, place_in_text};
 use crate::store_value::StoreValue;
 use kmn_base::{Element, Item};
 use option_store::{Held, Options};
-use rule_index::{Holding, IndexedKeyboard};
+use rule_index::{Holding, IndexedKeyboard, PLATFORM};
 use std::marker::Model;
 
-/// A keyboard at a moment: the file with what is looked up in it, and what its stores hold.
+/// A keyboard at a moment: the file with what is looked up in it, what its stores hold, and for each store whether each word of
+/// its elements is a word of the platform.
 #[derive(Drop)]
 pub struct Moment<'a> {
     indexed: &'a IndexedKeyboard<'a>,
     options: &'a Options,
+    truths: &'a [bool],
 }
 
 impl<'a> Model for Moment<'a> {
     ghost use Rattle.std.specs.Prelude.{◌≡◌, length};
     ghost use Rattle.option_store.specs.Meaning.{option_values};
     ghost use Rattle.rule_model.specs.Tab.{tab};
-    ghost use Rattle.rule_matching.specs.Moment.{MomentValue};
+    ghost use Rattle.rule_matching.specs.Moment.{MomentValue, truths_at};
 
     ghost Value = { MomentValue };
 
@@ -34,26 +38,42 @@ impl<'a> Model for Moment<'a> {
       current = option_values (tab moment.indexed.now).stores moment.options.now;
     } };
 
-    ghost invariant = { λ moment. length moment.options.now ≡ length moment.indexed.now.stores };
+    ghost invariant = { λ moment. (length moment.options.now ≡ length (tab moment.indexed.now).stores)
+        × (moment.truths.now ≡ truths_at (record {
+          tables = moment.indexed.now;
+          current = option_values (tab moment.indexed.now).stores moment.options.now;
+        })) };
 }
 
 impl<'a> Moment<'a> {
-    /// The keyboard where its stores hold this.
-    pub fn of(indexed: &'a IndexedKeyboard<'a>, options: &'a Options) -> Moment<'a>
-        requires { length options.now ≡ length indexed.now.stores }
+    /// The keyboard where its stores hold this, and where this is told of the platform.
+    pub fn of(
+        indexed: &'a IndexedKeyboard<'a>,
+        options: &'a Options,
+        truths: &'a [bool],
+    ) -> Moment<'a>
+        requires options { length options.now ≡ length (tab indexed.now).stores }
+        requires truths { truths.now ≡ truths_at (record {
+          tables = indexed.now;
+          current = option_values (tab indexed.now).stores options.now;
+        }) }
         ensures { result ≡ record {
           tables = indexed.now;
           current = option_values (tab indexed.now).stores options.now;
         } }
     {
-        Moment { indexed, options }
+        Moment {
+            indexed,
+            options,
+            truths,
+        }
     }
 
-    /// The store of the file whose elements a store has now, None where it has a text of the host. To answer None always would
-    /// be right too, and cost the look-up of each place.
+    /// The store whose stated elements a store has now, None where it has a text of the host. To answer None always would be
+    /// right too, and cost the look-up of each place.
     #[inline(always)]
     pub(crate) fn held_store(&self, store: u32) -> Option<u32>
-        ensures { IfSome result (λ held. content_at self.now (Numbered store) ≡ elements_of self.now.tables.stores held) }
+        ensures { IfSome result (λ held. content_at self.now (Numbered store) ≡ elements_at (tab self.now.tables).stores (Some held)) }
     {
         match held_now(self.indexed, self.options, store) {
             Held::Store(value) => Some(value),
@@ -61,10 +81,10 @@ impl<'a> Moment<'a> {
         }
     }
 
-    /// The stores of the file that have an item.
+    /// The stores that are stated with an item.
     #[inline(never)]
     pub(crate) fn holders(&self, item: Item) -> &[Holding]
-        ensures { AreHoldersOf item (elements_of self.now.tables.stores) result.now }
+        ensures { AreHoldersOf item (λ store. elements_at (tab self.now.tables).stores (Some store)) result.now }
     {
         self.indexed.holders(item)
     }
@@ -96,16 +116,51 @@ impl<'a> Moment<'a> {
         }
     }
 
+    /// The number of a value store of the file; of no store where the file has none of the number, which has no elements then.
+    #[tactic(auto, using(crate::proofs::StoreContents::own_value, crate::proofs::StoreContents::no_value))]
+    fn value_store(&self, value: u32) -> u32
+        ensures { elements_at (tab self.now.tables).stores (Some result) ≡ elements_of self.now.tables.stores value }
+    {
+        if value < self.indexed.layer() {
+            value
+        } else {
+            self.indexed.store_count()
+        }
+    }
+
     /// Whether a store has the elements of a value store.
     pub fn is_same(&self, store: u32, value: u32) -> bool
         ensures { result ≡ same_value (content_at self.now (Numbered store)) (elements_of self.now.tables.stores value) }
     {
+        let value = self.value_store(value);
         match held_now(self.indexed, self.options, store) {
             Held::Store(held) => self.indexed.same_elements(held, value),
-            Held::Host => StoreValue::Text(self.options.host_text(store)).is_same(elements_of(
-                self.indexed,
-                value,
-            )),
+            Held::Host => StoreValue::Text(self.options.host_text(store)).is_same(
+                StoreValue::Elements(self.indexed.stated(value)),
+            ),
+        }
+    }
+
+    /// Whether the platform has each word of a value store.
+    #[tactic(auto, using(crate::proofs::StoreContents::told_of, crate::proofs::StoreContents::untold))]
+    fn has_platform(&self, value: u32) -> bool
+        ensures { result ≡ has_words (content_at self.now Platform) (elements_of self.now.tables.stores value) }
+    {
+        match self.truths.get(self.value_store(value) as usize) {
+            Some(is_true) => *is_true,
+            None => true,
+        }
+    }
+
+    /// Whether the content of the system option of an id is what a value store asks for: the platform is told by words, the layer
+    /// by its elements.
+    pub fn is_system_equal(&self, id: u32, value: u32) -> bool
+        ensures { result ≡ is_equal (system_ref id) (content_at self.now (system_ref id)) (elements_of self.now.tables.stores value) }
+    {
+        if id == PLATFORM {
+            self.has_platform(value)
+        } else {
+            self.is_same(self.indexed.layer(), value)
         }
     }
 }

@@ -1,4 +1,4 @@
-ghost use Rattle.std.specs.Prelude.{◌≡◌, ◌≤◌, IfOk};
+ghost use Rattle.std.specs.Prelude.{◌≡◌, ◌+◌, ◌≤◌, IfOk};
 ghost use Rattle.kmn_base.specs.declared.limits.TheConstants.{STORES};
 ghost use Rattle.rule_matching.specs.KnownPlaces.{room};
 ghost use Rattle.rule_matching.specs.PlaceMemory.{KnowsNothing};
@@ -20,7 +20,7 @@ pub struct PlaceMemory {
 impl PlaceMemory {
     /// Room for so many stores, of which nothing is known.
     pub fn new(alloc: Global, stores: usize) -> Result<PlaceMemory, Memory>
-        requires { stores ≤ STORES }
+        requires { stores ≤ STORES + 2 }
         ensures unknown { IfOk result (λ memory. KnowsNothing memory) }
         ensures room { IfOk result (λ memory. room memory.found ≡ stores) }
         ensures marked_room { IfOk result (λ memory. marked_room memory.marks ≡ stores) }

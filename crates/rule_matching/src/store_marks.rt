@@ -1,4 +1,4 @@
-ghost use Rattle.std.specs.Prelude.{◌≡◌, ◌≢◌, ◌⊎◌, ◌≤◌, ◌<◌, ◌||◌, ℕ, true, false, length, IfOk, nat_lt};
+ghost use Rattle.std.specs.Prelude.{◌≡◌, ◌+◌, ◌≢◌, ◌⊎◌, ◌≤◌, ◌<◌, ◌||◌, ℕ, true, false, length, IfOk, nat_lt};
 ghost use Rattle.kmn_base.specs.declared.limits.TheConstants.{STORES, WINDOW_ITEMS};
 ghost use Rattle.rule_matching.specs.StoreMarks.{has_distance, has_holder, is_known, is_marked, is_marked_among, is_marked_by, marked_room, AreMarkedUntil};
 
@@ -114,7 +114,7 @@ impl Model for StoreMarks {
 impl StoreMarks {
     /// Room for so many stores, of which nothing is known.
     pub fn new(alloc: Global, stores: usize) -> Result<StoreMarks, Memory>
-        requires { stores ≤ STORES }
+        requires { stores ≤ STORES + 2 }
         ensures unknown { IfOk result (λ marks. (distance : ℕ) → is_known marks distance ≡ false) }
         ensures room { IfOk result (λ marks. marked_room marks ≡ stores) }
     {

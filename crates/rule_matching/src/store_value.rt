@@ -3,14 +3,13 @@ ghost use Rattle.rule_model.specs.Match.{same_value};
 ghost use Rattle.rule_matching.specs.StoreValues.{elements_in};
 
 use crate::elements::same_element;
-use file_parts::Elements;
 use kmn_base::{Element, Memory, Seq};
 use std::alloc::Global;
 
-/// What a store has, read where it lies, element by element: elements of the file, or a text of the host.
+/// What a store has, read where it lies, element by element: elements of the keyboard, or a text of the host.
 #[derive(Drop)]
 pub enum StoreValue<'c> {
-    Elements(Elements<'c>),
+    Elements(&'c [Element]),
     Text(&'c [char]),
 }
 
@@ -26,7 +25,13 @@ impl<'c> Iterator for StoreValue<'c> {
 
     fn next(&mut self) -> Option<Element> {
         match self {
-            StoreValue::Elements(elements) => elements.next(),
+            StoreValue::Elements(elements) => {
+                let [first, behind @ ..] = *elements else {
+                    return None;
+                };
+                *elements = behind;
+                Some(*first)
+            }
             StoreValue::Text(text) => {
                 let [first, behind @ ..] = *text else {
                     return None;

@@ -104,3 +104,28 @@ keyed = of_rules (vowels ∷ letters ∷ []) (statement 5 [] (Some (source.Any (
 pub key_store_of_source : map seen (trace (src keyed) (press 69 ∷ [])).done ≡ (1, 0, 101 ∷ 33 ∷ [], item.Char 101 ∷ item.Char 33 ∷ []) ∷ []
 unfolding trace src src_options names_of stores_of after_key happening by_default key_fits char_of_press same_name name_chars code_in us_characters
 key_store_of_source = refl
+
+-- a condition on the layer, a setting by the host, and what an output makes of the layer
+abbrev pub layered : Tables
+layered =
+    one_group (record { system = 0; name = []; elements = element.Char 115 ∷ [] } ∷ [])
+    (rule 3 97 (pattern.SystemEqual 33 0 ∷ []) (output.Char 98 ∷ []) ∷ rule 4 97 (pattern.SystemUnequal 33 0 ∷ []) (output.Char 97 ∷ []) ∷ rule 5 99 [] (output.SetSystem 33 0 ∷ []) ∷ [])
+
+abbrev pub inserted_by : Step → List ℕ
+inserted_by step = step.happened.inserted
+
+pub layers : map inserted_by (trace (tab layered) (press 65 ∷ event.Setting (codes "&Layer") (115 ∷ []) ∷ press 65 ∷ event.Setting (codes "&layer") (116 ∷ []) ∷ press 65 ∷ press 67 ∷ press 65 ∷ [])).done
+    ≡ (97 ∷ []) ∷ [] ∷ (98 ∷ []) ∷ [] ∷ (97 ∷ []) ∷ [] ∷ (98 ∷ []) ∷ []
+unfolding trace tab tab_options tab_dictionary after_key happening by_default key_fits char_of_press same_name name_chars us_characters
+layers = refl
+
+-- the platform is compared word by word, in any order and case
+abbrev pub on_platform : Tables
+on_platform =
+    one_group (record { system = 0; name = []; elements = map element.Char (codes "Native  WINDOWS") } ∷ record { system = 0; name = []; elements = map element.Char (codes "windows web") } ∷ [])
+    (rule 3 97 (pattern.SystemEqual 31 0 ∷ pattern.SystemUnequal 31 1 ∷ []) (output.Char 98 ∷ []) ∷ [])
+
+pub platforms : map inserted_by (trace (tab on_platform) (press 65 ∷ event.Setting (codes "&platform") (map (λ c. c) (codes "native web windows")) ∷ press 65 ∷ [])).done
+    ≡ (98 ∷ []) ∷ [] ∷ (97 ∷ []) ∷ []
+unfolding trace tab tab_options tab_dictionary after_key happening by_default key_fits char_of_press same_name name_chars us_characters
+platforms = refl

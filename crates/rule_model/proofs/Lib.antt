@@ -13,3 +13,4 @@ pub mod PlainLists
 pub mod PlainOptions
 pub mod Soundness
 pub mod Steps
+pub mod SystemOptions

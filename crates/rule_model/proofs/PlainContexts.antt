@@ -24,6 +24,8 @@ takes_same stores (pattern.Index s offset) = refl
 takes_same stores (pattern.ContextAt offset) = refl
 takes_same stores (pattern.Equal s value) = refl
 takes_same stores (pattern.Unequal s value) = refl
+takes_same stores (pattern.SystemEqual id value) = refl
+takes_same stores (pattern.SystemUnequal id value) = refl
 takes_same stores pattern.Nul = refl
 
 start_same : (stores : List Store) (p : Pat) → is_at_start (tab_pattern stores p) ≡ is_at_start (tab_pattern [] p)
@@ -35,6 +37,8 @@ start_same stores (pattern.Index s offset) = refl
 start_same stores (pattern.ContextAt offset) = refl
 start_same stores (pattern.Equal s value) = refl
 start_same stores (pattern.Unequal s value) = refl
+start_same stores (pattern.SystemEqual id value) = refl
+start_same stores (pattern.SystemUnequal id value) = refl
 start_same stores pattern.Nul = refl
 
 -- a context takes as many items whatever the stores are

@@ -65,10 +65,10 @@ elements_with_options options k zero (s ∷ ss) = refl
 elements_with_options options k (suc n) (s ∷ ss) = elements_with_options options (k + 1) n ss
 
 -- the first place of a list that begins with an item that passes, or with one that does not
-position-passes : {X : Type 0} (p : X → Bool) (x : X) (xs : List X) → p x ≡ true → position p (x ∷ xs) ≡ Some 0
+pub position-passes : {X : Type 0} (p : X → Bool) (x : X) (xs : List X) → p x ≡ true → position p (x ∷ xs) ≡ Some 0
 position-passes p x xs h = grind (arith, nat_tests)
 
-position-fails : {X : Type 0} (p : X → Bool) (x : X) (xs : List X) → p x ≡ false → position p (x ∷ xs) ≡ option_map (λ i. 1 + i) (position p xs)
+pub position-fails : {X : Type 0} (p : X → Bool) (x : X) (xs : List X) → p x ≡ false → position p (x ∷ xs) ≡ option_map (λ i. 1 + i) (position p xs)
 position-fails p x xs h = grind (arith, nat_tests)
 
 shifted : (k : ℕ) (o : Option ℕ) → option_map (λ i. k + 1 + i) o ≡ option_map (λ i. k + i) (option_map (λ i. 1 + i) o)
@@ -88,12 +88,12 @@ named_from name k m options [] = refl
 named_from name k m options (s ∷ ss) =
     let more = with_options options (m + 1) ss in
     elim (list_any (nat_eq m) options) as (λ b. option_named name (if b then Some k ∷ option_numbers (k + 1) more else None ∷ option_numbers k more) (s ∷ ss)
-    ≡ option_map (λ i. k + i) (position (has_name name) (option_names (record { name = s.name; elements = s.elements; is_option = b } ∷ more)))) [
+    ≡ option_map (λ i. k + i) (position (has_name name) (option_names (record { name = s.name; elements = s.elements; is_option = b; is_system = false } ∷ more)))) [
       | true ↦ named_here (has_name name) k s.name (option_names more) (has_name name s.name) _ refl (named_from name (k + 1) (m + 1) options ss)
       | false ↦ named_from name k (m + 1) options ss
     ]
 
-same_number : (o : Option ℕ) → option_map (λ i. 0 + i) o ≡ o
+pub same_number : (o : Option ℕ) → option_map (λ i. 0 + i) o ≡ o
 same_number None = refl
 same_number (Some x) = let q : 0 + x ≡ x = omega arith in ap Some q
 

@@ -1,8 +1,8 @@
 -- What a store has at a moment: the current value of an option, else its elements. Values stand by option number.
-use Rattle.std.specs.Prelude.{ℕ, zero, suc, ◌+◌, if◌then◌else◌, List, [], ◌∷◌, Option, Some, None, slice_get, unwrap_or, position, option_and_then}
+use Rattle.std.specs.Prelude.{ℕ, zero, suc, ◌+◌, ◌-◌, ◌&&◌, not, length, if◌then◌else◌, List, [], ◌∷◌, Option, Some, None, slice_get, unwrap_or, position, option_and_then}
 use Rattle.kmn_base.specs.declared.items.Element.{Element}
 use Rattle.kmn_base.specs.Names.{same_name}
-use Rattle.rule_model.specs.Keyboard.{Ref, Named, Numbered, StoreMeaning, GroupMeaning}
+use Rattle.rule_model.specs.Keyboard.{Ref, Named, Numbered, Layer, Platform, StoreMeaning, GroupMeaning}
 
 -- how many of the first n stores are options
 abbrev pub options_before : ℕ → List StoreMeaning → ℕ
@@ -10,10 +10,12 @@ options_before zero stores = 0
 options_before (suc n) [] = 0
 options_before (suc n) (store ∷ stores) = if store.is_option then 1 + options_before n stores else options_before n stores
 
--- the number of the store that is meant: of a name the first that has it, else None
+-- the number of the store that is meant: of a name the first that has it, else None; the system options stand last
 abbrev pub store_number : List StoreMeaning → Ref → Option ℕ
-store_number stores (Named name) = position (λ store. same_name store.name name) stores
+store_number stores (Named name) = position (λ store. not store.is_system && same_name store.name name) stores
 store_number stores (Numbered n) = Some n
+store_number stores Layer = Some (length stores - 2)
+store_number stores Platform = Some (length stores - 1)
 
 -- the elements of a store as the keyboard states them
 abbrev pub elements_of_store : Option StoreMeaning → List Element
@@ -54,3 +56,5 @@ option_number stores ref = option_at stores (store_number stores ref)
 abbrev pub group_at : List GroupMeaning → Ref → Option GroupMeaning
 group_at groups (Named name) = option_and_then (slice_get groups) (position (λ group. same_name group.name name) groups)
 group_at groups (Numbered n) = slice_get groups n
+group_at groups Layer = None
+group_at groups Platform = None

@@ -11,12 +11,13 @@ use Rattle.virtual_keys.specs.Fits.{key_fits}
 use Rattle.rule_model.specs.declared.event_state.Catch.{Catch}
 use Rattle.rule_model.specs.declared.event_state.Caught.{Caught}
 use Rattle.rule_model.specs.Keyboard.{Pattern, IfEqual, IfUnequal, AtStart, KeyPattern, OneKey, KeyIn, RuleMeaning}
-use Rattle.rule_model.specs.Match.{Content, same_value, takes_item, catches_from}
+use Rattle.rule_model.specs.Match.{Content, takes_item, catches_from}
+use Rattle.rule_model.specs.System.{is_equal}
 
 -- whether a condition is true of a moment
 abbrev pub is_true : Content → Pattern → Bool
-is_true content (IfEqual store value) = same_value (content store) value
-is_true content (IfUnequal store value) = not (same_value (content store) value)
+is_true content (IfEqual store value) = is_equal store (content store) value
+is_true content (IfUnequal store value) = not (is_equal store (content store) value)
 is_true content pattern = true
 
 abbrev pub is_at_start : Pattern → Bool

@@ -3,10 +3,12 @@ use Rattle.std.specs.Prelude.{ℕ, Bool, List, Option}
 use Rattle.kmn_base.specs.declared.items.Element.{Element}
 use Rattle.kmn_base.specs.declared.keys.RuleKey.{RuleKey}
 
--- a store or a group, by its name or by its number
+-- a store or a group, by its name or by its number; or one of the two system options
 pub data Ref : Type 0 where
   Named : (name : List ℕ) → Ref
   Numbered : (n : ℕ) → Ref
+  Layer : Ref
+  Platform : Ref
 
 -- an item of a context: what an item of the text has to be, or a condition; offsets count the context's items from 1
 pub data Pattern : Type 0 where
@@ -56,18 +58,21 @@ pub record GroupMeaning : Type 0 where
   pub on_match : Option (List Output)
   pub on_nomatch : Option (List Output)
 
--- a store; an option is one that some condition, `set`, `save` or `reset` names
+-- a store; an option is one that some condition, `set`, `save` or `reset` names. The last two stores are the system
+-- options, which no name in a rule means
 pub record StoreMeaning : Type 0 where
   pub name : List ℕ
   pub elements : List Element
   pub is_option : Bool
+  pub is_system : Bool
 
 -- which of the rules that hold goes first: the best of a source, the first of a file
 pub data Choice : Type 0 where
   Best : Choice
   First : Choice
 
--- a keyboard: its Unicode start group, stores and groups, the names of its key dictionary, and its choice
+-- a keyboard: its Unicode start group, its stores and behind them the two system options, its groups, the names of its key
+-- dictionary, and its choice
 pub record Keyboard : Type 0 where
   pub start : Ref
   pub stores : List StoreMeaning

@@ -13,6 +13,7 @@ pub mod OwnLines
 pub mod Plain
 pub mod Src
 pub mod StepLaws
+pub mod System
 pub mod Tab
 pub mod Trace
 pub mod Transcript

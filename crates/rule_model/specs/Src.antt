@@ -16,6 +16,7 @@ use Rattle.rule_model.specs.declared.tables.Store.{Store}
 use Rattle.rule_model.specs.Keyboard.{Ref, Named, Pattern, IsChar, IsMark, IsAny, IsNotAny, IsIndex, IsContextAt, IfEqual, IfUnequal, AtStart, Output, PutChar, PutMark, PutIndex, PutContext, PutContextAt, PutStore, UseGroup, SetOption, SaveOption, ResetOption, MakeBeep, DoNothing, StopEvent, KeyPattern, OneKey, KeyIn, RuleMeaning, GroupMeaning, Keyboard, Best}
 use Rattle.rule_model.specs.Naming.{SourceNames, names_of, mark_number, key_number, stores_of}
 use Rattle.rule_model.specs.Tab.{with_options}
+use Rattle.rule_model.specs.System.{system_options}
 
 -- a value is its characters
 abbrev pub value_elements : List ℕ → List Element
@@ -145,7 +146,7 @@ unfoldable pub src : Program → Keyboard
 src program =
     record {
       start = start_named (find is_unicode program.begins);
-      stores = with_options (src_options program) 0 (stores_of program);
+      stores = with_options (src_options program) 0 (stores_of program) ++ system_options;
       groups = map (src_group (names_of program)) program.groups;
       dictionary = (names_of program).keys;
       choice = Best;

@@ -1,5 +1,5 @@
 -- The keyboard that the tables of a compiled file mean.
-use Rattle.std.specs.Prelude.{ℕ, ◌+◌, Bool, not, nat_eq, if◌then◌else◌, List, [], ◌∷◌, ◌++◌, length, map, flat_map, filter, find, filter_map, Option, Some, None, slice_get, encode_utf8_all}
+use Rattle.std.specs.Prelude.{ℕ, ◌+◌, Bool, false, not, nat_eq, if◌then◌else◌, List, [], ◌∷◌, ◌++◌, length, map, flat_map, filter, find, filter_map, Option, Some, None, slice_get, encode_utf8_all}
 use Rattle.std.specs.List.{list_any, slice_split}
 use Rattle.kmn_base.specs.declared.items.Element.{Element}
 use Rattle.kmn_base.specs.declared.items.Element.TheVariants as element
@@ -13,6 +13,7 @@ use Rattle.rule_model.specs.declared.tables.Rule.{Rule}
 use Rattle.rule_model.specs.declared.tables.Store.{Store}
 use Rattle.rule_model.specs.declared.tables.Group.{Group}
 use Rattle.rule_model.specs.declared.tables.Tables.{Tables}
+use Rattle.rule_model.specs.System.{system_ref, system_options}
 use Rattle.rule_model.specs.Keyboard.{Numbered, Pattern, IsChar, IsMark, IsAny, IsNotAny, IsIndex, IsContextAt, IfEqual, IfUnequal, AtStart, Output, PutChar, PutMark, PutIndex, PutContext, PutContextAt, UseGroup, SetOption, SaveOption, ResetOption, MakeBeep, DoNothing, StopEvent, OneKey, RuleMeaning, GroupMeaning, StoreMeaning, Keyboard, First}
 
 -- the elements of the store of a number, none where there is no such store
@@ -33,6 +34,8 @@ tab_pattern stores (pattern.Index s offset) = IsIndex (Numbered s) offset
 tab_pattern stores (pattern.ContextAt offset) = IsContextAt offset
 tab_pattern stores (pattern.Equal s value) = IfEqual (Numbered s) (elements_of stores value)
 tab_pattern stores (pattern.Unequal s value) = IfUnequal (Numbered s) (elements_of stores value)
+tab_pattern stores (pattern.SystemEqual id value) = IfEqual (system_ref id) (elements_of stores value)
+tab_pattern stores (pattern.SystemUnequal id value) = IfUnequal (system_ref id) (elements_of stores value)
 tab_pattern stores pattern.Nul = AtStart
 
 -- an item of a compiled output
@@ -44,6 +47,7 @@ tab_output stores output.Context = PutContext
 tab_output stores (output.ContextAt offset) = PutContextAt offset
 tab_output stores (output.Enter g) = UseGroup (Numbered g)
 tab_output stores (output.Set s value) = SetOption (Numbered s) (elements_of stores value)
+tab_output stores (output.SetSystem id value) = SetOption (system_ref id) (elements_of stores value)
 tab_output stores (output.Save s) = SaveOption (Numbered s)
 tab_output stores (output.Reset s) = ResetOption (Numbered s)
 tab_output stores output.Nul = DoNothing
@@ -101,7 +105,7 @@ tab_options tables = flat_map group_options tables.groups
 abbrev pub with_options : List ℕ → ℕ → List Store → List StoreMeaning
 with_options options n [] = []
 with_options options n (store ∷ stores) =
-    record { name = store.name; elements = store.elements; is_option = list_any (nat_eq n) options } ∷ with_options options (n + 1) stores
+    record { name = store.name; elements = store.elements; is_option = list_any (nat_eq n) options; is_system = false } ∷ with_options options (n + 1) stores
 
 -- what of a list is not the same as something before it
 abbrev pub distinct_onto : {X : Type 0} → (X → X → Bool) → List X → List X → List X
@@ -131,7 +135,7 @@ unfoldable pub tab : Tables → Keyboard
 tab tables =
     record {
       start = Numbered tables.start_unicode;
-      stores = with_options (tab_options tables) 0 tables.stores;
+      stores = with_options (tab_options tables) 0 tables.stores ++ system_options;
       groups = map (tab_group tables.stores) tables.groups;
       dictionary = tab_dictionary tables.stores;
       choice = First;

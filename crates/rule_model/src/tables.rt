@@ -13,6 +13,9 @@ pub enum Pat {
     /// Store and value store.
     Equal(u32, u32),
     Unequal(u32, u32),
+    /// System id and value store.
+    SystemEqual(u32, u32),
+    SystemUnequal(u32, u32),
     Nul,
 }
 
@@ -28,6 +31,8 @@ pub enum Out {
     Enter(u32),
     /// Store and value store.
     Set(u32, u32),
+    /// System id and value store.
+    SetSystem(u32, u32),
     Save(u32),
     Reset(u32),
     Nul,

@@ -73,6 +73,7 @@ module _ (facts : Known) (names : Names) where
   one-item (output.ContextAt offset) = refl
   one-item (output.Enter g) = refl
   one-item (output.Set s value) = refl
+  one-item (output.SetSystem id value) = refl
   one-item (output.Save s) = refl
   one-item (output.Reset s) = refl
   one-item output.Nul = refl

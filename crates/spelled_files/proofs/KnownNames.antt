@@ -76,6 +76,8 @@ module _ (stated : Stated) where
     pattern-fine (pattern.Char c) g = refl
     pattern-fine (pattern.Mark m) g = refl
     pattern-fine (pattern.ContextAt offset) g = refl
+    pattern-fine (pattern.SystemEqual id value) g = refl
+    pattern-fine (pattern.SystemUnequal id value) g = refl
     pattern-fine pattern.Nul g = refl
 
     output-fine : (o : Out) → GoodOutput tables o → rule_item_code stated (back_output names o) ≡ None
@@ -85,6 +87,7 @@ module _ (stated : Stated) where
     output-fine (output.Reset n) g = item-fine (back_output names (output.Reset n)) (store-fine n g.named.0) refl
     output-fine (output.Enter n) g =
         item-fine (back_output names (output.Enter n)) refl (not_from_true (is_named stated.groups (group_called names n)) (groups n g.groups.0))
+    output-fine (output.SetSystem id value) g = refl
     output-fine (output.Char c) g = refl
     output-fine (output.Mark m) g = refl
     output-fine output.Context g = refl

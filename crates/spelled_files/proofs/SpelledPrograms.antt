@@ -41,7 +41,7 @@ use Rattle.spelled_files.specs.Excess.{text_size}
 use Rattle.spelled_files.specs.Laws.{HasTextNames}
 use Rattle.spelled_files.specs.Unspelled.{unspelled}
 use Rattle.spelled_files.proofs.Sayable.{IsSayableRule, IsSayableGroup, AreSayable, IsSayable, sayable}
-use Rattle.spelled_files.proofs.WrittenOut.{joined, pattern-parts, output-parts, store-parts, written_out}
+use Rattle.spelled_files.proofs.WrittenOut.{tested, joined, pattern-parts, output-parts, store-parts, written_out}
 use Rattle.spelled_files.proofs.CalledNames.{AreNamed}
 use Rattle.spelled_files.proofs.SpelledKeys.{IsKeyName, keys_named, own_name}
 use Rattle.spelled_files.proofs.SpelledItems.{unit_character, elements_spelled, marks_spelled}
@@ -50,12 +50,6 @@ use Rattle.kmn_lines.proofs.Sizes.{clash}
 
 abbrev ansi_begin : Names → ℕ → Tables → BeginDef
 ansi_begin names line tables = record { line = line; unicode = false; group = group_called names tables.start_ansi }
-
--- lists of which each item gives numbers, where a test holds of none
-tested : {X : Type 0} (test : X → Bool) (g : X → List ℕ) (P : ℕ → Type 0) → ((x : X) → test x ≡ false → All P (g x)) → (xs : List X) → list_any test xs ≡ false → All P (flat_map g xs)
-tested test g P each [] h = All-nil P
-tested test g P each (x ∷ xs) h =
-    let parts = or_parts (test x) (list_any test xs) h in All-append P (g x) (flat_map g xs) (each x parts.0) (tested test g P each xs parts.1)
 
 -- the deadkeys are near
 abbrev IsNear : ℕ → Type 0

@@ -96,6 +96,8 @@ module _ (tables : Tables) (can : IsPlayable tables) (said : IsSayable tables) (
       (store_name n g.named.0, value_spelled tables.stores value can.stores (or_parts (is_unspelled_value (elements_of tables.stores value)) false (pattern-parts tables (pattern.Equal n value) h).2).0)
   pattern-spelled (pattern.Unequal n value) g h s =
       (store_name n g.named.0, value_spelled tables.stores value can.stores (or_parts (is_unspelled_value (elements_of tables.stores value)) false (pattern-parts tables (pattern.Unequal n value) h).2).0)
+  pattern-spelled (pattern.SystemEqual id value) g h s = absurd (cc)
+  pattern-spelled (pattern.SystemUnequal id value) g h s = absurd (cc)
   pattern-spelled pattern.Nul g h s = tt
 
   output-spelled : (o : Out) → GoodOutput tables o → is_unspelled_output names o ≡ false → IsSpellable (unit_item_of_output o) → IsSpelledOutput names o
@@ -107,6 +109,7 @@ module _ (tables : Tables) (can : IsPlayable tables) (said : IsSayable tables) (
   output-spelled (output.Enter n) g h s = group_name n g.groups.0
   output-spelled (output.Set n value) g h s =
       (store_name n g.named.0, value_spelled tables.stores value can.stores (or_parts (is_unspelled_value (elements_of tables.stores value)) false (output-parts tables (output.Set n value) h).2).0)
+  output-spelled (output.SetSystem id value) g h s = absurd (cc)
   output-spelled (output.Save n) g h s = (store_name n g.named.0).named
   output-spelled (output.Reset n) g h s = (store_name n g.named.0).named
   output-spelled output.Nul g h s = tt

@@ -74,6 +74,8 @@ module _ (names : Names) where
   matched-back (pattern.ContextAt offset) h = refl
   matched-back (pattern.Equal s value) h = absurd (cc)
   matched-back (pattern.Unequal s value) h = absurd (cc)
+  matched-back (pattern.SystemEqual id value) h = absurd (cc)
+  matched-back (pattern.SystemUnequal id value) h = absurd (cc)
   matched-back pattern.Nul h = absurd (cc)
 
   passes-at : (test : Pat → Bool) (wanted : SrcItem → Bool) → ((p : Pat) → test p ≡ true → wanted (back_pattern names p) ≡ true) → (context : List Pat) (place : ℕ)
@@ -108,6 +110,8 @@ module _ (names : Names) where
   item-fine before (pattern.NotAny s) h = refl
   item-fine before (pattern.Equal s value) h = refl
   item-fine before (pattern.Unequal s value) h = refl
+  item-fine before (pattern.SystemEqual id value) h = refl
+  item-fine before (pattern.SystemUnequal id value) h = refl
   item-fine before pattern.Nul h = refl
 
   context-fine : (before context : List Pat) → ((place : ℕ) (d : Pat) → place < length context → PointsBack (before ++ take place context) (slice_index_or context place d))
@@ -152,6 +156,7 @@ module _ (names : Names) where
   output-fine known line rule output.Context h = refl
   output-fine known line rule (output.Enter g) h = refl
   output-fine known line rule (output.Set s value) h = refl
+  output-fine known line rule (output.SetSystem id value) h = refl
   output-fine known line rule (output.Save s) h = refl
   output-fine known line rule (output.Reset s) h = refl
   output-fine known line rule output.Nul h = refl
@@ -184,6 +189,7 @@ module _ (names : Names) where
       by (output.Mark m) e = refl
       by (output.Enter g) e = refl
       by (output.Set s value) e = refl
+      by (output.SetSystem id value) e = refl
       by (output.Save s) e = refl
       by (output.Reset s) e = refl
       by output.Nul e = refl

@@ -1,4 +1,4 @@
-use Rattle.std.proofs.Common.{◌≡◌, List, ℕ, Some, refl, ap, rules}
+use Rattle.std.proofs.Common.{◌≡◌, ◌+◌, List, ℕ, Some, refl, ap, rules}
 use Rattle.kmn_base.specs.declared.codes.Code.TheVariants.{C24}
 use Rattle.kmn_base.specs.declared.limits.TheConstants.{PICTURE_BYTES}
 use Rattle.keyman_run.specs.declared.preparing.Stop.TheVariants as stop
@@ -24,7 +24,7 @@ returns-in_err-name g c =
 
 pub returns : goal.returns
 returns g c =
-    let is : c.as_slice.result.now ≡ beside c.args.source.now c.args.picture.now = search rules in
-    let stopped : IsStopped (reason.Size C24 1048577) c.read.result c.map_err.result = search rules in
-    gives_as itself (picture_read c.as_slice.result.now) (picture_work c.args.source.now (Some c.args.picture.now)) g.F.Folder _ _ _ (ap picture_read is)
-    (gives_bytes c.as_slice.result.now PICTURE_BYTES _ _ (reason.Size C24 1048577) g.F.Folder c.args.folder.now _ c.read.result c.map_err.result (given_concludes picture_of) (λ bytes. refl) refl stopped c.read.ensures.counts c.read.ensures.told c.read.ensures.reads)
+    let is : c.of.result ≡ beside c.args.source.now c.args.picture.now = search rules in
+    let stopped : IsStopped (reason.Size C24 (PICTURE_BYTES + 1)) c.read.result c.map_err.result = search rules in
+    gives_as itself (picture_read c.of.result) (picture_work c.args.source.now (Some c.args.picture.now)) g.F.Folder _ _ _ (ap picture_read is)
+    (gives_bytes c.of.result PICTURE_BYTES _ _ (reason.Size C24 (PICTURE_BYTES + 1)) g.F.Folder c.args.folder.now _ c.read.result c.map_err.result (given_concludes picture_of) (λ bytes. refl) refl stopped c.read.ensures.counts c.read.ensures.told c.read.ensures.reads)

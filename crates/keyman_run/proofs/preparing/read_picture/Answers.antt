@@ -8,8 +8,8 @@ use Rattle.keyman_run.proofs.preparing.read_picture.Goals as goal
 
 pub returns-in-Some : goal.returns-in-Some
 returns-in-Some g c =
-    let is : picture_name c.args.checked.now ≡ Some c.as_slice.result.now = search rules in
-    gives_as itself (picture_work c.args.source.now (Some c.as_slice.result.now)) (picture_work c.args.source.now (picture_name c.args.checked.now)) g.F.Folder _ _ _
+    let is : picture_name c.args.checked.now ≡ Some c.of.result = search rules in
+    gives_as itself (picture_work c.args.source.now (Some c.of.result)) (picture_work c.args.source.now (picture_name c.args.checked.now)) g.F.Folder _ _ _
     (ap (picture_work c.args.source.now) (sym is)) c.read_named_picture.ensures
 
 pub returns-in-None : goal.returns-in-None

@@ -8,39 +8,39 @@ use Rattle.keyman_run.proofs.running.run.Goals as goal
 
 pub returns-in-Some-Compile : goal.returns-in-Some-Compile
 returns-in-Some-Compile g c =
-    let request : Request = Compile c.in-Some-Compile.source.now c.in-Some-Compile.file.now in
+    let request : Request = Compile c.in-Some-Compile.source c.in-Some-Compile.file in
     let is : Some request ≡ request_of c.args.words.now = search rules in
     runs_asked c.args.words.now request g.F.Folder _ _ g.S.Sink _ _ c.compile.result is c.compile.ensures
-    (λ told written. compile_means c.in-Some-Compile.source.now c.in-Some-Compile.file.now g.F.Folder _ _ g.S.Sink _ _ c.compile.result c.compile.ensures told written)
+    (λ told written. compile_means c.in-Some-Compile.source c.in-Some-Compile.file g.F.Folder _ _ g.S.Sink _ _ c.compile.result c.compile.ensures told written)
 
 pub returns-in-Some-Test : goal.returns-in-Some-Test
 returns-in-Some-Test g c =
-    let request : Request = Test c.in-Some-Test.source.now c.in-Some-Test.file.now c.in-Some-Test.keys.now in
+    let request : Request = Test c.in-Some-Test.source c.in-Some-Test.file c.in-Some-Test.keys in
     let is : Some request ≡ request_of c.args.words.now = search rules in
     runs_asked c.args.words.now request g.F.Folder _ _ g.S.Sink _ _ c.test.result is c.test.ensures
-    (λ told written. test_means c.in-Some-Test.source.now c.in-Some-Test.file.now c.in-Some-Test.keys.now g.F.Folder _ _ g.S.Sink _ _ c.test.result c.test.ensures told written)
+    (λ told written. test_means c.in-Some-Test.source c.in-Some-Test.file c.in-Some-Test.keys g.F.Folder _ _ g.S.Sink _ _ c.test.result c.test.ensures told written)
 
 pub returns-in-Some-Verify : goal.returns-in-Some-Verify
 returns-in-Some-Verify g c =
-    let request : Request = Verify c.in-Some-Verify.file.now in
+    let request : Request = Verify c.in-Some-Verify.file in
     let is : Some request ≡ request_of c.args.words.now = search rules in
     runs_asked c.args.words.now request g.F.Folder _ _ g.S.Sink _ _ c.verify_file.result is c.verify_file.ensures (λ told. tt)
 
 pub returns-in-Some-Decompile : goal.returns-in-Some-Decompile
 returns-in-Some-Decompile g c =
-    let request : Request = Decompile c.in-Some-Decompile.file.now c.in-Some-Decompile.source.now in
+    let request : Request = Decompile c.in-Some-Decompile.file c.in-Some-Decompile.source in
     let is : Some request ≡ request_of c.args.words.now = search rules in
     runs_asked c.args.words.now request g.F.Folder _ _ g.S.Sink _ _ c.decompile.result is c.decompile.ensures.does c.decompile.ensures.means
 
 pub returns-in-Some-Play : goal.returns-in-Some-Play
 returns-in-Some-Play g c =
-    let request : Request = Play c.in-Some-Play.file.now c.in-Some-Play.keys.now in
+    let request : Request = Play c.in-Some-Play.file c.in-Some-Play.keys in
     let is : Some request ≡ request_of c.args.words.now = search rules in
     runs_asked c.args.words.now request g.F.Folder _ _ g.S.Sink _ _ c.play_on_file.result is c.play_on_file.ensures (λ told. tt)
 
 pub returns-in-Some-Layout : goal.returns-in-Some-Layout
 returns-in-Some-Layout g c =
-    let request : Request = Layout c.in-Some-Layout.source.now c.in-Some-Layout.layout.now in
+    let request : Request = Layout c.in-Some-Layout.source c.in-Some-Layout.layout in
     let is : Some request ≡ request_of c.args.words.now = search rules in
     runs_asked c.args.words.now request g.F.Folder _ _ g.S.Sink _ _ c.check_layout.result is c.check_layout.ensures (λ told. tt)
 

@@ -9,5 +9,5 @@ use Rattle.rule_matching.proofs.contents.held.Goals as goal
 pub returns-in-Store : goal.returns-in-Store
 returns-in-Store c =
     let text = (cell_at c.args.options.now c.args.store).text in
-    c.elements_of.ensures ∙ (elements_held c.args.indexed.now text c.in-Store.value
+    c.stated.ensures ∙ (elements_held c.args.indexed.now text c.in-Store.value
     ∙ ap (λ (held : Held). held_value (stated (tab c.args.indexed.now).stores) text held) (sym c.in-Store.is))

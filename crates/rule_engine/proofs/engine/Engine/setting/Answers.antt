@@ -1,35 +1,33 @@
 use Rattle.std.proofs.Common.{◌≡◌, ◌<◌, ℕ, length, Option, ◌∙◌, subst, arith}
-use Rattle.std.specs.Prelude.{MatchOption, option_and_then}
+use Rattle.std.specs.Prelude.{MatchOption, option_and_then, position}
 use Rattle.rule_model.specs.declared.tables.Tables.{Tables}
 use Rattle.rule_model.specs.Content.{option_number}
+use Rattle.rule_model.specs.Event.{has_name}
 use Rattle.rule_model.specs.Keyboard.{Numbered}
-use Rattle.rule_model.specs.Plain.{option_named as named_option, option_numbers}
+use Rattle.rule_model.specs.Plain.{option_names}
 use Rattle.rule_model.specs.Tab.{tab}
 use Rattle.rule_engine.specs.Engine.{EngineState, engine_with, option_named}
-use Rattle.rule_engine.proofs.Engines.{host_sets_engine, named_is_option}
+use Rattle.rule_engine.proofs.Engines.{host_sets_engine}
 use Rattle.rule_engine.proofs.engine.Engine.setting.Goals as goal
 
-pub host_set-requires : goal.host_set-requires
-host_set-requires c =
-    let found : c.in-Some.store < length c.deref.result.now.stores
-    = subst (λ (found : Option ℕ). MatchOption found (Unit {0}) (λ store. store < length c.deref.result.now.stores)) c.in-Some.is c.in_ok-named.ensures.within in
-    let within : c.in-Some.store < length c.self.inside.indexed.value.stores
-    = subst (λ (tables : Tables). c.in-Some.store < length tables.stores) c.deref.ensures found in
-    omega (arith, within, c.self.invariant.stores)
+pub host_set-requires-clause-store : goal.host_set-requires-clause-store
+host_set-requires-clause-store c =
+    subst (λ (found : Option ℕ). MatchOption found (Unit {0}) (λ store. store < length (tab c.deref-indexed.result.now).stores)) c.in-Some.is c.in_ok-named.ensures.within
 
 pub returns-clause-engine : goal.returns-clause-engine
 returns-clause-engine c =
-    let found : c.in-Some.store < length c.deref.result.now.stores
-    = subst (λ (found : Option ℕ). MatchOption found (Unit {0}) (λ store. store < length c.deref.result.now.stores)) c.in-Some.is c.in_ok-named.ensures.within in
-    let within : c.in-Some.store < length c.self.inside.indexed.value.stores
-    = subst (λ (tables : Tables). c.in-Some.store < length tables.stores) c.deref.ensures found in
+    let found : c.in-Some.store < length (tab c.deref-indexed.result.now).stores
+    = subst (λ (found : Option ℕ). MatchOption found (Unit {0}) (λ store. store < length (tab c.deref-indexed.result.now).stores)) c.in-Some.is c.in_ok-named.ensures.within in
+    let within : c.in-Some.store < length (tab c.self.inside.indexed.value).stores
+    = subst (λ (tables : Tables). c.in-Some.store < length (tab tables).stores) c.deref-indexed.ensures found in
     let few : c.in-Some.store < length c.self.inside.workspace.options = omega (arith, within, c.self.invariant.stores) in
     let engine : Tables → EngineState = λ (tables : Tables). engine_with tables c.self.inside.workspace.cache c.self.inside.workspace.options c.self.inside.workspace.inserted.text in
-    let named : option_number (tab c.deref.result.now).stores (Numbered c.in-Some.store) ≡ option_named c.args.name.now (engine c.deref.result.now)
-    = subst (λ (found : Option ℕ). option_and_then (λ store. option_number (tab c.deref.result.now).stores (Numbered store)) found
-    ≡ named_option c.args.name.now (option_numbers 0 (tab c.deref.result.now).stores) c.deref.result.now.stores) c.in-Some.is c.in_ok-named.ensures.option
-    ∙ named_is_option c.deref.result.now c.args.name.now in
-    let here = subst (λ (tables : Tables). option_number (tab tables).stores (Numbered c.in-Some.store) ≡ option_named c.args.name.now (engine tables)) c.deref.ensures named in
+    let named : option_number (tab c.deref-indexed.result.now).stores (Numbered c.in-Some.store) ≡ option_named c.args.name.now (engine c.deref-indexed.result.now)
+    = subst (λ (found : Option ℕ). option_and_then (λ store. option_number (tab c.deref-indexed.result.now).stores (Numbered store)) found
+    ≡ position (has_name c.args.name.now) (option_names (tab c.deref-indexed.result.now).stores)) c.in-Some.is c.in_ok-named.ensures.option in
+    let here = subst (λ (tables : Tables). option_number (tab tables).stores (Numbered c.in-Some.store) ≡ option_named c.args.name.now (engine tables)) c.deref-indexed.ensures named in
     let option = subst (λ (e : EngineState). option_number (tab e.tables).stores (Numbered c.in-Some.store) ≡ option_named c.args.name.now e) c.self.view_is here in
-    host_sets_engine c.self.inside.indexed.value c.self.inside.workspace.cache c.self.inside.workspace.options c.host_set.new.self c.self.inside.workspace.inserted.text c.in-Some.store
-    c.args.name.now c.args.value.now c.args.self.now few c.in_ok-host_set.ensures c.self.view_is option
+    let after = c.host_set.new.self in
+    (λ i. engine_with c.self.inside.indexed.value (c.in_ok-host_set.ensures.cache i) after.options (c.in_ok-host_set.ensures.inserted i).text)
+    ∙ host_sets_engine c.self.inside.indexed.value c.self.inside.workspace.cache c.self.inside.workspace.options after.options c.self.inside.workspace.inserted.text c.in-Some.store
+    c.args.name.now c.args.value.now c.args.self.now few c.in_ok-host_set.ensures.options c.self.view_is option

@@ -1,11 +1,15 @@
-use Rattle.std.proofs.Common.{◌≡◌, ◌<◌, [], length, true, sym, ◌∙◌, ap, arith}
+use Rattle.std.proofs.Common.{◌≡◌, ◌<◌, [], length, true, sym, ◌∙◌, ap, subst, arith}
 use Rattle.std.specs.Prelude.{is_some}
 use Rattle.rule_model.specs.declared.event_state.EventState.{EventState}
 use Rattle.rule_model.specs.Content.{option_number}
 use Rattle.rule_model.specs.Keyboard.{Numbered}
 use Rattle.rule_model.specs.Tab.{tab}
+use Rattle.option_store.specs.Cells.{reset_cell}
+use Rattle.rule_engine.specs.Event.{EventValue}
 use Rattle.rule_engine.proofs.OptionSteps.{event_after_reset}
 use Rattle.rule_matching.proofs.StoreContents.{is_option_within}
+use Rattle.rule_engine.proofs.Stores.{behind_own}
+use Rattle.rule_engine.proofs.Truths.{acts_on}
 use Rattle.rule_engine.proofs.event.Event.reset_current.Goals as goal
 
 pub returns-then-is_some : goal.returns-then-is_some
@@ -24,5 +28,11 @@ returns-then-is_some c =
     let option : is_some (option_number (tab c.self.inside.indexed.now).stores (Numbered c.args.store)) ≡ true
     = ap is_some (sym c.option_number.ensures) ∙ (sym c.is_some.ensures ∙ c.if-is_some.true) in
     let within = is_option_within c.self.inside.indexed.now c.args.store option in
-    let few : c.args.store < length c.self.inside.options = omega (arith, within, c.self.invariant.0) in
+    let few : c.args.store < length c.self.inside.options = omega (arith, within, c.self.invariant.stores) in
     event_after_reset c.self.inside.indexed.now c.self.inside.left.lent c.self.inside.options c.reset.new.self c.args.store state c.args.self.now few c.self.view_is c.reset.ensures
+
+pub invariant_of-self : goal.invariant_of-self
+invariant_of-self c =
+    let own = subst (λ (e : EventValue). c.args.store < length e.tables.stores) (sym c.self.view_is) c.requires in
+    acts_on c.self.inside.indexed.now c.self.inside.options c.reset.new.self c.self.inside.truths.items c.args.store (reset_cell c.args.store) c.self.invariant
+    (behind_own c.self.inside.indexed.now c.args.store own) c.reset.ensures

@@ -1,12 +1,15 @@
-use Rattle.std.proofs.Common.{subst}
+use Rattle.std.proofs.Common.{List, Some, subst}
 use Rattle.rule_model.specs.declared.tables.Tables.{Tables}
-use Rattle.rule_model.specs.Tab.{elements_of}
+use Rattle.rule_model.specs.Content.{elements_at}
+use Rattle.rule_model.specs.Keyboard.{StoreMeaning}
+use Rattle.rule_model.specs.Tab.{tab}
 use Rattle.rule_index.specs.Holdings.{AreHoldersOf}
-use Rattle.rule_index.specs.Stores.{store_contents}
+use Rattle.rule_index.specs.Stores.{keyboard_contents}
 use Rattle.rule_index.proofs.StoreIndexes.{holders_in_stores}
 use Rattle.rule_index.proofs.indexed_keyboard.IndexedKeyboard.holders.Goals as goal
 
 pub returns : goal.returns
 returns c =
-    subst (λ (tables : Tables). AreHoldersOf c.args.item (elements_of tables.stores) c.holders.result.now) c.self.view_is
-    (holders_in_stores c.self.inside.file.stores c.args.item c.holders.result.now (c.holders.ensures (store_contents c.self.inside.file.stores) c.self.invariant.4))
+    let stores : List StoreMeaning = (tab c.self.inside.file).stores in
+    subst (λ (tables : Tables). AreHoldersOf c.args.item (λ store. elements_at (tab tables).stores (Some store)) c.holders.result.now) c.self.view_is
+    (holders_in_stores stores c.args.item c.holders.result.now (c.holders.ensures (keyboard_contents stores) c.self.invariant.4))

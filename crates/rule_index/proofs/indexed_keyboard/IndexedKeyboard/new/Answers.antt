@@ -1,10 +1,13 @@
 use Rattle.std.proofs.Common.{◌≤◌, ◌∙◌, All, List, length, subst, sym}
 use Rattle.kmn_base.specs.declared.items.Element.{Element}
 use Rattle.kmn_base.specs.declared.limits.TheConstants.{STORE_ELEMENTS}
-use Rattle.rule_index.proofs.StoreIndexes.{few_listed}
+use Rattle.rule_index.proofs.StoreIndexes.{few_in_all, few_of_all}
 use Rattle.rule_index.proofs.indexed_keyboard.IndexedKeyboard.new.Goals as goal
 
 pub of-requires-clause-few : goal.of-requires-clause-few
 of-requires-clause-few c =
     subst (All (λ (elements : List Element). length elements ≤ STORE_ELEMENTS)) (sym (c.as_slice-2.ensures.value ∙ c.in_ok-stores.ensures))
-    (few_listed c.args.file.stores c.requires.elements)
+    (few_of_all c.args.file c.requires.elements)
+
+pub of-requires-clause-count : goal.of-requires-clause-count
+of-requires-clause-count c = few_in_all c.args.file c.as_slice-2.result.now (c.as_slice-2.ensures.value ∙ c.in_ok-stores.ensures) c.requires.stores

@@ -1,7 +1,8 @@
-use Rattle.std.proofs.Common.{◌≡◌, ℕ, List, ◌∙◌, sym, subst}
+use Rattle.std.proofs.Common.{◌≡◌, ℕ, List, Some, ◌∙◌, sym, subst}
 use Rattle.option_store.specs.Cells.{cell_at}
 use Rattle.rule_model.specs.Keyboard.{Numbered}
-use Rattle.rule_model.specs.Tab.{elements_of}
+use Rattle.rule_model.specs.Content.{elements_at}
+use Rattle.rule_model.specs.Tab.{tab}
 use Rattle.rule_matching.specs.Moment.{MomentValue, content_at}
 use Rattle.rule_matching.proofs.StoreContents.{elements_held}
 use Rattle.rule_matching.proofs.moment.Moment.held_store.Goals as goal
@@ -9,5 +10,5 @@ use Rattle.rule_matching.proofs.moment.Moment.held_store.Goals as goal
 pub returns-in-Store : goal.returns-in-Store
 returns-in-Store c =
     let text : List ℕ = (cell_at c.self.inside.options.now c.args.store).text in
-    subst (λ (m : MomentValue). content_at m (Numbered c.args.store) ≡ elements_of m.tables.stores c.in-Store.value) c.self.view_is
+    subst (λ (m : MomentValue). content_at m (Numbered c.args.store) ≡ elements_at (tab m.tables).stores (Some c.in-Store.value)) c.self.view_is
     (sym (elements_held c.self.inside.indexed.now text c.in-Store.value ∙ c.in-Store.ensures.value))

@@ -1,0 +1,66 @@
+-- The stores of a keyboard by those of its file: the layer and the platform stand behind them.
+use Rattle.std.proofs.Common.{◌≡◌, ◌≢◌, ℕ, zero, suc, ◌+◌, ◌-◌, ◌<◌, ◌≤◌, List, [], ◌∷◌, ◌++◌, length, Some, sym, ◌∙◌, ap, arith}
+use Rattle.std.specs.Prelude.{codes, slice_get}
+use Rattle.std.proofs.lemmas.Option.{slice_get_past}
+use Rattle.rule_model.specs.declared.tables.Store.{Store}
+use Rattle.rule_model.specs.declared.tables.Tables.{Tables}
+use Rattle.rule_model.specs.Keyboard.{StoreMeaning}
+use Rattle.rule_model.specs.System.{system_options}
+use Rattle.rule_model.specs.Content.{elements_at}
+use Rattle.rule_model.specs.Tab.{tab, tab_options, elements_of, with_options}
+use Rattle.rule_model.proofs.PlainOptions.{length-with_options}
+use Rattle.rule_model.proofs.SystemOptions.{length-all_stores, own_elements}
+use Rattle.rule_engine.specs.Engine.{name_in, name_of}
+
+pub all_stores : (tables : Tables) → length (tab tables).stores ≡ length tables.stores + 2
+unfolding tab
+all_stores tables = length-all_stores (tab_options tables) tables.stores
+
+-- a store of the file isn't the last, which is the platform
+pub behind_own : (tables : Tables) (n : ℕ) → n < length tables.stores → n + 1 < length (tab tables).stores
+behind_own tables n own = omega (arith, own, all_stores tables)
+
+-- nor is the layer
+pub layer_before : (tables : Tables) (n : ℕ) → n ≡ length (tab tables).stores - 2 → n + 1 < length (tab tables).stores
+layer_before tables n is = omega (arith, is, all_stores tables)
+
+-- a store of the file has its elements
+pub own_elements_meant : (tables : Tables) (n : ℕ) → n < length tables.stores → elements_at (tab tables).stores (Some n) ≡ elements_of tables.stores n
+unfolding tab
+own_elements_meant tables n own = own_elements (tab_options tables) 0 n tables.stores own
+
+-- ---- names
+
+named_own : (options : List ℕ) (k n : ℕ) (stores : List Store) (store : Store) → slice_get stores n ≡ Some store
+    → store.name ≡ name_in (slice_get (with_options options k stores ++ system_options) n)
+named_own options k n [] store is = absurd (cc)
+named_own options k zero (s ∷ ss) store is = let same : store ≡ s = cc in ap (λ (one : Store). one.name) same
+named_own options k (suc n) (s ∷ ss) store is = named_own options (k + 1) n ss store is
+
+pub own_name : (tables : Tables) (n : ℕ) (store : Store) → slice_get tables.stores n ≡ Some store → store.name ≡ name_of tables n
+unfolding tab
+own_name tables n store is = named_own (tab_options tables) 0 n tables.stores store is
+
+behind_stores : {X : Type 0} (xs ys : List X) (k : ℕ) → slice_get (xs ++ ys) (length xs + k) ≡ slice_get ys k
+behind_stores [] ys k = let same : 0 + k ≡ k = omega arith in ap (slice_get ys) same
+behind_stores (x ∷ xs) ys k =
+    let next : suc (length xs) + k ≡ suc (length xs + k) = omega arith in
+    ap (slice_get (x ∷ (xs ++ ys))) next ∙ behind_stores xs ys k
+
+named_behind : (tables : Tables) (n k : ℕ) → n ≡ length tables.stores + k → name_in (slice_get system_options k) ≡ name_of tables n
+unfolding tab
+named_behind tables n k is =
+    let own : List StoreMeaning = with_options (tab_options tables) 0 tables.stores in
+    let place : length own + k ≡ n = omega (arith, is, length-with_options (tab_options tables) 0 tables.stores) in
+    sym (ap name_in (behind_stores own system_options k)) ∙ ap (λ m. name_in (slice_get (own ++ system_options) m)) place
+
+pub layer_name : (tables : Tables) (n : ℕ) → n ≡ length (tab tables).stores - 2 → codes "&layer" ≡ name_of tables n
+layer_name tables n is = named_behind tables n 0 (omega (arith, is, all_stores tables))
+
+pub platform_name : (tables : Tables) (n : ℕ) → n ≡ length (tab tables).stores - 1 → codes "&platform" ≡ name_of tables n
+platform_name tables n is = named_behind tables n 1 (omega (arith, is, all_stores tables))
+
+pub no_name : (tables : Tables) (n : ℕ) → length tables.stores ≤ n → n ≢ length (tab tables).stores - 2 → n ≢ length (tab tables).stores - 1 → [] ≡ name_of tables n
+no_name tables n behind layer platform =
+    let past : length (tab tables).stores ≤ n = omega (arith, behind, layer, platform, all_stores tables) in
+    sym (ap name_in (slice_get_past (tab tables).stores n past))

@@ -1,0 +1,166 @@
+-- Whether the platform has the words of each store's elements: it is told by the cell of the platform alone.
+use Rattle.std.proofs.Common.{◌≡◌, ◌≢◌, ℕ, zero, suc, ◌+◌, ◌-◌, ◌<◌, List, [], length, map, Bool, ◌++◌, take, drop, append-nil, Option, Some, Result, Ok, Err, sym, ◌∙◌, ap, refl, inl, inr, arith, length-set}
+use Rattle.std.specs.Prelude.{MatchResult, slice_get, slice_set, unwrap_or}
+use Rattle.std.proofs.lemmas.Bool.Decides.{eqb_tells}
+use Rattle.std.proofs.lemmas.List.{get_or-set_same, get_or-set_other, length-map}
+use Rattle.std.proofs.Math.ListN.{drop_of_length-le}
+use Rattle.std.proofs.Math.Seq.{take-length}
+use Rattle.std.proofs.lemmas.Option.{unwrap_or-slice_get}
+use Rattle.kmn_base.specs.declared.items.Element.{Element}
+use Rattle.kmn_base.specs.declared.items.Element.TheVariants.{Char}
+use Rattle.rule_model.specs.declared.tables.Tables.{Tables}
+use Rattle.rule_model.specs.Content.{content, elements_at, option_number}
+use Rattle.rule_model.specs.Keyboard.{Platform, StoreMeaning}
+use Rattle.rule_model.specs.Plain.{option_names}
+use Rattle.rule_model.specs.System.{has_words}
+use Rattle.rule_model.specs.Tab.{tab, tab_options, with_options}
+use Rattle.rule_model.proofs.SystemOptions.{platform_numbered, content_by_option}
+use Rattle.option_store.specs.declared.options.Cell.{Cell}
+use Rattle.option_store.specs.Cells.{cell_at, changed, current_value, first_cell, first_cells, host_cell, save_cell}
+use Rattle.option_store.specs.Meaning.{option_values, stated}
+use Rattle.option_store.proofs.FirstCells.{first_cells_count}
+use Rattle.option_store.proofs.Meaning.{option_value_found, stated_at}
+use Rattle.rule_matching.specs.Moment.{content_at, truths_at}
+use Rattle.rule_engine.specs.Event.{CanAct, moment_with}
+use Rattle.rule_engine.proofs.Stores.{all_stores}
+
+-- the platform is an option
+platform_is_option : (tables : Tables) → option_number (tab tables).stores Platform ≡ Some (length (option_names (with_options (tab_options tables) 0 tables.stores)) + 1)
+unfolding tab
+platform_is_option tables = platform_numbered (with_options (tab_options tables) 0 tables.stores)
+
+-- the cell of the platform is the last
+abbrev pub platform_cell : Tables → List Cell → Cell
+platform_cell tables cells = cell_at cells (length (tab tables).stores - 1)
+
+-- truths by a content of the platform
+abbrev pub truths_by : Tables → List Element → List Bool
+truths_by tables content = map (λ (store : StoreMeaning). has_words content store.elements) (tab tables).stores
+
+-- ---- what the platform has
+
+module _ (tables : Tables) where
+  abbrev stores : List StoreMeaning
+  stores = (tab tables).stores
+
+  platform_content : (cells : List Cell) → length cells ≡ length (tab tables).stores
+      → content_at (moment_with tables cells) Platform ≡ current_value (stated (tab tables).stores) (platform_cell tables cells)
+  platform_content cells count =
+      let option = platform_is_option tables in
+      content_by_option stores (option_values stores cells) Platform _ option
+      ∙ ap (λ (value : Option (List Element)). unwrap_or value [])
+      (option_value_found stores cells (length stores - 1) (omega (arith, count, all_stores tables)) _ option)
+
+  truths_told : (cells : List Cell) (content : List Element) → length cells ≡ length (tab tables).stores
+      → current_value (stated (tab tables).stores) (platform_cell tables cells) ≡ content → truths_at (moment_with tables cells) ≡ truths_by tables content
+  truths_told cells content count is = ap (truths_by tables) (platform_content cells count ∙ is)
+
+-- ---- what changes it
+
+cell_elsewhere : (cells : List Cell) (n m : ℕ) (change : Cell → Cell) → m ≢ n → cell_at (changed n change cells) m ≡ cell_at cells m
+cell_elsewhere cells n m change other =
+    let cell : Cell = change (cell_at cells n) in
+    unwrap_or-slice_get (slice_set cells n cell) m (first_cell m)
+    ∙ (get_or-set_other cells n m cell (first_cell m) other ∙ sym (unwrap_or-slice_get cells m (first_cell m)))
+
+cell_there : (cells : List Cell) (n : ℕ) (change : Cell → Cell) → n < length cells → cell_at (changed n change cells) n ≡ change (cell_at cells n)
+cell_there cells n change few =
+    let cell : Cell = change (cell_at cells n) in
+    unwrap_or-slice_get (slice_set cells n cell) n (first_cell n) ∙ get_or-set_same cells n cell (first_cell n) few
+
+-- a cell that isn't the last doesn't
+pub truths_kept : (tables : Tables) (cells after : List Cell) (n : ℕ) (change : Cell → Cell) → length cells ≡ length (tab tables).stores → n + 1 < length (tab tables).stores
+    → after ≡ changed n change cells → truths_at (moment_with tables cells) ≡ truths_at (moment_with tables after)
+truths_kept tables cells after n change count before is =
+    let last : ℕ = length (tab tables).stores - 1 in
+    let other : last ≢ n = omega (arith, before) in
+    let counted : length after ≡ length (tab tables).stores = ap length is ∙ (length-set cells n (change (cell_at cells n)) ∙ count) in
+    let same : cell_at after last ≡ cell_at cells last = ap (λ these. cell_at these last) is ∙ cell_elsewhere cells n last change other in
+    let content : List Element = current_value (stated (tab tables).stores) (platform_cell tables cells) in
+    truths_told tables cells content count refl
+    ∙ sym (truths_told tables after content counted (ap (current_value (stated (tab tables).stores)) same))
+
+-- also where it is set, or want of memory leaves it
+pub truths_kept_or_left : {A E : Type 0} (tables : Tables) (cells after : List Cell) (n : ℕ) (change : Cell → Cell) (result : Result A E)
+    → length cells ≡ length (tab tables).stores → n < length (tab tables).stores → n ≢ length (tab tables).stores - 1
+    → MatchResult result (λ _. after ≡ changed n change cells) (λ _. after ≡ cells)
+    → truths_at (moment_with tables cells) ≡ truths_at (moment_with tables after)
+truths_kept_or_left tables cells after n change (Ok x) count within other done =
+    truths_kept tables cells after n change count (omega (arith, within, other)) done
+truths_kept_or_left tables cells after n change (Err e) count within other done = ap (λ (these : List Cell). truths_at (moment_with tables these)) (sym done)
+
+-- so an event acts on
+pub acts_on : (tables : Tables) (cells after : List Cell) (truths : List Bool) (n : ℕ) (change : Cell → Cell) → CanAct tables cells truths → n + 1 < length (tab tables).stores
+    → after ≡ changed n change cells → CanAct tables after truths
+acts_on tables cells after truths n change can before is = record {
+  short = can.short;
+  platform = can.platform;
+  stores = ap length is ∙ (length-set cells n (change (cell_at cells n)) ∙ can.stores);
+  right = can.right ∙ truths_kept tables cells after n change can.stores before is;
+}
+
+-- what is saved doesn't either
+saved_in : (cells : List Cell) (n m : ℕ) (elements : List (List Element)) → n < length cells → current_value elements (cell_at (changed n save_cell cells) m) ≡ current_value elements (cell_at cells m)
+saved_in cells n m elements few = elim (eqb_tells m n) [
+  | inl here ↦ ap (λ k. current_value elements (cell_at (changed n save_cell cells) k)) here.1
+      ∙ (ap (current_value elements) (cell_there cells n save_cell few) ∙ ap (λ k. current_value elements (cell_at cells k)) (sym here.1))
+  | inr other ↦ ap (current_value elements) (cell_elsewhere cells n m save_cell other.1)
+]
+
+pub acts_on_saved : (tables : Tables) (cells after : List Cell) (truths : List Bool) (n : ℕ) → CanAct tables cells truths → n < length cells → after ≡ changed n save_cell cells
+    → CanAct tables after truths
+acts_on_saved tables cells after truths n can few is =
+    let stores : List StoreMeaning = (tab tables).stores in
+    let counted : length after ≡ length stores = ap length is ∙ (length-set cells n (save_cell (cell_at cells n)) ∙ can.stores) in
+    let same : current_value (stated stores) (platform_cell tables after) ≡ current_value (stated stores) (platform_cell tables cells)
+    = ap (λ (these : List Cell). current_value (stated stores) (platform_cell tables these)) is ∙ saved_in cells n (length stores - 1) (stated stores) few in
+    record {
+      short = can.short;
+      platform = can.platform;
+      stores = counted;
+      right = can.right ∙ (truths_told tables cells (current_value (stated stores) (platform_cell tables cells)) can.stores refl ∙ sym (truths_told tables after _ counted same));
+    }
+
+-- the last has the text that the host gives it
+pub truths_given : (tables : Tables) (cells after : List Cell) (n : ℕ) (text : List ℕ) → length cells ≡ length (tab tables).stores → n ≡ length (tab tables).stores - 1
+    → after ≡ changed n (host_cell text) cells
+    → truths_by tables (map Char text) ≡ truths_at (moment_with tables after)
+truths_given tables cells after n text count last is =
+    let counted : length after ≡ length (tab tables).stores = ap length is ∙ (length-set cells n (host_cell text (cell_at cells n)) ∙ count) in
+    let few : n < length cells = omega (arith, count, last, all_stores tables) in
+    let cell : platform_cell tables after ≡ host_cell text (cell_at cells n)
+    = (λ i. cell_at (is i) (sym last i)) ∙ cell_there cells n (host_cell text) few in
+    sym (truths_told tables after (map Char text) counted (ap (current_value (stated (tab tables).stores)) cell))
+
+-- at first it has the elements that it is stated with
+first_there : (k n m : ℕ) → unwrap_or (slice_get (first_cells k n) m) (first_cell (k + m)) ≡ first_cell (k + m)
+first_there k zero m = refl
+first_there k (suc n) zero = let same : k ≡ k + 0 = omega arith in ap first_cell same
+first_there k (suc n) (suc m) =
+    let next : k + suc m ≡ k + 1 + m = omega arith in
+    ap (λ cell. unwrap_or (slice_get (first_cells (k + 1) n) m) (first_cell cell)) next ∙ (first_there (k + 1) n m ∙ ap first_cell (sym next))
+
+pub truths_at_first : (tables : Tables) (cells : List Cell) (n : ℕ) → cells ≡ first_cells 0 (length (tab tables).stores) → n ≡ length (tab tables).stores - 1
+    → truths_by tables (elements_at (tab tables).stores (Some n)) ≡ truths_at (moment_with tables cells)
+truths_at_first tables cells n are last =
+    let all : List StoreMeaning = (tab tables).stores in
+    let here : 0 + n ≡ n = omega arith in
+    let cell : platform_cell tables cells ≡ first_cell n
+    = (λ i. cell_at (are i) (sym last i)) ∙ (ap (λ k. unwrap_or (slice_get (first_cells 0 (length all)) n) (first_cell k)) (sym here) ∙ (first_there 0 (length all) n ∙ ap first_cell here)) in
+    let counted : length cells ≡ length all = ap length are ∙ first_cells_count 0 (length all) in
+    sym (truths_told tables cells (elements_at all (Some n)) counted (ap (current_value (stated all)) cell ∙ stated_at all n))
+
+-- ---- written in place
+
+-- a list that is written over by one as long is that one
+pub written_over : {X : Type 0} (n : ℕ) (before new : List X) → n ≡ length before → length new ≡ length before → take n (new ++ drop (length new) before) ≡ new
+written_over n before new count same =
+    let none : drop (length new) before ≡ [] = drop_of_length-le before (omega (arith, same)) in
+    let whole : n ≡ length new = count ∙ sym same in
+    (λ i. take (whole i) (new ++ none i)) ∙ (ap (take (length new)) (append-nil new) ∙ take-length new)
+
+pub truths_counted : (tables : Tables) (truths : List Bool) (content : List Element) → truths ≡ truths_by tables content → length truths ≡ length (tab tables).stores
+truths_counted tables truths content are = ap length are ∙ length-map (tab tables).stores (λ (store : StoreMeaning). has_words content store.elements)
+
+pub truths_at_counted : (tables : Tables) (truths : List Bool) (cells : List Cell) → truths ≡ truths_at (moment_with tables cells) → length truths ≡ length (tab tables).stores
+truths_at_counted tables truths cells are = truths_counted tables truths (content_at (moment_with tables cells) Platform) are
