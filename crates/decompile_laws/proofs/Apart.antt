@@ -9,7 +9,7 @@ use Rattle.std.proofs.lemmas.Bool.{false_from_ne_true, not-true, and_parts, or_p
 use Rattle.kmn_base.specs.Names.{same_name}
 use Rattle.rule_model.specs.declared.tables.Store.{Store}
 use Rattle.decompile_laws.specs.Names.{is_free, keeps_name, is_written, store_names}
-use Rattle.program_text.specs.Names.{is_source_name}
+use Rattle.kmn_text.specs.Names.{is_source_name}
 use Rattle.kmn_items.specs.Words.{is_system_name}
 use Rattle.kmn_items.specs.TokenTexts.{is_wordy}
 use Rattle.kmn_lines.specs.Tokens.{token_size, token_kind, token_fault}

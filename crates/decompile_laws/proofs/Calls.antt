@@ -12,7 +12,7 @@ use Rattle.rule_model.specs.declared.tables.Store.{Store}
 use Rattle.rule_model.specs.Tab.{with_options}
 use Rattle.rule_model.specs.Naming.{SourceNames, item_elements}
 use Rattle.decompile_laws.specs.Names.{is_written, keeps_store_name, keeps_name, written_ids, store_names}
-use Rattle.program_text.specs.Names.{is_source_name}
+use Rattle.kmn_text.specs.Names.{is_source_name}
 use Rattle.decompile_laws.specs.Items.{Names, back_element}
 use Rattle.decompile_laws.specs.Back.{back_stores}
 use Rattle.kmn_items.specs.Words.{is_system_name}

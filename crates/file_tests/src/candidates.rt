@@ -1,7 +1,7 @@
 //! The records that can hold for a press and a last item, one after the other, what is looked up of a file, the stores that
 //! have items and the first places there, which stores are alike, and of which a platform has each word.
 
-use file_parts::{ContextItem, FileTables};
+use kmx_parts::{ContextItem, FileTables};
 use kmn_base::Item::{Char, Mark};
 use kmn_base::limits::{RECORDS, STORE_ELEMENTS, STORES};
 use kmn_base::{Element, Item, KeyPress, Memory};

@@ -1,7 +1,7 @@
 //! The tables of a file, read where they lie.
 
 use crate::fixtures::{ON_LAYER, ONE_RULE, SETS_LAYER};
-use file_parts::{ContextItem, FileGroup, FileRule, FileStore, FileTables};
+use kmx_parts::{ContextItem, FileGroup, FileRule, FileStore, FileTables};
 use kmn_base::{Element, Memory, RuleKey};
 use rule_model::{Out, Pat};
 use std::alloc::Global;

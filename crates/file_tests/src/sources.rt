@@ -3,7 +3,7 @@
 use crate::fixtures::{ON_LAYER, ONE_RULE, SETS_LAYER};
 use kmx_decompiler::{DecompileError, decompile};
 use kmx_verifier::verify;
-use spelled_files::NoSpelling;
+use decompile_causes::NoSpelling;
 use std::alloc::Global;
 use std::test::Fail;
 

@@ -10,9 +10,9 @@ use Rattle.kmx_verifier.specs.declared.faults.VerifyError.TheVariants as verify
 use Rattle.kmx_verifier.specs.FaultOf.{fault_of, IsRefusal}
 use Rattle.kmx_verifier.proofs.Playing.{valid_playable}
 use Rattle.rule_model.specs.declared.tables.Tables.{Tables}
-use Rattle.program_text.specs.Programs.{program_text}
+use Rattle.kmn_text.specs.Programs.{program_text}
 use Rattle.decompile_laws.specs.Back.{back}
-use Rattle.spelled_files.specs.Unspelled.{unspelled}
+use Rattle.decompile_causes.specs.Unspelled.{unspelled}
 use Rattle.round_trips.proofs.Texts.{texts_compile}
 use Rattle.keyman_run.specs.declared.preparing.Stop.{Stop}
 use Rattle.keyman_run.specs.declared.preparing.Stop.TheVariants as stop

@@ -16,11 +16,11 @@ use Rattle.play_script.specs.Entries.{entries}
 use Rattle.kmx_format.specs.TablesOf.{tables_of}
 use Rattle.kmx_verifier.specs.declared.faults.Fault.{Fault}
 use Rattle.kmx_verifier.specs.FaultOf.{fault_of}
-use Rattle.program_text.specs.Programs.{program_text}
+use Rattle.kmn_text.specs.Programs.{program_text}
 use Rattle.decompile_laws.specs.Back.{back}
-use Rattle.spelled_files.specs.Laws.{HasText}
-use Rattle.spelled_files.specs.Unspelled.{unspelled}
-use Rattle.spelled_files.specs.declared.no_spelling.NoSpelling.{NoSpelling}
+use Rattle.decompile_causes.specs.Laws.{HasText}
+use Rattle.decompile_causes.specs.Unspelled.{unspelled}
+use Rattle.decompile_causes.specs.declared.no_spelling.NoSpelling.{NoSpelling}
 use Rattle.touch_layout.specs.Faults.{fault, whole_layout}
 use Rattle.touch_layout.specs.Layout.{key_count, layout_fault}
 use Rattle.touch_layout.specs.declared.faults.LayoutFault.{LayoutFault}

@@ -8,8 +8,8 @@ use Rattle.kmn_base.specs.declared.codes.Code.TheVariants.{G1}
 use Rattle.kmx_verifier.specs.declared.faults.Fault.{Fault}
 use Rattle.rule_model.specs.Lines.{refusal_line}
 use Rattle.rule_model.specs.Transcript.{refused_event_line}
-use Rattle.spelled_files.specs.declared.no_spelling.NoSpelling.{NoSpelling}
-use Rattle.spelled_files.specs.Reasons.{reason_text}
+use Rattle.decompile_causes.specs.declared.no_spelling.NoSpelling.{NoSpelling}
+use Rattle.decompile_causes.specs.Reasons.{reason_text}
 use Rattle.touch_layout.specs.declared.faults.LayoutFault.{LayoutFault}
 use Rattle.keyman_run.specs.declared.reason.Reason.{Reason}
 use Rattle.keyman_run.specs.declared.reason.Reason.TheVariants as reason

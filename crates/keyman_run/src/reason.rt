@@ -1,6 +1,6 @@
 use kmn_base::{Code, Refusal};
 use kmx_verifier::Fault;
-use spelled_files::NoSpelling;
+use decompile_causes::NoSpelling;
 use touch_layout::LayoutFault;
 
 /// Why a source, a script, a file or a layout is refused before anything is written.

@@ -14,7 +14,7 @@ use kmn_base::{Memory, Seq, Text};
 use kmn_outside::Folder;
 use kmx_decompiler::{DecompileError, decompile};
 use kmx_verifier::verify;
-use spelled_files::NoSpelling;
+use decompile_causes::NoSpelling;
 use std::alloc::Global;
 
 /// Reads the compiled file of a name, and gives the text that it goes back to.

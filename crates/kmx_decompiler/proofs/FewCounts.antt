@@ -25,8 +25,8 @@ use Rattle.decompile_laws.specs.WrittenOut.{table_values}
 use Rattle.decompile_laws.proofs.Choosing.{all_join}
 use Rattle.decompile_laws.proofs.OptionNames.{member-has}
 use Rattle.decompile_laws.proofs.SmallMarks.{IsSmall, small_marks}
-use Rattle.spelled_files.proofs.DictionarySizes.{total, dictionary-total}
-use Rattle.spelled_files.proofs.ShortValues.{IsShortValue, values_short}
+use Rattle.decompile_causes.proofs.DictionarySizes.{total, dictionary-total}
+use Rattle.decompile_causes.proofs.ShortValues.{IsShortValue, values_short}
 use Rattle.kmx_decompiler.proofs.Refusing.{few_keys}
 use Rattle.kmx_decompiler.specs.Counting.{some_length, called_lengths, spaced_size, joined_length, text_lengths}
 use Rattle.kmx_decompiler.specs.Values.{with_values}

@@ -10,8 +10,8 @@ use Rattle.rule_model.specs.Tab.{tab_options}
 use Rattle.kmx_format.specs.TablesOf.{word_at, tables_of}
 use Rattle.decompile_laws.specs.Items.{Names}
 use Rattle.decompile_laws.specs.Back.{names_for}
-use Rattle.spelled_files.specs.Causes.{is_unspelled_key}
-use Rattle.spelled_files.specs.Places.{at_cause, cause_places, least, store_causes, rule_causes, group_causes}
+use Rattle.decompile_causes.specs.Causes.{is_unspelled_key}
+use Rattle.decompile_causes.specs.Places.{at_cause, cause_places, least, store_causes, rule_causes, group_causes}
 use Rattle.kmx_decompiler.specs.Least.{lesser, lesser_of}
 
 -- of some places and others

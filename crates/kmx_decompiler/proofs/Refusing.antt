@@ -12,15 +12,15 @@ use Rattle.store_table.specs.First.{or_else}
 use Rattle.kmx_format.specs.File.{rules_of}
 use Rattle.kmx_format.specs.Playable.{IsPlayable, IsPlayableStore}
 use Rattle.kmx_format.specs.TablesOf.{tables_of}
-use Rattle.program_text.specs.Programs.{program_text}
+use Rattle.kmn_text.specs.Programs.{program_text}
 use Rattle.decompile_laws.specs.Back.{back}
 use Rattle.decompile_laws.specs.WrittenOut.{CanBeWrittenOut}
-use Rattle.spelled_files.specs.declared.no_spelling.NoSpelling.{NoSpelling}
-use Rattle.spelled_files.specs.declared.no_spelling.NoSpelling.TheVariants.{TooLarge, Unspelled}
-use Rattle.spelled_files.specs.Places.{cause_places, least}
-use Rattle.spelled_files.specs.Excess.{excess, text_size, store_count, element_count}
-use Rattle.spelled_files.specs.Unspelled.{disorder, unspelled}
-use Rattle.file_names.proofs.FewNames.{HasFewElements, few_names}
+use Rattle.decompile_causes.specs.declared.no_spelling.NoSpelling.{NoSpelling}
+use Rattle.decompile_causes.specs.declared.no_spelling.NoSpelling.TheVariants.{TooLarge, Unspelled}
+use Rattle.decompile_causes.specs.Places.{cause_places, least}
+use Rattle.decompile_causes.specs.Excess.{excess, text_size, store_count, element_count}
+use Rattle.decompile_causes.specs.Unspelled.{disorder, unspelled}
+use Rattle.decompile_names.proofs.FewNames.{HasFewElements, few_names}
 use Rattle.kmx_decompiler.specs.Refusals.{too_many}
 use Rattle.kmx_decompiler.proofs.NoCauses.{written_without_cause, keys_without_cause}
 

@@ -22,9 +22,9 @@ use Rattle.checker_laws.proofs.Sizes.{space_chars}
 use Rattle.decompile_laws.specs.Marks.{greatest_mark}
 use Rattle.decompile_laws.specs.Items.{Names, back_element}
 use Rattle.decompile_laws.specs.Back.{back_stores, numbered, stated_marks, stated_key, mark_store, key_store, version_text, mark_stores, key_stores, front_stores, free_stores, names_for, written_stores}
-use Rattle.file_text.proofs.WholeTexts.{first_left, one_less}
+use Rattle.decompile_text.proofs.WholeTexts.{first_left, one_less}
 use Rattle.kmx_decompiler.specs.Counting.{some_length, called_lengths, spaced_size, joined_length}
-use Rattle.spelled_files.proofs.ShortStores.{singles, element-single}
+use Rattle.decompile_causes.proofs.ShortStores.{singles, element-single}
 
 abbrev pub length_of : Store → ℕ
 length_of store = length store.elements

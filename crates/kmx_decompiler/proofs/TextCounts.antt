@@ -18,8 +18,8 @@ use Rattle.decompile_laws.specs.Back.{version_text, names_for, written_stores, b
 use Rattle.decompile_laws.specs.WrittenOut.{table_values, CanBeWrittenOut}
 use Rattle.decompile_laws.proofs.Linking.{stores-mapped}
 use Rattle.decompile_laws.proofs.Numbering.{keys-are}
-use Rattle.spelled_files.specs.Excess.{store_count, element_count}
-use Rattle.spelled_files.proofs.CountedSizes.{simple}
+use Rattle.decompile_causes.specs.Excess.{store_count, element_count}
+use Rattle.decompile_causes.proofs.CountedSizes.{simple}
 use Rattle.kmx_decompiler.specs.declared.counts.Counts.{Counts}
 use Rattle.kmx_decompiler.specs.Values.{with_values}
 use Rattle.kmx_decompiler.specs.Counting.{none_counted, with_lengths, some_length, called_lengths, joined_length, text_lengths}

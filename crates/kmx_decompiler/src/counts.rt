@@ -6,19 +6,19 @@ ghost use Rattle.rule_model.specs.Tab.{tab_dictionary};
 ghost use Rattle.kmx_format.specs.Playable.{IsPlayable};
 ghost use Rattle.decompile_laws.specs.Back.{back, names_for};
 ghost use Rattle.decompile_laws.specs.WrittenOut.{CanBeWrittenOut};
-ghost use Rattle.spelled_files.specs.Excess.{store_count, element_count};
-ghost use Rattle.file_text.specs.Whole.{IsFront};
+ghost use Rattle.decompile_causes.specs.Excess.{store_count, element_count};
+ghost use Rattle.decompile_text.specs.Whole.{IsFront};
 ghost use Rattle.kmx_decompiler.specs.Refusals.{too_many};
 ghost use Rattle.kmx_decompiler.specs.Counting.{capped, none_counted, with_lengths, some_length, called_lengths, spaced_size, joined_length, text_lengths};
 
 use crate::values::{Values, values_of};
-use file_names::Called;
-use file_text::{Front, version_text};
+use decompile_names::Called;
+use decompile_text::{Front, version_text};
 use kmn_base::limits::{ALL_ELEMENTS, STORES};
 use kmn_base::texts::character_count;
 use kmn_base::{Memory, Text};
 use rule_model::{Store, Tables};
-use spelled_files::NoSpelling;
+use decompile_causes::NoSpelling;
 use std::alloc::Global;
 
 /// So many stores, and so many elements of all of them.

@@ -4,28 +4,28 @@ ghost use Rattle.rule_model.specs.Tab.{tab_dictionary};
 ghost use Rattle.kmx_format.specs.Playable.{IsPlayable};
 ghost use Rattle.kmx_format.specs.TablesOf.{tables_of};
 ghost use Rattle.kmx_verifier.specs.FaultOf.{IsValid};
-ghost use Rattle.program_text.specs.Programs.{program_text};
+ghost use Rattle.kmn_text.specs.Programs.{program_text};
 ghost use Rattle.decompile_laws.specs.Back.{back, free_stores, names_for};
 ghost use Rattle.decompile_laws.specs.WrittenOut.{CanBeWrittenOut};
-ghost use Rattle.spelled_files.specs.Excess.{excess};
-ghost use Rattle.spelled_files.specs.Places.{cause_places, least};
-ghost use Rattle.spelled_files.specs.Unspelled.{disorder, unspelled};
-ghost use Rattle.file_text.specs.Whole.{IsFront};
+ghost use Rattle.decompile_causes.specs.Excess.{excess};
+ghost use Rattle.decompile_causes.specs.Places.{cause_places, least};
+ghost use Rattle.decompile_causes.specs.Unspelled.{disorder, unspelled};
+ghost use Rattle.decompile_text.specs.Whole.{IsFront};
 ghost use Rattle.kmx_decompiler.specs.Refusals.{IsRefusal};
 
 use crate::counts::{count_all, passed};
 use crate::order::disorder;
 use crate::places::least_cause;
 use crate::refusals::DecompileError;
-use file_names::{Called, called_by, free_stores};
-use file_text::{Front, front_count, front_of, page_of};
+use decompile_names::{Called, called_by, free_stores};
+use decompile_text::{Front, front_count, front_of, page_of};
 use indexed_tables::IndexedTables;
 use kmn_base::Text;
 use kmn_base::limits::TEXT_BYTES;
 use kmn_base::slices::behind;
 use kmx_verifier::Verified;
 use rule_model::Tables;
-use spelled_files::NoSpelling;
+use decompile_causes::NoSpelling;
 use std::alloc::Global;
 
 /// The text of tables, unless it or what compiling it gives is too large.

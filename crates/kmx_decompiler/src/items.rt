@@ -2,13 +2,13 @@
 
 ghost use Rattle.std.specs.Prelude.{◌≡◌, bit_and, false, filter, filter_map, length, nat_eq, option_to_list};
 ghost use Rattle.std.specs.List.{list_all, list_any};
-ghost use Rattle.program_text.specs.Names.{is_inner};
+ghost use Rattle.kmn_text.specs.Names.{is_inner};
 ghost use Rattle.virtual_keys.specs.Dictionary.{is_nameable};
 ghost use Rattle.rule_model.specs.Tab.{element_char};
 ghost use Rattle.kmx_format.specs.Writable.{is_matched};
 ghost use Rattle.item_checker.specs.Items.{is_no_character};
 ghost use Rattle.decompile_laws.specs.WrittenOut.{output_values, pattern_values};
-ghost use Rattle.spelled_files.specs.Causes.{is_far_mark, is_far_output, is_far_pattern, is_nul, stands_behind_match};
+ghost use Rattle.decompile_causes.specs.Causes.{is_far_mark, is_far_output, is_far_pattern, is_nul, stands_behind_match};
 
 use kmn_base::limits::DEADKEYS;
 use kmn_base::{Element, SHIFT_FLAGS};

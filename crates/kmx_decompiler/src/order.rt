@@ -1,10 +1,10 @@
 //! Records whose context is longer than that of the record before.
 
 ghost use Rattle.std.specs.Prelude.{◌≡◌, ◌<◌, ◌^◌, All, length};
-ghost use Rattle.spelled_files.specs.Unspelled.{longer_behind, first_longer, disorder};
+ghost use Rattle.decompile_causes.specs.Unspelled.{longer_behind, first_longer, disorder};
 
 use rule_model::{Group, Rule};
-use spelled_files::NoSpelling;
+use decompile_causes::NoSpelling;
 
 /// The number of the first of records, which count from 1, that has a longer context than the one before it. The length of
 /// the context before them all is given.

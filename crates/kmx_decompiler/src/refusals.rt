@@ -1,5 +1,5 @@
 use kmn_base::Memory;
-use spelled_files::NoSpelling;
+use decompile_causes::NoSpelling;
 use thiserror::Error;
 
 /// Why a file was not decompiled.

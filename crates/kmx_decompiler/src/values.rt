@@ -7,7 +7,7 @@ ghost use Rattle.decompile_laws.specs.WrittenOut.{pattern_values, output_values,
 ghost use Rattle.kmx_decompiler.specs.Values.{with_values};
 
 use crate::items::{output_value, pattern_value};
-use file_names::Called;
+use decompile_names::Called;
 use indexmap::IndexSet;
 use kmn_base::{Element, Memory};
 use rule_model::{Group, Out, Pat, Rule};

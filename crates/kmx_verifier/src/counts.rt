@@ -3,7 +3,7 @@
 ghost use Rattle.std.specs.Prelude.{◌≡◌, ◌<◌, ◌^◌, length};
 ghost use Rattle.kmx_format.specs.File.{all_rules};
 
-use file_parts::FileTables;
+use kmx_parts::FileTables;
 
 /// How many key records all groups have.
 pub(crate) fn rule_count(file: &FileTables<'_>) -> u32

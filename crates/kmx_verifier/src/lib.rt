@@ -2,7 +2,7 @@
 //! file can be played.
 //!
 //! It stands on `kmn_base`, `item_codec`, `rule_model`, `kmx_format`, whose definition of reading it follows, `kmx_view`
-//! and `file_parts`. `specs/FaultOf` has the first fault of a file, step by step. The layers above open a file by `verify`
+//! and `kmx_parts`. `specs/FaultOf` has the first fault of a file, step by step. The layers above open a file by `verify`
 //! and use a `Verified`, which borrows its bytes and copies nothing: it lends the file's tables part by part, and copies
 //! them for a caller that asks for it.
 #![tactic(auto)]

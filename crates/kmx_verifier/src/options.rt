@@ -5,7 +5,7 @@ ghost use Rattle.std.specs.List.{list_any};
 ghost use Rattle.rule_model.specs.Tab.{pattern_options, output_options, tab_options};
 ghost use Rattle.kmx_verifier.specs.Options.{used_in, used_in_rule, used_in_group};
 
-use file_parts::{FileGroup, FileRule, FileTables, Outputs, Patterns};
+use kmx_parts::{FileGroup, FileRule, FileTables, Outputs, Patterns};
 use rule_model::{Out, Pat};
 
 fn pattern_uses(pattern: &Pat, store: u32) -> bool

@@ -2,7 +2,7 @@
 
 ghost use Rattle.std.specs.Prelude.{◌≡◌, IfOk};
 
-use file_parts::{FileGroup, FileRule, FileStore, FileTables};
+use kmx_parts::{FileGroup, FileRule, FileStore, FileTables};
 use kmn_base::{Memory, Seq};
 use rule_model::{Group, Rule, Store, Tables};
 use std::alloc::Global;

@@ -7,7 +7,7 @@ use crate::faults::VerifyError;
 use crate::options::is_option;
 use crate::tables::copied;
 use crate::whole::check_file;
-use file_parts::FileTables;
+use kmx_parts::FileTables;
 use kmn_base::Memory;
 use kmx_view::KmxView;
 use rule_model::Tables;

@@ -9,8 +9,8 @@ use Rattle.kmn_base.specs.declared.refusals.Refusal.{Refusal}
 use Rattle.rule_model.specs.declared.program.Program.{Program}
 use Rattle.rule_model.specs.declared.program.RuleDef.{RuleDef}
 use Rattle.kmn_parser.specs.Source.{parsed}
-use Rattle.program_text.specs.Programs.{program_text}
-use Rattle.program_text.proofs.Programs.{programs_read_back}
+use Rattle.kmn_text.specs.Programs.{program_text}
+use Rattle.kmn_text.proofs.Programs.{programs_read_back}
 use Rattle.store_table.specs.First.{at_line, earlier, first_of, or_else, or_refusal}
 use Rattle.store_table.specs.Names.{is_named, names_refusal, rule_refusal, stated}
 use Rattle.store_table.specs.declared.stating.Stated.{Stated}

@@ -6,7 +6,7 @@ use Rattle.rule_model.specs.Tab.{tab}
 use Rattle.rule_model.specs.Trace.{Trace, trace}
 use Rattle.rule_model.specs.declared.program.Program.{Program}
 use Rattle.rule_model.specs.declared.tables.Tables.{Tables}
-use Rattle.program_text.specs.Programs.{program_text}
+use Rattle.kmn_text.specs.Programs.{program_text}
 use Rattle.compile_laws.specs.Ordered.{compiled_tables}
 use Rattle.compile_laws.proofs.Ordered.{program_compiles}
 use Rattle.compile_laws.proofs.Whole.{meaning_kept}

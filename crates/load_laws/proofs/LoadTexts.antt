@@ -5,13 +5,13 @@ use Rattle.std.proofs.Math.Utf8.{low_scalar}
 use Rattle.kmn_base.specs.declared.limits.TheConstants.{TEXT_BYTES}
 use Rattle.kmn_lines.specs.Tokens.{token_size, token_kind, token_fault, in_word, begins_forbidden}
 use Rattle.kmn_parser.specs.ProgramLaws.{IsCharacter}
-use Rattle.program_text.specs.Printed.{printed, rows}
-use Rattle.program_text.specs.Programs.{program_text, rule_line}
-use Rattle.program_text.specs.Spelled.{AreSpelledRules, IsSpelled, IsSpelledName}
-use Rattle.program_text.specs.Texts.{hex_text}
-use Rattle.program_text.proofs.ChainRules.{first_rule_spelled, chain_rule_spelled, first_rule_text, chain_rule_text}
-use Rattle.program_text.proofs.HexDigits.{four_digits}
-use Rattle.program_text.proofs.Utf8Texts.{ascii}
+use Rattle.kmn_text.specs.Printed.{printed, rows}
+use Rattle.kmn_text.specs.Programs.{program_text, rule_line}
+use Rattle.kmn_text.specs.Spelled.{AreSpelledRules, IsSpelled, IsSpelledName}
+use Rattle.kmn_text.specs.Texts.{hex_text}
+use Rattle.kmn_text.proofs.ChainRules.{first_rule_spelled, chain_rule_spelled, first_rule_text, chain_rule_text}
+use Rattle.kmn_text.proofs.HexDigits.{four_digits}
+use Rattle.kmn_text.proofs.Utf8Texts.{ascii}
 use Rattle.load_maker.specs.Loads.{hexadecimal, first_lines, rule_lines, load_source, rule_line as source_line}
 use Rattle.load_laws.specs.Programs.{load_program, rule_def, rule_defs}
 

@@ -18,13 +18,13 @@ use Rattle.kmx_writer.specs.Excess.{excess as file_excess}
 use Rattle.compile_laws.specs.Compiles.{Compiles}
 use Rattle.compile_laws.specs.Ordered.{compiled_tables}
 use Rattle.compile_laws.proofs.Ordered.{program_compiles}
-use Rattle.program_text.specs.Programs.{program_text}
+use Rattle.kmn_text.specs.Programs.{program_text}
 use Rattle.decompile_laws.specs.Back.{back}
-use Rattle.spelled_files.specs.Excess.{excess as text_excess}
-use Rattle.spelled_files.specs.Unspelled.{unspelled}
-use Rattle.spelled_files.proofs.Accepted.{text_is_accepted, text_keeps_meaning}
-use Rattle.spelled_files.proofs.CompiledSources.{compiled_lacks_no_text}
-use Rattle.spelled_files.proofs.Fitting.{text_fits}
+use Rattle.decompile_causes.specs.Excess.{excess as text_excess}
+use Rattle.decompile_causes.specs.Unspelled.{unspelled}
+use Rattle.decompile_causes.proofs.Accepted.{text_is_accepted, text_keeps_meaning}
+use Rattle.decompile_causes.proofs.CompiledSources.{compiled_lacks_no_text}
+use Rattle.decompile_causes.proofs.Fitting.{text_fits}
 use Rattle.kmn_compiler.specs.Source.{CompilesTo}
 use Rattle.kmn_compiler.specs.declared.compiling.Compiled.{Compiled}
 use Rattle.round_trips.specs.Laws.{CompiledFilesHaveTexts, TakesStepsOf, TextsCompile}

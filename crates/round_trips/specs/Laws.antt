@@ -7,11 +7,11 @@ use Rattle.rule_model.specs.Tab.{tab}
 use Rattle.rule_model.specs.Trace.{trace}
 use Rattle.rule_checker.specs.Refused.{checked}
 use Rattle.kmx_format.specs.TablesOf.{tables_of}
-use Rattle.program_text.specs.Programs.{program_text}
+use Rattle.kmn_text.specs.Programs.{program_text}
 use Rattle.decompile_laws.specs.Back.{back}
-use Rattle.spelled_files.specs.Excess.{excess}
-use Rattle.spelled_files.specs.Laws.{HasText}
-use Rattle.spelled_files.specs.Unspelled.{unspelled}
+use Rattle.decompile_causes.specs.Excess.{excess}
+use Rattle.decompile_causes.specs.Laws.{HasText}
+use Rattle.decompile_causes.specs.Unspelled.{unspelled}
 use Rattle.kmn_compiler.specs.Source.{CompilesTo}
 use Rattle.kmn_compiler.specs.declared.compiling.Compiled.{Compiled}
 

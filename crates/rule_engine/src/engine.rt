@@ -13,7 +13,7 @@ use crate::entering::press;
 use crate::event::{Event, Pressed};
 use crate::naming::{name_of, store_named};
 use crate::workspace::Workspace;
-use file_parts::FileTables;
+use kmx_parts::FileTables;
 use kmn_base::{Item, KeyPress, Memory, Outcome, Seq, Text};
 use kmx_verifier::Verified;
 use option_store::Options;

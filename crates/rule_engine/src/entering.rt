@@ -12,7 +12,7 @@ ghost use Rattle.rule_engine.specs.Event.{AllChangeOwn, ChangesOwn, GroupChanges
 use crate::defaults::by_default;
 use crate::event::Event;
 use crate::outputs::{is_empty, put_any, put_context, put_index};
-use file_parts::{FileGroup, FileRule, Outputs};
+use kmx_parts::{FileGroup, FileRule, Outputs};
 use kmn_base::limits::EVENT_ENTRIES;
 use kmn_base::{Item, KeyPress};
 use rule_index::RuleIndex;

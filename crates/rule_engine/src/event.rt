@@ -16,7 +16,7 @@ ghost use Rattle.rule_engine.specs.Event.{CanAct, HasShortContexts, PlatformStay
 use crate::workspace::Workspace;
 use context_cache::Cache;
 use event_text::Left;
-use file_parts::{FileGroup, FileRule};
+use kmx_parts::{FileGroup, FileRule};
 use kmn_base::limits::EVENT_PUTS;
 use kmn_base::{Item, KeyPress, Outcome};
 use option_store::Options;

@@ -5,7 +5,7 @@ ghost use Rattle.rule_model.specs.Act.{put_items, item_list, put_element, items_
 ghost use Rattle.rule_engine.specs.Event.{content_in};
 
 use crate::event::Event;
-use file_parts::Outputs;
+use kmx_parts::Outputs;
 use kmn_base::{Element, Item};
 use rule_matching::{Caught, item_of};
 

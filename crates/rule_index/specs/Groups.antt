@@ -4,8 +4,8 @@ use Rattle.rule_model.specs.declared.tables.Group.{Group}
 use Rattle.rule_model.specs.declared.tables.Pat.{Pat}
 use Rattle.rule_model.specs.Hold.{pattern_count}
 use Rattle.rule_model.specs.Tab.{tab_pattern, tab_rule}
-use Rattle.file_parts.specs.declared.context_item.ContextItem.{ContextItem}
-use Rattle.file_parts.specs.ContextItems.{pattern_of}
+use Rattle.kmx_parts.specs.declared.context_item.ContextItem.{ContextItem}
+use Rattle.kmx_parts.specs.ContextItems.{pattern_of}
 use Rattle.rule_index.specs.declared.row.Row.{Row}
 use Rattle.rule_index.specs.Classes.{rule_class}
 use Rattle.rule_index.specs.Rows.{IsIndexOf}

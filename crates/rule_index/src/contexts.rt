@@ -1,8 +1,8 @@
 ghost use Rattle.std.specs.Prelude.{◌≡◌, IfOk, map};
-ghost use Rattle.file_parts.specs.ContextItems.{pattern_of};
+ghost use Rattle.kmx_parts.specs.ContextItems.{pattern_of};
 ghost use Rattle.rule_index.specs.Groups.{context_count, listed, record_contexts};
 
-use file_parts::{ContextItem, ContextItems, FileGroup};
+use kmx_parts::{ContextItem, ContextItems, FileGroup};
 use kmn_base::Memory;
 use std::alloc::Global;
 

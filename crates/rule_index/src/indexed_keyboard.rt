@@ -18,7 +18,7 @@ use crate::options::option_numbers;
 use crate::own_names::own_keys;
 use crate::rule_index::RuleIndex;
 use crate::values::{number_for, store_numbers};
-use file_parts::{FileGroup, FileStore, FileTables};
+use kmx_parts::{FileGroup, FileStore, FileTables};
 use indexed_tables::{has_words, system_elements};
 use kmn_base::{Element, Item, Memory, Seq};
 use std::alloc::Global;

@@ -6,7 +6,7 @@ ghost use Rattle.rule_model.specs.System.{system_options};
 ghost use Rattle.rule_model.specs.Plain.{option_numbers};
 ghost use Rattle.indexed_tables.specs.OptionFlags.{with_flags};
 
-use file_parts::{FileGroup, FileRule, FileTables, Outputs, Patterns};
+use kmx_parts::{FileGroup, FileRule, FileTables, Outputs, Patterns};
 use indexed_tables::{flag_numbers, mark};
 use kmn_base::Memory;
 use rule_model::{Out, Pat};

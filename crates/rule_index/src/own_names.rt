@@ -7,7 +7,7 @@ ghost use Rattle.rule_model.specs.Tab.{store_elements, is_dictionary, tab_dictio
 ghost use Rattle.rule_index.specs.OwnNames.{names_with, names_after, word_after};
 ghost use Rattle.rule_index.specs.Stores.{HaveFewElements};
 
-use file_parts::{Elements, FileTables, Parts};
+use kmx_parts::{Elements, FileTables, Parts};
 use kmn_base::{Element, Memory};
 use std::alloc::Global;
 use virtual_keys::KeyDictionary;

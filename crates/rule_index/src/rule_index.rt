@@ -1,6 +1,6 @@
 ghost use Rattle.std.specs.Prelude.{◌≡◌, ◌≤◌, [], length, map, slice_index_or, IfOk};
 ghost use Rattle.kmn_base.specs.declared.limits.TheConstants.{RECORDS};
-ghost use Rattle.file_parts.specs.ContextItems.{pattern_of};
+ghost use Rattle.kmx_parts.specs.ContextItems.{pattern_of};
 ghost use Rattle.rule_index.specs.Groups.{IsRuleIndexOf};
 
 use crate::candidates::Candidates;
@@ -9,7 +9,7 @@ use crate::classes::record_classes;
 use crate::contexts::{counts, record_contexts};
 use crate::row::Row;
 use crate::rows::rows_of;
-use file_parts::{ContextItem, FileGroup};
+use kmx_parts::{ContextItem, FileGroup};
 use kmn_base::Memory;
 use std::alloc::Global;
 use std::marker::Model;

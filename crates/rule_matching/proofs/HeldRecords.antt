@@ -19,8 +19,8 @@ use Rattle.rule_model.specs.Match.{Content}
 use Rattle.rule_model.specs.Hold.{pattern_count, caught_by, holds}
 use Rattle.rule_model.specs.Choose.{Chosen}
 use Rattle.rule_model.specs.Tab.{tab_pattern, tab_rule}
-use Rattle.file_parts.specs.declared.context_item.ContextItem.{ContextItem}
-use Rattle.file_parts.specs.ContextItems.{pattern_of}
+use Rattle.kmx_parts.specs.declared.context_item.ContextItem.{ContextItem}
+use Rattle.kmx_parts.specs.ContextItems.{pattern_of}
 use Rattle.rule_index.specs.Groups.{RuleIndexValue, IsRuleIndexOf}
 use Rattle.rule_index.proofs.ContextCounts.{context_found, count_found}
 use Rattle.rule_matching.specs.Matching.{allowed_catches, item_meaning}

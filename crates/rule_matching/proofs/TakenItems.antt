@@ -9,9 +9,9 @@ use Rattle.rule_model.specs.declared.event_state.Catch.{Catch}
 use Rattle.rule_model.specs.declared.tables.Store.{Store}
 use Rattle.rule_model.specs.Keyboard.{IsAny, IsNotAny, Numbered, Pattern}
 use Rattle.rule_model.specs.Match.{Content, catch_at, place_caught, place_of, takes_item}
-use Rattle.file_parts.specs.declared.context_item.ContextItem.{ContextItem}
-use Rattle.file_parts.specs.declared.context_item.ContextItem.TheVariants.{Char}
-use Rattle.file_parts.specs.ContextItems.{pattern_of}
+use Rattle.kmx_parts.specs.declared.context_item.ContextItem.{ContextItem}
+use Rattle.kmx_parts.specs.declared.context_item.ContextItem.TheVariants.{Char}
+use Rattle.kmx_parts.specs.ContextItems.{pattern_of}
 use Rattle.rule_matching.specs.declared.taken.Taken.{Taken}
 use Rattle.rule_matching.specs.Matching.{allowed_catches, catch_of, caught_by_taken, item_before, item_meaning, place_before, taken_at}
 use Rattle.rule_matching.proofs.AllowedContexts.{allowed_catches_none, allowed_with_item}

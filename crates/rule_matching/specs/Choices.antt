@@ -8,7 +8,7 @@ use Rattle.rule_model.specs.declared.tables.Rule.{Rule}
 use Rattle.rule_model.specs.Keyboard.{Pattern, RuleMeaning}
 use Rattle.rule_model.specs.Match.{Content}
 use Rattle.rule_model.specs.Tab.{tab_rule}
-use Rattle.file_parts.specs.declared.context_item.ContextItem.{ContextItem}
+use Rattle.kmx_parts.specs.declared.context_item.ContextItem.{ContextItem}
 use Rattle.rule_matching.specs.declared.choice.Choice.{Choice}
 use Rattle.rule_matching.specs.declared.place_memory.PlaceMemory.{PlaceMemory}
 use Rattle.rule_matching.specs.declared.taken.Taken.{Taken}

@@ -13,9 +13,9 @@ use Rattle.rule_model.specs.Match.{Content, catches_from, matches, place_for, pl
 use Rattle.rule_model.specs.Hold.{is_true, is_at_start}
 use Rattle.rule_model.specs.Content.{elements_at}
 use Rattle.rule_model.specs.Tab.{tab, tab_pattern}
-use Rattle.file_parts.specs.declared.context_item.ContextItem.{ContextItem}
-use Rattle.file_parts.specs.declared.context_item.ContextItem.TheVariants as item
-use Rattle.file_parts.specs.ContextItems.{pattern_of}
+use Rattle.kmx_parts.specs.declared.context_item.ContextItem.{ContextItem}
+use Rattle.kmx_parts.specs.declared.context_item.ContextItem.TheVariants as item
+use Rattle.kmx_parts.specs.ContextItems.{pattern_of}
 use Rattle.rule_matching.specs.declared.place_memory.PlaceMemory.{PlaceMemory}
 use Rattle.rule_matching.specs.declared.taken.Taken.{Taken}
 use Rattle.rule_matching.specs.KnownPlaces.{known_place}

@@ -1,4 +1,4 @@
-use file_parts::FileGroup;
+use kmx_parts::FileGroup;
 use kmn_base::KeyPress;
 use rule_index::RuleIndex;
 

@@ -1,6 +1,6 @@
 use Rattle.std.proofs.Common.{◌≡◌, ◌<◌, [], map}
 use Rattle.rule_model.specs.Tab.{tab_pattern}
-use Rattle.file_parts.specs.ContextItems.{pattern_of}
+use Rattle.kmx_parts.specs.ContextItems.{pattern_of}
 use Rattle.rule_index.specs.Classes.{last_class}
 use Rattle.rule_index.proofs.classes.last_class.Given as goal
 

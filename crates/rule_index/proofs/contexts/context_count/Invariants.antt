@@ -1,7 +1,7 @@
 use Rattle.std.proofs.Common.{◌≡◌, ◌+◌, ◌≤◌, min, [], map, drop}
 use Rattle.rule_model.specs.Hold.{pattern_count}
 use Rattle.rule_model.specs.Tab.{tab_pattern}
-use Rattle.file_parts.specs.ContextItems.{pattern_of}
+use Rattle.kmx_parts.specs.ContextItems.{pattern_of}
 use Rattle.rule_index.specs.Groups.{context_count}
 use Rattle.rule_index.proofs.contexts.context_count.Given as goal
 

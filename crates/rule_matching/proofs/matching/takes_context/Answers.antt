@@ -2,8 +2,8 @@ use Rattle.std.proofs.Common.{◌-◌, ◌+◌, ◌<◌, List, length, map, get_
 use Rattle.std.specs.Prelude.{nat_eq, option_and_then}
 use Rattle.kmn_base.specs.declared.items.Item.{Item}
 use Rattle.rule_model.specs.declared.event_state.Catch.{Catch}
-use Rattle.file_parts.specs.declared.context_item.ContextItem.{ContextItem}
-use Rattle.file_parts.specs.declared.context_item.ContextItem.TheVariants.{Char}
+use Rattle.kmx_parts.specs.declared.context_item.ContextItem.{ContextItem}
+use Rattle.kmx_parts.specs.declared.context_item.ContextItem.TheVariants.{Char}
 use Rattle.rule_model.specs.declared.tables.Store.{Store}
 use Rattle.rule_model.specs.Match.{Content}
 use Rattle.rule_matching.specs.declared.taken.Taken.{Taken}

@@ -1,0 +1,17 @@
+//! Why a compiled file has no text that a source could be, and what holds of the text where it has one.
+//!
+//! `specs/Unspelled` has the definition, over the tables of `kmx_format` and the text of `kmn_text` and
+//! `decompile_laws`: the decompiler's contract is said by it, and `NoSpelling` prints the reason (`specs/Reasons`). `laws`
+//! says that the text of a file is accepted, compiles to a file within the limits and means what the file means, and that
+//! what a source compiles to has a text but for its size; `specs/Written` says what of a program that was read this takes.
+#![tactic(auto)]
+
+mod laws;
+mod no_spelling;
+
+pub use laws::{
+    compiled_has_no_causes, compiled_is_in_order, compiled_lacks_no_text, names_are_text,
+    read_was_written, spelled_can_be_written_out, spelled_is_spelled, spelled_items_stand,
+    spelled_names_stand, spelled_rules_stand, text_fits, text_is_accepted, text_keeps_meaning,
+};
+pub use no_spelling::NoSpelling;

@@ -1,0 +1,230 @@
+//! The items of stores, contexts, keys and outputs as a text has them.
+
+ghost use Rattle.std.specs.Prelude.{◌≡◌, ◌++◌, ◌∷◌, [], map, bit_or, OnOk};
+ghost use Rattle.std.specs.Fmt.{decimal};
+ghost use Rattle.virtual_keys.specs.Keys.{shift_flags};
+ghost use Rattle.decompile_text.specs.Pages.{with_text};
+ghost use Rattle.decompile_text.specs.OneByOne.{with_flag_words};
+ghost use Rattle.decompile_text.specs.Texts.{call_text, index_text, compared_text, flag_text, virtual_text, element_text, pattern_text, output_text, key_text};
+
+use crate::characters::{put_character, put_quoted};
+use crate::page::Page;
+use decompile_names::Called;
+use kmn_base::{Element, Memory, RuleKey};
+use rule_model::{Out, Pat};
+
+/// The flag of a virtual key, which a text always says.
+const VIRTUAL: u32 = 0x4000;
+
+/// The modifier words with the shift flags that they stand for.
+static MODIFIERS: [(&str, u32); 9] = [
+    ("LCTRL", 0x0001),
+    ("RCTRL", 0x0002),
+    ("LALT", 0x0004),
+    ("RALT", 0x0008),
+    ("SHIFT", 0x0010),
+    ("CTRL", 0x0020),
+    ("ALT", 0x0040),
+    ("CAPS", 0x0100),
+    ("NCAPS", 0x0200),
+];
+
+/// Puts a word with a name in parentheses.
+#[tactic(auto, using(crate::proofs::MoreText::with_text_append, crate::proofs::MoreText::with_no_text))]
+pub(crate) fn put_call(page: &mut Page, word: &[u8], name: &[u8]) -> Result<(), Memory>
+    ensures { OnOk result (page.new ≡ with_text page.old (call_text word.now name.now)) }
+{
+    page.put(word)?;
+    page.put(b"(")?;
+    page.put(name)?;
+    page.put(b")")
+}
+
+/// Puts a word with a number in parentheses.
+#[tactic(auto, using(crate::proofs::MoreText::with_text_append, crate::proofs::MoreText::with_no_text))]
+fn put_numbered(page: &mut Page, word: &[u8], number: u32) -> Result<(), Memory>
+    ensures { OnOk result (page.new ≡ with_text page.old (call_text word.now (decimal number))) }
+{
+    page.put(word)?;
+    page.put(b"(")?;
+    page.put_number(number)?;
+    page.put(b")")
+}
+
+/// Puts `index` with a name and an offset.
+#[tactic(auto, using(crate::proofs::MoreText::with_text_append, crate::proofs::MoreText::with_no_text))]
+fn put_index(page: &mut Page, name: &[u8], offset: u32) -> Result<(), Memory>
+    ensures { OnOk result (page.new ≡ with_text page.old (index_text name.now offset)) }
+{
+    page.put(b"index(")?;
+    page.put(name)?;
+    page.put(b",")?;
+    page.put_number(offset)?;
+    page.put(b")")
+}
+
+/// Puts a word, a parenthesis and a name.
+#[tactic(auto, using(crate::proofs::MoreText::with_text_append, crate::proofs::MoreText::with_no_text))]
+fn put_opened(page: &mut Page, word: &[u8], name: &[u8]) -> Result<(), Memory>
+    ensures { OnOk result (page.new ≡ with_text page.old (word.now ++ 40 ∷ name.now)) }
+{
+    page.put(word)?;
+    page.put(b"(")?;
+    page.put(name)
+}
+
+/// Puts a sign between blanks.
+#[tactic(auto, using(crate::proofs::MoreText::with_text_append, crate::proofs::MoreText::with_no_text))]
+fn put_sign(page: &mut Page, sign: &[u8]) -> Result<(), Memory>
+    ensures { OnOk result (page.new ≡ with_text page.old (32 ∷ (sign.now ++ 32 ∷ []))) }
+{
+    page.put(b" ")?;
+    page.put(sign)?;
+    page.put(b" ")
+}
+
+/// Puts a comparison or a setting: a word, and in parentheses a name, a sign and a value.
+#[tactic(auto, using(crate::proofs::Puts::compared_is))]
+fn put_compared(
+    page: &mut Page,
+    word: &[u8],
+    name: &[u8],
+    sign: &[u8],
+    value: &[Element],
+) -> Result<(), Memory>
+    ensures { OnOk result (page.new ≡ with_text page.old (compared_text word.now name.now sign.now value.now)) }
+{
+    put_opened(page, word, name)?;
+    put_sign(page, sign)?;
+    put_quoted(page, value)?;
+    page.put(b")")
+}
+
+/// Puts the word of a flag, with a blank behind it, where the flag is set.
+#[tactic(auto, using(crate::proofs::MoreText::with_text_append, crate::proofs::MoreText::with_no_text))]
+fn put_flag(page: &mut Page, flags: u32, word: &[u8], flag: u32) -> Result<(), Memory>
+    ensures { OnOk result (page.new ≡ with_text page.old (flag_text flags word.now flag)) }
+{
+    if flags & flag == 0 {
+        return Ok(());
+    }
+    page.put(word)?;
+    page.put(b" ")
+}
+
+/// Puts the modifier words of shift flags, each with a blank behind it.
+#[tactic(auto, using(crate::proofs::MoreText::with_text_append, crate::proofs::MoreText::with_no_text))]
+fn put_flags(
+    page: &mut Page,
+    flags: u32,
+    table: &'static [(&'static str, u32)],
+) -> Result<(), Memory>
+    ensures { OnOk result (page.new ≡ with_flag_words flags page.old (map (λ row. (row.0.now, row.1)) table.now)) }
+{
+    for row in table {
+        put_flag(page, flags, row.0.as_bytes(), row.1)?;
+    }
+    Ok(())
+}
+
+/// Puts the modifier words of a virtual key's flags.
+#[tactic(auto, unfolding(virtual_keys::specs::Keys::shift_flags))]
+fn put_modifiers(page: &mut Page, flags: u32) -> Result<(), Memory>
+    ensures { OnOk result (page.new ≡ with_flag_words (bit_or flags 0x4000) page.old shift_flags) }
+{
+    put_flags(page, flags | VIRTUAL, &MODIFIERS)
+}
+
+/// Puts a virtual key.
+#[tactic(auto, using(crate::proofs::Puts::key_is, crate::proofs::KeyTexts::virtual_is))]
+fn put_key(page: &mut Page, names: &Called<'_>, flags: u32, code: u16) -> Result<(), Memory>
+    ensures { OnOk result (page.new ≡ with_text page.old (virtual_text names.now flags code)) }
+{
+    page.put(b"[")?;
+    put_modifiers(page, flags)?;
+    page.put(names.key_name(code))?;
+    page.put(b"]")
+}
+
+/// Puts an element of a store.
+#[tactic(auto, using(crate::proofs::MoreText::with_text_append, crate::proofs::MoreText::with_no_text), unfolding(crate::specs::Texts::element_text, crate::specs::Texts::virtual_text))]
+pub(crate) fn put_element(
+    page: &mut Page,
+    names: &Called<'_>,
+    element: &Element,
+) -> Result<(), Memory>
+    ensures { OnOk result (page.new ≡ with_text page.old (element_text names.now element.now)) }
+{
+    match element {
+        Element::Char(c) => put_character(page, *c as u32),
+        Element::Mark(mark) => put_numbered(page, b"dk", u32::from(*mark)),
+        Element::Key { flags, code } => put_key(page, names, u32::from(*flags), *code),
+    }
+}
+
+/// Puts an item of a context.
+#[tactic(auto, using(crate::proofs::MoreText::with_text_append, crate::proofs::MoreText::with_no_text), unfolding(crate::specs::Texts::pattern_text, crate::specs::Texts::quoted_text))]
+pub(crate) fn put_pattern(page: &mut Page, names: &Called<'_>, pattern: &Pat) -> Result<(), Memory>
+    ensures { OnOk result (page.new ≡ with_text page.old (pattern_text names.now pattern.now)) }
+{
+    match pattern {
+        Pat::Char(c) => put_character(page, *c as u32),
+        Pat::Mark(mark) => put_numbered(page, b"dk", u32::from(*mark)),
+        Pat::Any(store) => put_call(page, b"any", names.store(*store)),
+        Pat::NotAny(store) => put_call(page, b"notany", names.store(*store)),
+        Pat::Index(store, offset) => put_index(page, names.store(*store), *offset),
+        Pat::ContextAt(offset) => put_numbered(page, b"context", *offset),
+        Pat::Equal(store, value) => {
+            put_compared(page, b"if", names.store(*store), b"=", names.value(*value))
+        }
+        Pat::Unequal(store, value) => {
+            put_compared(page, b"if", names.store(*store), b"!=", names.value(*value))
+        }
+        // A condition on a system option has no words: a file that has one is refused before.
+        Pat::SystemEqual(_, _) | Pat::SystemUnequal(_, _) | Pat::Nul => page.put(b"nul"),
+    }
+}
+
+/// Puts an item of an output.
+#[tactic(auto, using(crate::proofs::MoreText::with_text_append, crate::proofs::MoreText::with_no_text), unfolding(crate::specs::Texts::output_text, crate::specs::Texts::quoted_text))]
+pub(crate) fn put_output(page: &mut Page, names: &Called<'_>, output: &Out) -> Result<(), Memory>
+    ensures { OnOk result (page.new ≡ with_text page.old (output_text names.now output.now)) }
+{
+    match output {
+        Out::Char(c) => put_character(page, *c as u32),
+        Out::Mark(mark) => put_numbered(page, b"dk", u32::from(*mark)),
+        Out::Index(store, offset) => put_index(page, names.store(*store), *offset),
+        Out::Context => page.put(b"context"),
+        Out::ContextAt(offset) => put_numbered(page, b"context", *offset),
+        Out::Enter(group) => put_call(page, b"use", names.group(*group)),
+        Out::Set(store, value) => {
+            put_compared(page, b"set", names.store(*store), b"=", names.value(*value))
+        }
+        Out::Save(store) => put_call(page, b"save", names.store(*store)),
+        Out::Reset(store) => put_call(page, b"reset", names.store(*store)),
+        // Nor has a set of one.
+        Out::SetSystem(_, _) | Out::Nul => page.put(b"nul"),
+        Out::Beep => page.put(b"beep"),
+        Out::Stop => page.put(b"return"),
+    }
+}
+
+/// Puts a record's key with its plus and blanks; nothing for a record of a group without keys.
+#[tactic(auto, using(crate::proofs::MoreText::with_text_append, crate::proofs::MoreText::with_no_text, crate::proofs::LineTexts::virtual_part), unfolding(crate::specs::Texts::key_text))]
+pub(crate) fn put_key_part(page: &mut Page, names: &Called<'_>, key: &RuleKey) -> Result<(), Memory>
+    ensures { OnOk result (page.new ≡ with_text page.old (key_text names.now key.now)) }
+{
+    match key {
+        RuleKey::Any => Ok(()),
+        RuleKey::Char(unit) => {
+            page.put(b"+ ")?;
+            put_character(page, u32::from(*unit))?;
+            page.put(b" ")
+        }
+        RuleKey::Virtual { flags, code } => {
+            page.put(b"+ ")?;
+            put_key(page, names, *flags, *code)?;
+            page.put(b" ")
+        }
+    }
+}

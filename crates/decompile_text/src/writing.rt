@@ -1,0 +1,133 @@
+//! The text of tables as a whole.
+
+ghost use Rattle.std.specs.Prelude.{◌≡◌, ◌≤◌, ◌++◌, [], false, length, nat_lt, unwrap_or, slice_get, if◌then◌else◌, IfOk, OnOk};
+ghost use Rattle.kmn_base.specs.declared.limits.TheConstants.{KEY_NAMES, TEXT_BYTES};
+ghost use Rattle.rule_model.specs.Tab.{tab_dictionary};
+ghost use Rattle.kmn_text.specs.Programs.{program_text};
+ghost use Rattle.decompile_laws.specs.Back.{back, names_for, free_stores, mark_stores, key_stores};
+ghost use Rattle.decompile_text.specs.Pages.{with_text};
+ghost use Rattle.decompile_text.specs.Whole.{front_text, tables_text, IsFront};
+
+use crate::front::{put_key_store, put_mark_store, put_version};
+use crate::lines::{put_begins, put_groups, put_stores};
+use crate::page::Page;
+use decompile_names::{Called, greatest_mark, own_keys};
+use indexed_tables::IndexedTables;
+use kmn_base::{Memory, Text};
+use rule_model::Tables;
+use std::alloc::Global;
+
+/// The name at a place, empty where there is none.
+fn name_at(names: &[Text], place: usize) -> &[u8]
+    ensures { result.now ≡ unwrap_or (slice_get names.now place) [] }
+{
+    match names.get(place) {
+        Some(name) => name.as_slice(),
+        None => &[],
+    }
+}
+
+/// What stands in front of the stores of a file: the greatest number of a deadkey, and the keys of the keyboard's own.
+#[derive(Drop)]
+pub struct Front {
+    pub marks: u16,
+    pub keys: Vec<Text>,
+}
+
+/// 1 where there is something, else 0.
+fn one_if(some: bool) -> usize
+    ensures { result ≡ (if some then 1 else 0) }
+{
+    if some { 1 } else { 0 }
+}
+
+/// What stands in front of the stores of tables.
+#[tactic(auto, unfolding(rule_model::specs::Tab::tab))]
+pub fn front_of(
+    alloc: Global,
+    indexed: &IndexedTables<'_>,
+    tables: &Tables,
+) -> Result<Front, Memory>
+    requires indexed { indexed.now ≡ tables.now }
+    requires few { length (tab_dictionary tables.now.stores) ≤ KEY_NAMES }
+    ensures { IfOk result (λ front. IsFront tables.now front) }
+{
+    Ok(Front {
+        marks: greatest_mark(tables),
+        keys: own_keys(alloc, indexed)?,
+    })
+}
+
+/// How many stores stand in front.
+#[tactic(auto, using(crate::proofs::FrontCounts::mark_count, crate::proofs::FrontCounts::key_count))]
+pub fn front_count(front: &Front, tables: &Tables) -> usize
+    requires { IsFront tables.now front.now }
+    ensures { result ≡ length (mark_stores tables.now ++ key_stores tables.now) }
+{
+    one_if(front.marks > 0) + one_if(front.keys.len() > 0)
+}
+
+/// At which of the free names that of the keys' store stands.
+#[tactic(auto, using(crate::proofs::FrontCounts::mark_count))]
+fn key_place(front: &Front, tables: &Tables) -> usize
+    requires { IsFront tables.now front.now }
+    ensures { result ≡ length (mark_stores tables.now) }
+{
+    one_if(front.marks > 0)
+}
+
+/// Puts the version and the stores in front, which take the first of the free names.
+fn put_front(page: &mut Page, front: &Front, tables: &Tables, free: &[Text]) -> Result<(), Memory>
+    requires front { IsFront tables.now front.now }
+    requires free { free.now ≡ free_stores tables.now }
+    ensures { OnOk result (page.new ≡ with_text page.old (front_text tables.now)) }
+{
+    let first = name_at(free, 0);
+    let place = key_place(front, tables);
+    let second = name_at(free, place);
+    let keys = front.keys.as_slice();
+    put_version(page, tables.version)?;
+    put_mark_store(page, first, front.marks)?;
+    put_key_store(page, second, keys)?;
+    Ok(())
+}
+
+/// Puts the text of tables.
+#[tactic(auto, using(crate::proofs::MoreText::with_text_append, crate::proofs::OneByOne::stores_are, crate::proofs::OneByOne::groups_are), unfolding(crate::specs::Whole::tables_text))]
+fn put_tables(
+    page: &mut Page,
+    front: &Front,
+    names: &Called<'_>,
+    tables: &Tables,
+    free: &[Text],
+) -> Result<(), Memory>
+    requires front { IsFront tables.now front.now }
+    requires free { free.now ≡ free_stores tables.now }
+    requires names { names.now ≡ names_for tables.now }
+    ensures { OnOk result (page.new ≡ with_text page.old (tables_text tables.now)) }
+{
+    put_front(page, front, tables, free)?;
+    put_stores(page, names, tables.stores.as_slice())?;
+    put_begins(page, names, tables.start_unicode, tables.start_ansi)?;
+    put_groups(page, names, tables.groups.as_slice())
+}
+
+/// The text of tables, where it is within the limit of a text, and its size.
+#[tactic(auto, using(crate::proofs::FrontTexts::text_of_tables, crate::proofs::MoreText::page_size, crate::proofs::MoreText::page_text))]
+pub fn page_of(
+    alloc: Global,
+    front: &Front,
+    names: &Called<'_>,
+    tables: &Tables,
+    free: &[Text],
+) -> Result<Page, Memory>
+    requires front { IsFront tables.now front.now }
+    requires free { free.now ≡ free_stores tables.now }
+    requires names { names.now ≡ names_for tables.now }
+    ensures size { IfOk result (λ page. page.size ≡ length (program_text (back tables.now))) }
+    ensures text { IfOk result (λ page. nat_lt TEXT_BYTES page.size ≡ false → page.text ≡ program_text (back tables.now)) }
+{
+    let mut page = Page::new(alloc);
+    put_tables(&mut page, front, names, tables, free)?;
+    Ok(page)
+}

@@ -1,6 +1,0 @@
-use Rattle.std.proofs.Common.{◌≡◌, drop}
-use Rattle.file_text.specs.OneByOne.{with_outputs}
-use Rattle.file_text.proofs.lines.put_outputs.Given as goal
-
-abbrev pub invariant-loop-output : goal.invariant-loop-output
-invariant-loop-output l = with_outputs l.names l.page (drop l.output-index l.outputs) ≡ with_outputs l.names l.initial.page l.outputs

@@ -1,9 +1,0 @@
-use Rattle.file_text.proofs.FrontPuts.{front_puts}
-use Rattle.file_text.proofs.writing.put_front.Goals as goal
-
-pub returns : goal.returns
-returns c =
-    front_puts c.args.tables.now c.args.front.now c.args.free.now c.as_slice-keys.result.now c.key_place-place.result c.name_at-first.result.now c.name_at-second.result.now
-    c.args.page.now c.put_version.new.page c.put_mark_store.new.page c.put_key_store.new.page
-    c.requires.front c.requires.free c.name_at-first.ensures c.key_place-place.ensures c.name_at-second.ensures c.as_slice-keys.ensures.value
-    c.in_ok-put_version.ensures c.in_ok-put_mark_store.ensures c.in_ok-put_key_store.ensures

@@ -1,0 +1,59 @@
+-- Items that a text can say are read as they are written.
+use Rattle.std.proofs.Common.{◌≡◌, ℕ, ◌<◌, true, List, [], ◌∷◌, length, refl, arith}
+use Rattle.rule_model.specs.declared.program.KeyName.{KeyName}
+use Rattle.rule_model.specs.declared.program.SrcItem.{SrcItem}
+use Rattle.rule_model.specs.declared.program.SrcItem.TheVariants as source
+use Rattle.kmn_items.specs.declared.syntax.Where.{Where}
+use Rattle.kmn_items.specs.declared.syntax.Where.TheVariants as section
+use Rattle.kmn_items.specs.declared.syntax.Seen.{Seen}
+use Rattle.kmn_items.specs.Brackets.{key_item}
+use Rattle.kmn_text.specs.Items.{item_pieces}
+use Rattle.kmn_text.specs.Spelled.{IsStoreName, IsSpelledValue, keeps_keys, IsSpelledItem, item_lead, seen_lead, AreSpelled}
+use Rattle.kmn_text.proofs.LineForms.{tokens_in}
+use Rattle.kmn_text.proofs.Forms.{IsPrintedOption, IsPrinted, ArePrinted}
+use Rattle.kmn_text.proofs.Names.{spelled_name}
+use Rattle.kmn_text.proofs.Values.{spelled_value}
+use Rattle.kmn_text.proofs.Offsets.{spelled_offset}
+use Rattle.kmn_text.proofs.Keys.{spelled_key}
+
+key-stays : (place : Where) (key : KeyName) → keeps_keys place ≡ true → key_item place key ≡ source.Key key
+key-stays section.Output key e = absurd cc
+key-stays section.Store key e = refl
+key-stays section.Context key e = refl
+key-stays section.Key key e = refl
+
+spelled-option : (name value : List ℕ) → IsStoreName name → IsSpelledValue value → IsPrintedOption name value
+spelled-option name value ok fits =
+    let read = spelled_value value fits in
+    record { named = spelled_name name ok.named; ordinary = ok.ordinary; read = read.read; sound = read.sound }
+
+pub spelled_item : (place : Where) (i : SrcItem) → IsSpelledItem place i → IsPrinted place i
+spelled_item place (source.Char c) ok = ok
+spelled_item place (source.Dead name) ok = spelled_name name ok
+spelled_item place (source.Key key) ok = (spelled_key key ok.1, key-stays place key ok.0)
+spelled_item place (source.Any name) ok = spelled_name name ok
+spelled_item place (source.NotAny name) ok = spelled_name name ok
+spelled_item place (source.Index name offset) ok = (spelled_name name ok.0, spelled_offset offset ok.1)
+spelled_item place source.Context ok = tt
+spelled_item place (source.ContextAt offset) ok = spelled_offset offset ok
+spelled_item place (source.Equal name value) ok = spelled-option name value ok.0 ok.1
+spelled_item place (source.Unequal name value) ok = spelled-option name value ok.0 ok.1
+spelled_item place source.Nul ok = tt
+spelled_item place (source.Enter name) ok = spelled_name name ok
+spelled_item place (source.Set name value) ok = spelled-option name value ok.0 ok.1
+spelled_item place (source.Save name) ok = spelled_name name ok
+spelled_item place (source.Reset name) ok = spelled_name name ok
+spelled_item place source.Beep ok = tt
+spelled_item place source.Stop ok = tt
+spelled_item place other ok = absurd ok
+
+pub spelled_items : (place : Where) (seen : Seen) (items : List SrcItem) → AreSpelled place seen items → ArePrinted place seen items
+spelled_items place seen [] ok = tt
+spelled_items place seen (i ∷ items) (ok, stands, more) = (spelled_item place i ok, stands, spelled_items place (seen_lead seen (item_lead i)) items more)
+
+-- an item that is written has a token
+pub item_some : (place : Where) (i : SrcItem) → IsPrinted place i → 0 < length (tokens_in (item_pieces i))
+item_some place (source.Outs name) ok = absurd ok
+item_some place (source.Call name) ok = absurd ok
+item_some place source.OutOfProfile ok = absurd ok
+item_some place i ok = omega arith
