@@ -1,45 +1,48 @@
 # Draws keys (place, width and name, row by row, a blank line between rows) with what they give: lines of modifiers, key, what
 # stands before the caret, whether the key is passed on, and beeps. The four cells of a key are plain below left, SHIFT above
-# left, RALT below right, and both above right.
+# left, RALT below right, and both above right. With `caps` a third row below them has caps lock, and caps lock with RALT.
 BEGIN {
     unit = 64; gap = 4; top = 44
+    rows = caps == "" ? 2 : 3; high = caps == "" ? unit : 90
+    column["CAPS"] = 0; row["CAPS"] = 2
+    column["CAPS+RALT"] = 1; row["CAPS+RALT"] = 2
     column["-"] = 0; row["-"] = 1
     column["SHIFT"] = 0; row["SHIFT"] = 0
     column["RALT"] = 1; row["RALT"] = 1
     column["SHIFT+RALT"] = 1; row["SHIFT+RALT"] = 0
-    print "<svg xmlns=\"http://www.w3.org/2000/svg\" viewBox=\"0 0 " 14.5 * unit + 16 " " 5 * unit + top + 44 "\" font-family=\"sans-serif\" text-anchor=\"middle\">"
+    print "<svg xmlns=\"http://www.w3.org/2000/svg\" viewBox=\"0 0 " 14.5 * unit + 16 " " 5 * high + top + 44 "\" font-family=\"sans-serif\" text-anchor=\"middle\">"
     print "<rect width=\"100%\" height=\"100%\" fill=\"#ffffff\"/>"
     print "<text x=\"10\" y=\"28\" font-size=\"18\" text-anchor=\"start\" fill=\"#222222\">" escaped(title) "</text>"
 }
 
 /^#/ { next }
 FNR == NR && NF == 0 { line++; next }
-FNR == NR { place[$3] = 8 + $1 * unit; height[$3] = top + line * unit; width[$3] = $2 * unit - gap; frame($3); next }
+FNR == NR { place[$3] = 8 + $1 * unit; height[$3] = top + line * high; width[$3] = $2 * unit - gap; frame($3); next }
 { cell($2, $1, $3, $4, $5) }
 
 END {
-    y = top + 5 * unit + 22
+    y = top + 5 * high + 22; x = caps == "" ? 0 : 110
     print "<g font-size=\"13\" text-anchor=\"start\" fill=\"#444444\">"
-    print "<text x=\"10\" y=\"" y "\">in each key: SHIFT above, RALT right</text>"
-    print "<circle cx=\"284\" cy=\"" y - 5 "\" r=\"9\" fill=\"none\" stroke=\"#b04a00\" stroke-width=\"1.5\"/><text x=\"300\" y=\"" y "\">deadkey by its number</text>"
-    bell(484, y - 5); print "<text x=\"500\" y=\"" y "\">beep</text>"
-    print "<rect x=\"560\" y=\"" y - 14 "\" width=\"18\" height=\"18\" fill=\"#dddddd\"/><text x=\"586\" y=\"" y "\">passed on to the application</text>"
+    print "<text x=\"10\" y=\"" y "\">in each key: SHIFT above, " (caps == "" ? "" : "caps lock below, ") "RALT right</text>"
+    print "<circle cx=\"" x + 284 "\" cy=\"" y - 5 "\" r=\"9\" fill=\"none\" stroke=\"#b04a00\" stroke-width=\"1.5\"/><text x=\"" x + 300 "\" y=\"" y "\">deadkey by its number</text>"
+    bell(x + 484, y - 5); print "<text x=\"" x + 500 "\" y=\"" y "\">beep</text>"
+    print "<rect x=\"" x + 560 "\" y=\"" y - 14 "\" width=\"18\" height=\"18\" fill=\"#dddddd\"/><text x=\"" x + 586 "\" y=\"" y "\">passed on to the application</text>"
     print "</g>"
     print "</svg>"
 }
 
 # The frame of a key.
 function frame(key) {
-    print "<rect x=\"" place[key] "\" y=\"" height[key] "\" width=\"" width[key] "\" height=\"" unit - gap "\" rx=\"6\" fill=\"#ffffff\" stroke=\"#888888\"/>"
+    print "<rect x=\"" place[key] "\" y=\"" height[key] "\" width=\"" width[key] "\" height=\"" high - gap "\" rx=\"6\" fill=\"#ffffff\" stroke=\"#888888\"/>"
 }
 
 # What a key gives with some modifiers.
-function cell(key, mods, given, passed, beeps,    x, y, wide, high) {
-    wide = (width[key] - 4) / 2; high = (unit - gap - 4) / 2
-    x = place[key] + 2 + column[mods] * wide; y = height[key] + 2 + row[mods] * high
-    if (passed) print "<rect x=\"" x "\" y=\"" y "\" width=\"" wide "\" height=\"" high "\" rx=\"4\" fill=\"#dddddd\"/>"
-    if (beeps > 0) bell(x + wide / 2, y + high / 2)
-    if (given != "-") items(given, x + wide / 2, y + high / 2, wide)
+function cell(key, mods, given, passed, beeps,    x, y, wide, tall) {
+    wide = (width[key] - 4) / 2; tall = (high - gap - 4) / rows
+    x = place[key] + 2 + column[mods] * wide; y = height[key] + 2 + row[mods] * tall
+    if (passed) print "<rect x=\"" x "\" y=\"" y "\" width=\"" wide "\" height=\"" tall "\" rx=\"4\" fill=\"#dddddd\"/>"
+    if (beeps > 0) bell(x + wide / 2, y + tall / 2)
+    if (given != "-") items(given, x + wide / 2, y + tall / 2, wide)
 }
 
 # A mark for a beep.

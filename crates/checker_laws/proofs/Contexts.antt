@@ -1,8 +1,8 @@
 -- The offsets of an accepted program's contexts point to what they may, and its contexts can be written.
-use Rattle.std.proofs.Common.{◌≡◌, ℕ, zero, suc, ◌+◌, ◌<◌, ◌≤◌, inl, inr, Bool, true, List, [], ◌∷◌, ◌++◌, length, map, take, Option, Some, None, refl, sym, ap, subst, ◌∙◌, arith, append-nil, append_assoc, length-append}
-use Rattle.std.specs.Prelude.{All, slice_get, slice_index_or, IsSomeAnd, option_map, flat_map, ◌&&◌}
+use Rattle.std.proofs.Common.{◌≡◌, ℕ, zero, suc, ◌+◌, ◌<◌, ◌≤◌, inl, inr, Bool, true, false, List, [], ◌∷◌, ◌++◌, length, map, take, Option, Some, None, refl, sym, ap, subst, ◌∙◌, arith, append-nil, append_assoc, length-append}
+use Rattle.std.specs.Prelude.{All, slice_get, slice_index_or, IsSomeAnd, option_map, flat_map, nat_eq, ◌&&◌, ◌||◌}
 use Rattle.std.specs.List.{list_all}
-use Rattle.std.proofs.lemmas.Bool.{and_parts, not-false}
+use Rattle.std.proofs.lemmas.Bool.{and_parts, not-false, eqb-true}
 use Rattle.std.proofs.lemmas.Option.{slice_get-map, slice_get_cases}
 use Rattle.std.proofs.lemmas.List.{map-append, length-map}
 use Rattle.std.proofs.lemmas.List.Elements.{All-nil, All-cons, All-head, All-tail, All-append}
@@ -87,15 +87,17 @@ module _ (numbers : Numbers) where
       → PointsBack (take place (map (file_pattern numbers) context)) (slice_index_or (map (file_pattern numbers) context) place d)
   context_offsets context h place d within = offsets_from [] context h place d (omega (arith, length-map context (file_pattern numbers)))
 
-  -- no item of a source becomes a condition on a system option that a file can't have
-  system_ids : (context : List SrcItem) → All (λ item. has_system_id item ≡ true) (map (file_pattern numbers) context)
-  system_ids [] = All-nil (λ item. has_system_id item ≡ true)
-  system_ids (item ∷ items) =
-      All-cons (λ item. has_system_id item ≡ true) (file_pattern numbers item) (map (file_pattern numbers) items) (one item) (system_ids items)
-    where
-      one : (item : SrcItem) → has_system_id (file_pattern numbers item) ≡ true
-      one (source.Char c) = refl
-      one item = refl
+  -- a condition that is read asks only for a system option that a file can have
+  system_id : (item : SrcItem) → IsReadItem item → has_system_id (file_pattern numbers item) ≡ true
+  system_id (source.SystemEqual id value) is = is.0
+  system_id (source.SystemUnequal id value) is = is.0
+  system_id (source.Char c) is = refl
+  system_id item is = refl
+
+  system_ids : (context : List SrcItem) → All IsReadItem context → All (λ item. has_system_id item ≡ true) (map (file_pattern numbers) context)
+  system_ids [] is = All-nil (λ item. has_system_id item ≡ true)
+  system_ids (item ∷ items) is =
+      All-cons (λ item. has_system_id item ≡ true) (file_pattern numbers item) (map (file_pattern numbers) items) (system_id item (All-head IsReadItem item items is)) (system_ids items (All-tail IsReadItem item items is))
 
 -- an offset that points to an item is that of one
 pub pointed : (test : SrcItem → Bool) (items : List SrcItem) (offset : ℕ) → points_to test items offset ≡ true → (0 < offset) × (offset ≤ length items)
@@ -114,6 +116,14 @@ index_points before store offset h = not-false (points_to is_pattern_item before
 
 context_points : (before : List SrcItem) (offset : ℕ) → context_item_code before (source.ContextAt offset) ≡ None → points_to is_pattern_item before offset ≡ true
 context_points before offset h = not-false (points_to is_pattern_item before offset) (none_broken C08 (misses_pattern before offset) [] h).0
+
+-- the id of a system option, counted from 1, is an operand
+option_fits : (id : ℕ) → (nat_eq id 31 || nat_eq id 33) ≡ true → IsOperand (id + 1)
+option_fits id h = by (nat_eq id 31) refl h
+  where
+    by : (b : Bool) → nat_eq id 31 ≡ b → (b || nat_eq id 33) ≡ true → IsOperand (id + 1)
+    by true is g = let same = eqb-true id 31 is in (omega arith, omega arith)
+    by false is g = let same = eqb-true id 33 g in (omega arith, omega arith)
 
 -- an item of a context that is written: it is spelled, and names stores of the file
 pub record PatternIsWritten (store_count : ℕ) (item : Pat) : Type 0 where
@@ -168,6 +178,12 @@ module _ (program : Program) (read : IsRead program) (whole : IsUnrefused progra
       let fits = store_fits store known in
       let valued = value_fits value (only_value value values) in
       record { spelled = (fits.1, inl refl, valued.1); stores = two_stores _ _ fits.0 valued.0 }
+  pattern_written before (source.SystemEqual id value) short code is known values =
+      let valued = value_fits value (only_value value values) in
+      record { spelled = (option_fits id is.0, inr refl, valued.1); stores = one_store _ valued.0 }
+  pattern_written before (source.SystemUnequal id value) short code is known values =
+      let valued = value_fits value (only_value value values) in
+      record { spelled = (option_fits id is.0, inl refl, valued.1); stores = one_store _ valued.0 }
   pattern_written before item short code is known values = record { spelled = tt; stores = All-nil (λ store. store < count) }
 
   -- the items of a context
@@ -196,7 +212,7 @@ module _ (program : Program) (read : IsRead program) (whole : IsUnrefused progra
       record {
         items = written.spelled;
         stores = written.stores;
-        systems = system_ids (numbers_of program) context;
+        systems = system_ids (numbers_of program) context is;
         offsets = context_offsets (numbers_of program) context code;
         item_count = omega (arith, length-map context (file_pattern (numbers_of program)));
       }

@@ -11,7 +11,10 @@ pub mod Numbers
 pub mod Elements
 pub mod Contexts
 pub mod Outputs
+pub mod Halves
 pub mod Records
+pub mod Cased
+pub mod RecordCounts
 pub mod Written
 pub mod Sources
 pub mod Placeless

@@ -2,7 +2,7 @@
 use Rattle.std.proofs.Common.{◌≡◌, ℕ, zero, suc, ◌+◌, ◌<◌, ◌≤◌, Bool, true, false, List, [], ◌∷◌, ◌++◌, length, map, Option, Some, None, is_some, refl, sym, ap, subst, ◌∙◌, arith, length-append, if◌then◌else◌, lit≤}
 use Rattle.std.specs.Prelude.{All, flat_map, nat_eq, ◌&&◌}
 use Rattle.std.specs.List.{list_all}
-use Rattle.std.proofs.lemmas.Bool.{and_parts, not-false}
+use Rattle.std.proofs.lemmas.Bool.{and_parts, not-false, eqb-true}
 use Rattle.std.proofs.lemmas.List.Elements.{All-nil, All-cons, All-head, All-tail, All-append}
 use Rattle.std.proofs.lemmas.List.Concat.{flat_map-append}
 use Rattle.std.proofs.lemmas.List.Sums.{sum-map, sum_by-cons}
@@ -39,6 +39,10 @@ use Rattle.checker_laws.proofs.Numbers.{group_number}
 use Rattle.checker_laws.proofs.Elements.{IsSoundElement, found_sound, stated_sound, mark_operand}
 use Rattle.checker_laws.proofs.Contexts.{matched, any_there, pointing, pointed, store_fits, value_fits, one_store, two_stores, only_value}
 use Rattle.checker_laws.proofs.Named.{never_both}
+
+-- the id of the layer, counted from 1, is an operand
+layer_fits : (id : ℕ) → nat_eq id 33 ≡ true → IsOperand (id + 1)
+layer_fits id h = let same = eqb-true id 33 h in (omega arith, omega arith)
 
 module _ (program : Program) (read : IsRead program) (whole : IsUnrefused program) where
   abbrev stores : ℕ
@@ -100,6 +104,7 @@ module _ (program : Program) (read : IsRead program) (whole : IsUnrefused progra
     mark : (m : ℕ) → P (output.Mark m)
     enter : (group : ℕ) → P (output.Enter group)
     set : (store value : ℕ) → P (output.Set store value)
+    set_system : (id value : ℕ) → P (output.SetSystem id value)
     save : (store : ℕ) → P (output.Save store)
     reset : (store : ℕ) → P (output.Reset store)
     nul : P output.Nul
@@ -150,6 +155,9 @@ module _ (program : Program) (read : IsRead program) (whole : IsUnrefused progra
       let fits = store_fits program read whole store named in
       let valued = value_fits program read whole value (only_value program read whole value values) in
       one_out P (output.Set _ _) (fits.1, valued.1) (two_stores program read whole _ _ fits.0 valued.0) no_group (plain.set _ _) refl
+  plain_written P plain before place (source.SetSystem id value) is named values no_index no_context no_place =
+      let valued = value_fits program read whole value (only_value program read whole value values) in
+      one_out P (output.SetSystem _ _) (layer_fits id is.0, valued.1) (one_store program read whole _ valued.0) no_group (plain.set_system _ _) is.0
   plain_written P plain before place (source.Save store) is named values no_index no_context no_place =
       let fits = store_fits program read whole store named in
       one_out P (output.Save _) fits.1 (one_store program read whole _ fits.0) no_group (plain.save _) refl
@@ -186,6 +194,7 @@ module _ (program : Program) (read : IsRead program) (whole : IsUnrefused progra
       mark = λ m. tt;
       enter = λ group. tt;
       set = λ store value. tt;
+      set_system = λ id value. tt;
       save = λ store. tt;
       reset = λ store. tt;
       nul = tt;
@@ -259,6 +268,7 @@ module _ (program : Program) (read : IsRead program) (whole : IsUnrefused progra
     mark = λ m. refl;
     enter = λ group. refl;
     set = λ store value. refl;
+    set_system = λ id value. refl;
     save = λ store. refl;
     reset = λ store. refl;
     nul = refl;

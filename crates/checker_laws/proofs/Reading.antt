@@ -128,11 +128,14 @@ word_read name own =
 pub words_read : (program : Program) → IsReadProgram program → list_all is_word (names_of program).keys ≡ true
 words_read program read = all_pass IsOwnKey is_word word_read (names_of program).keys (own_keys_read program read)
 
--- the values of conditions and of `set`
+-- the values of conditions and of `set`, also those of system options
 value_of_read : (item : SrcItem) → IsReadItem item → All (All IsCharacter) (item_values item)
 value_of_read (source.Equal store value) read = All-cons (All IsCharacter) value [] read (All-nil (All IsCharacter))
 value_of_read (source.Unequal store value) read = All-cons (All IsCharacter) value [] read (All-nil (All IsCharacter))
 value_of_read (source.Set store value) read = All-cons (All IsCharacter) value [] read (All-nil (All IsCharacter))
+value_of_read (source.SystemEqual id value) read = All-cons (All IsCharacter) value [] read.1 (All-nil (All IsCharacter))
+value_of_read (source.SystemUnequal id value) read = All-cons (All IsCharacter) value [] read.1 (All-nil (All IsCharacter))
+value_of_read (source.SetSystem id value) read = All-cons (All IsCharacter) value [] read.1 (All-nil (All IsCharacter))
 value_of_read item read = All-nil (All IsCharacter)
 
 pub rule_values_read : (program : Program) → IsReadProgram program → All (All IsCharacter) (flat_map item_values (flat_map rule_items (all_rules program)))

@@ -19,11 +19,12 @@ use Rattle.rule_model.specs.declared.program.RuleKind.{RuleKind}
 use Rattle.rule_model.specs.declared.program.RuleKind.TheVariants as kind
 use Rattle.rule_model.specs.declared.program.GroupDef.{GroupDef}
 use Rattle.rule_model.specs.declared.program.Program.{Program}
+use Rattle.rule_model.specs.declared.tables.Rule.{Rule}
 use Rattle.rule_model.specs.Hold.{key_of_element}
 use Rattle.rule_model.specs.Naming.{stores_of, elements_named, rule_items}
 use Rattle.rule_model.specs.Src.{is_plain, is_plain_kind, is_match_kind, is_nomatch_kind, is_on_match, is_on_nomatch}
 use Rattle.compile_laws.specs.Numbers.{numbers_of, compiled_stores}
-use Rattle.compile_laws.specs.Compiles.{file_record, records_from, own_key, keyed_records, rule_records, statement_outputs, file_group}
+use Rattle.compile_laws.specs.Compiles.{has_halves, half_key, file_record, key_records, records_from, own_key, keyed_records, rule_records, statement_outputs, file_group}
 use Rattle.compile_laws.specs.Ordered.{in_order, ordered_group}
 use Rattle.compile_laws.specs.WellNamed.{is_known_pattern, is_known_output, is_known_key, is_known_rule}
 use Rattle.compile_laws.proofs.Known.{has_values}
@@ -40,6 +41,7 @@ use Rattle.checker_laws.proofs.Accepted.{IsUnrefused}
 use Rattle.checker_laws.proofs.Within.{IsShortRule}
 use Rattle.checker_laws.proofs.Numbers.{has_keys}
 use Rattle.checker_laws.proofs.Elements.{IsSoundElement, found_sound, stated_sound, key_sound, name_written}
+use Rattle.checker_laws.proofs.Halves.{half_written}
 use Rattle.checker_laws.proofs.Contexts.{context_written}
 use Rattle.checker_laws.proofs.Outputs.{rule_output_written, match_output_written}
 
@@ -108,9 +110,9 @@ module _ (program : Program) (read : IsRead program) (whole : IsUnrefused progra
       record { patterns = two.0; outputs = three.1; context_values = items.0; output_values = outputs.1; key_own = key_own.0 }
 
   -- a record of a plain rule
-  record_written : (using_keys : Bool) (rule : RuleDef) → IsSoundRule program using_keys rule → plain_code (known program) rule ≡ None → (place : Option ℕ) (wanted : RuleKey) → IsWritableKey using_keys wanted
-      → IsWritableRule stores groups using_keys (file_record (numbers_of program) rule place wanted)
-  record_written using_keys rule sound code place wanted key =
+  record_written : (using_keys : Bool) (rule : RuleDef) → IsSoundRule program using_keys rule → plain_code (known program) rule ≡ None → (place : Option ℕ) (half : ℕ) (wanted : RuleKey) → IsWritableKey using_keys wanted
+      → IsWritableRule stores groups using_keys (file_record (numbers_of program) rule place half wanted)
+  record_written using_keys rule sound code place half wanted key =
       let codes = none_both (context_code [] rule.context) (or_else (key_code (known program) rule.key) (first_code (rule_output_code (known program) rule) rule.output)) code in
       let more = none_both (key_code (known program) rule.key) (first_code (rule_output_code (known program) rule) rule.output) codes.1 in
       let parts = rule_parts using_keys rule sound in
@@ -123,6 +125,24 @@ module _ (program : Program) (read : IsRead program) (whole : IsUnrefused progra
         offsets = outputs.1;
       }
 
+  -- the records of a plain rule for a key
+  key_written : (using_keys : Bool) (rule : RuleDef) → IsSoundRule program using_keys rule → plain_code (known program) rule ≡ None → (place : Option ℕ) (wanted : RuleKey) → IsWritableKey using_keys wanted
+      → All (IsWritableRule stores groups using_keys) (key_records (numbers_of program) rule place wanted)
+  key_written using_keys rule sound code place wanted key = by (has_halves (numbers_of program).cased wanted)
+    where
+      one : (half : ℕ) (k : RuleKey) → IsWritableKey using_keys k → (rest : List Rule) → All (IsWritableRule stores groups using_keys) rest
+          → All (IsWritableRule stores groups using_keys) (file_record (numbers_of program) rule place half k ∷ rest)
+      one half k is rest more =
+          All-cons (IsWritableRule stores groups using_keys) (file_record (numbers_of program) rule place half k) rest (record_written using_keys rule sound code place half k is) more
+
+      by : (b : Bool) → All (IsWritableRule stores groups using_keys)
+          (if b then file_record (numbers_of program) rule place 0 (half_key 0 wanted) ∷ file_record (numbers_of program) rule place 1 (half_key 1 wanted) ∷ []
+          else file_record (numbers_of program) rule place 0 wanted ∷ [])
+      by true =
+          one 0 (half_key 0 wanted) (half_written using_keys 0 wanted key) (file_record (numbers_of program) rule place 1 (half_key 1 wanted) ∷ [])
+          (one 1 (half_key 1 wanted) (half_written using_keys 1 wanted key) [] (All-nil (IsWritableRule stores groups using_keys)))
+      by false = one 0 wanted key [] (All-nil (IsWritableRule stores groups using_keys))
+
   -- the key that an element of a key store stands for
   element_key : (e : Element) → IsSoundElement e → is_unfit_key e ≡ false → IsWritableKey true (unwrap_or (key_of_element e) key.Any)
   element_key (element.Char c) is fit = small_unit c fit
@@ -134,30 +154,25 @@ module _ (program : Program) (read : IsRead program) (whole : IsUnrefused progra
   store_records_written rule sound code place [] is fit = All-nil (IsWritableRule stores groups true)
   store_records_written rule sound code place (e ∷ elements) is fit =
       let both = or_parts (is_unfit_key e) (list_any is_unfit_key elements) fit in
-      All-cons (IsWritableRule stores groups true) (file_record (numbers_of program) rule (Some place) (unwrap_or (key_of_element e) key.Any)) (records_from (numbers_of program) rule (place + 1) elements)
-      (record_written true rule sound code (Some place) (unwrap_or (key_of_element e) key.Any) (element_key e (All-head IsSoundElement e elements is) both.0))
+      All-append (IsWritableRule stores groups true) (key_records (numbers_of program) rule (Some place) (unwrap_or (key_of_element e) key.Any)) (records_from (numbers_of program) rule (place + 1) elements)
+      (key_written true rule sound code (Some place) (unwrap_or (key_of_element e) key.Any) (element_key e (All-head IsSoundElement e elements is) both.0))
       (store_records_written rule sound code (place + 1) elements (All-tail IsSoundElement e elements is) both.1)
 
   fit_elements : (elements : List Element) → are_unfit_keys elements ≡ false → list_any is_unfit_key elements ≡ false
   fit_elements [] h = absurd (cc)
   fit_elements (e ∷ elements) h = h
 
-  one_record : (using_keys : Bool) (rule : RuleDef) → IsSoundRule program using_keys rule → plain_code (known program) rule ≡ None → (wanted : RuleKey) → IsWritableKey using_keys wanted
-      → All (IsWritableRule stores groups using_keys) (file_record (numbers_of program) rule None wanted ∷ [])
-  one_record using_keys rule sound code wanted key =
-      All-cons (IsWritableRule stores groups using_keys) (file_record (numbers_of program) rule None wanted) [] (record_written using_keys rule sound code None wanted key) (All-nil (IsWritableRule stores groups using_keys))
-
   keyed_written : (using_keys : Bool) (rule : RuleDef) → IsSoundRule program using_keys rule → plain_code (known program) rule ≡ None → (item : Option SrcItem) → is_some item ≡ using_keys
       → IfSome item (λ i. StandsAsKey i × IsReadItem i) → list_all (has_keys program) (option_to_list item) ≡ true → key_code (known program) item ≡ None
       → All (IsWritableRule stores groups using_keys) (keyed_records (numbers_of program) rule item)
   unfolding known
   keyed_written true rule sound code None keyed is own fit = absurd (cc)
-  keyed_written false rule sound code None keyed is own fit = one_record false rule sound code key.Any tt
+  keyed_written false rule sound code None keyed is own fit = key_written false rule sound code None key.Any tt
   keyed_written false rule sound code (Some item) keyed is own fit = absurd (cc)
-  keyed_written true rule sound code (Some (source.Char c)) keyed is own fit = one_record true rule sound code (key.Char c) (small_unit c (none_broken C10 (is_far c) [] fit).0)
+  keyed_written true rule sound code (Some (source.Char c)) keyed is own fit = key_written true rule sound code None (key.Char c) (small_unit c (none_broken C10 (is_far c) [] fit).0)
   keyed_written true rule sound code (Some (source.Key k)) keyed is own fit =
       let key_is = key_sound program read whole k is.1 (and_parts (has_keys program (source.Key k)) true own).0 in
-      one_record true rule sound code (own_key (numbers_of program) (Some (source.Key k))) (key_is.virtual, key_is.known, key_is.fits)
+      key_written true rule sound code None (own_key (numbers_of program) (Some (source.Key k))) (key_is.virtual, key_is.known, key_is.fits)
   keyed_written true rule sound code (Some (source.Any store)) keyed is own fit =
       let rows = none_broken C10 (is_unfit_store (known program) store) ((C13, is_option (known program) store) ∷ []) fit in
       store_records_written rule sound code 0 (elements_named (stores_of program) store) (found_sound (stores_of program) (stated_sound program read whole) store)

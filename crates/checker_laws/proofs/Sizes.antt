@@ -85,6 +85,14 @@ found_before (s ∷ before) more name h = by (same_name s.name name) h (found_be
     by true g rest = refl
     by false g rest = rest g
 
+-- the store of a statement with these elements
+abbrev pub store_with : StoreDef → List Element → Store
+store_with store elements = record { system = store.system; name = store.name; elements = elements }
+
+-- the store that a statement brings, where it is a store of the file, with the elements that the checks look at
+abbrev pub kept_store : Known → StoreDef → List Store
+kept_store facts store = if is_dropped store then [] else store_with store (statement_elements facts store) ∷ []
+
 module _ (facts : Known) (names_stated : Stated) where
   -- the elements of an item that puts no later store
   item_before : (before more : List Store) (item : SrcItem) → facts.stores ≡ before ++ more → puts_later_store (map (λ (s : Store). s.name) before) item ≡ false
@@ -128,16 +136,17 @@ module _ (facts : Known) (names_stated : Stated) where
       ap (λ (ns : List (List ℕ)). ns ++ kept_name store) same
       ∙ sym (flat_map-append kept_name before (store ∷ []) ∙ ap (λ (ns : List (List ℕ)). store_names before ++ ns) (append-nil (kept_name store)))
 
-  stores_sized : (before : List Store) (defined : List StoreDef) (stores : List StoreDef) → map (λ (s : Store). s.name) before ≡ store_names defined
+  -- the stores that statements bring have the elements that the checks look at
+  stores_kept : (before : List Store) (defined : List StoreDef) (stores : List StoreDef) → map (λ (s : Store). s.name) before ≡ store_names defined
       → first_of (store_refusal names_stated) defined stores ≡ None → facts.stores ≡ stores_onto facts.names before stores
-      → map element_count facts.stores ≡ map element_count before ++ flat_map (store_size facts) stores
-  stores_sized before defined [] names h all = ap (map element_count) all ∙ sym (append-nil (map element_count before))
-  stores_sized before defined (store ∷ stores) names h all =
+      → facts.stores ≡ before ++ flat_map (kept_store facts) stores
+  stores_kept before defined [] names h all = all ∙ sym (append-nil before)
+  stores_kept before defined (store ∷ stores) names h all =
       let both = none_earlier (store_refusal names_stated defined store) (first_of (store_refusal names_stated) (defined ++ store ∷ []) stores) h in
       let parts = none_both (broken ((C03, is_store_again (store_names defined) store) ∷ [])) (first_code (store_item_code names_stated (store_names defined)) store.items)
       (none_at_line store.line (store_code names_stated (store_names defined) store) both.0) in
       let items = subst (λ (ns : List (List ℕ)). first_code (store_item_code names_stated ns) store.items ≡ None) (sym names) parts.1 in
-      by (is_dropped store) refl items all (λ next same at. stores_sized next (defined ++ store ∷ []) stores same both.1 at)
+      by (is_dropped store) refl items all (λ next same at. stores_kept next (defined ++ store ∷ []) stores same both.1 at)
     where
       kept : (b : Bool) → is_dropped store ≡ b → map (λ (s : Store). s.name) before ++ kept_name store ≡ map (λ (s : Store). s.name) before ++ (if b then [] else store.name ∷ [])
       kept b is = ap (λ (c : Bool). map (λ (s : Store). s.name) before ++ (if c then [] else store.name ∷ [])) is
@@ -145,8 +154,8 @@ module _ (facts : Known) (names_stated : Stated) where
       by : (b : Bool) → is_dropped store ≡ b → first_code (store_item_code names_stated (map (λ (s : Store). s.name) before)) store.items ≡ None
           → facts.stores ≡ stores_onto facts.names (if b then before else before ++ store_of facts.names before store ∷ []) stores
           → ((next : List Store) → map (λ (s : Store). s.name) next ≡ store_names (defined ++ store ∷ []) → facts.stores ≡ stores_onto facts.names next stores
-          → map element_count facts.stores ≡ map element_count next ++ flat_map (store_size facts) stores)
-          → map element_count facts.stores ≡ map element_count before ++ ((if b then [] else length (statement_elements facts store) ∷ []) ++ flat_map (store_size facts) stores)
+          → facts.stores ≡ next ++ flat_map (kept_store facts) stores)
+          → facts.stores ≡ before ++ ((if b then [] else store_with store (statement_elements facts store) ∷ []) ++ flat_map (kept_store facts) stores)
       by true is items at rest =
           rest before
           (sym (append-nil (map (λ (s : Store). s.name) before)) ∙ sym (kept true is) ∙ names_next defined store (map (λ (s : Store). s.name) before) names) at
@@ -157,10 +166,25 @@ module _ (facts : Known) (names_stated : Stated) where
           rest next
           (map-append (λ (s : Store). s.name) before (store_of facts.names before store ∷ [])
           ∙ sym (kept false is) ∙ names_next defined store (map (λ (s : Store). s.name) before) names) at
-          ∙ (λ j. map-append element_count before (store_of facts.names before store ∷ []) j ++ flat_map (store_size facts) stores)
-          ∙ append_assoc (map element_count before) (length (flat_map (item_elements facts.names before) store.items) ∷ []) (flat_map (store_size facts) stores)
-          ∙ ap (λ (es : List Element). map element_count before ++ (length es ∷ flat_map (store_size facts) stores))
+          ∙ append_assoc before (store_of facts.names before store ∷ []) (flat_map (kept_store facts) stores)
+          ∙ ap (λ (es : List Element). before ++ (store_with store es ∷ flat_map (kept_store facts) stores))
           (sym (items_before before (store_of facts.names before store ∷ behind.more) store.items all_before items))
+
+-- the stores of a program that isn't refused are those of its statements
+pub program_stores : (program : Program) → IsUnrefused program → stores_of program ≡ flat_map (kept_store (known program)) program.stores
+unfolding known stores_of
+program_stores program whole = stores_kept (known program) (stated program) [] [] program.stores refl whole.stores refl
+
+stores_sized : (facts : Known) (stores : List StoreDef) → map element_count (flat_map (kept_store facts) stores) ≡ flat_map (store_size facts) stores
+stores_sized facts [] = refl
+stores_sized facts (store ∷ stores) =
+    map-append element_count (kept_store facts store) (flat_map (kept_store facts) stores)
+    ∙ (λ j. by (is_dropped store) j ++ stores_sized facts stores j)
+  where
+    by : (b : Bool) → map element_count (if b then [] else store_with store (statement_elements facts store) ∷ [])
+        ≡ (if b then [] else length (statement_elements facts store) ∷ [])
+    by true = refl
+    by false = refl
 
 -- the key dictionary has the characters of its names, and a space between each two
 pub space_text : IsUtf8 (32 ∷ [])
@@ -210,7 +234,7 @@ sizes_counted program read whole =
     let items : flat_map items_of statements ≡ source_items program = items_in_order program.stores (all_rules program) in
     let stores : flat_map (statement_size (known program)) statements ≡ map element_count (stores_of program) =
     stores_in_order (known program) program.stores (all_rules program)
-    ∙ sym (stores_sized (known program) (stated program) [] [] program.stores refl whole.stores refl) in
+    ∙ sym (ap (map element_count) (program_stores program whole) ∙ stores_sized (known program) program.stores) in
     let keys : distinct_onto same_name [] (flat_map key_names (flat_map items_of statements)) ≡ (names_of program).keys =
     ap (λ (xs : List SrcItem). distinct_onto same_name [] (flat_map key_names xs)) items in
     let values : distinct_onto bytes_eq [] (flat_map values_of_statement statements) ≡ values_of program =

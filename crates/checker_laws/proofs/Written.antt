@@ -1,43 +1,36 @@
 -- The tables of an accepted program can be written, and have the records that the limits count.
-use Rattle.std.proofs.Common.{◌≡◌, ℕ, suc, ◌+◌, ◌<◌, ◌⊎◌, inl, inr, Bool, true, false, List, [], ◌∷◌, length, map, Option, Some, None, option_map, unwrap_or, refl, sym, ap, subst, ◌∙◌, arith, if◌then◌else◌, length-append}
-use Rattle.std.specs.Prelude.{All, flat_map, filter, find, ◌||◌}
-use Rattle.std.specs.List.{list_all, list_any, sum_by, AllByRecursion}
+use Rattle.std.proofs.Common.{◌≡◌, ℕ, ◌<◌, ◌⊎◌, inl, inr, Bool, true, false, List, [], ◌∷◌, length, map, Option, Some, None, option_map, unwrap_or, refl, sym, ap, subst, ◌∙◌, arith, if◌then◌else◌}
+use Rattle.std.specs.Prelude.{All, flat_map, find, ◌||◌}
+use Rattle.std.specs.List.{list_all, list_any, AllByRecursion}
 use Rattle.std.proofs.lemmas.Bool.{and_parts, not-false}
 use Rattle.std.proofs.lemmas.List.{length-map}
 use Rattle.std.proofs.lemmas.List.Elements.{All-nil, All-cons, All-head, All-tail}
-use Rattle.std.proofs.lemmas.List.Sums.{sum-map, sum_by-cons, sum_by-append}
-use Rattle.std.proofs.lemmas.List.Sorted.{length_permutation}
 use Rattle.kmn_base.specs.declared.codes.Code.TheVariants.{C02, C06}
 use Rattle.rule_model.specs.declared.program.SrcItem.{SrcItem}
-use Rattle.rule_model.specs.declared.program.SrcItem.TheVariants as source
-use Rattle.rule_model.specs.declared.program.StoreDef.{StoreDef}
 use Rattle.rule_model.specs.declared.program.BeginDef.{BeginDef}
 use Rattle.rule_model.specs.declared.program.RuleDef.{RuleDef}
-use Rattle.rule_model.specs.declared.program.RuleKind.{RuleKind}
-use Rattle.rule_model.specs.declared.program.RuleKind.TheVariants as kind
 use Rattle.rule_model.specs.declared.program.GroupDef.{GroupDef}
 use Rattle.rule_model.specs.declared.program.Program.{Program}
 use Rattle.rule_model.specs.declared.tables.Store.{Store}
 use Rattle.rule_model.specs.declared.tables.Tables.{Tables}
-use Rattle.kmn_base.specs.declared.items.Element.{Element}
 use Rattle.rule_model.specs.Match.{same_value}
-use Rattle.rule_model.specs.Naming.{stores_of, elements_named, rule_items, all_rules as program_rules, stores_before, stores_after}
-use Rattle.rule_model.specs.Src.{is_unicode, is_plain, is_plain_kind, value_elements}
+use Rattle.rule_model.specs.Naming.{stores_of, rule_items, all_rules as program_rules}
+use Rattle.rule_model.specs.Src.{is_unicode, value_elements}
 use Rattle.rule_model.specs.OwnLines.{have_own_lines}
-use Rattle.compile_laws.specs.Numbers.{Numbers, numbers_of, number_of_group, number_of_start, file_versions, stated_version, is_version as is_version_store, compiled_stores}
-use Rattle.compile_laws.specs.Compiles.{Compiles, records_from, keyed_records, rule_records, file_group, is_ansi}
-use Rattle.compile_laws.specs.Ordered.{in_order, ordered_group, compiled_tables}
+use Rattle.compile_laws.specs.Numbers.{numbers_of, number_of_group, number_of_start, file_versions, stated_version, is_version as is_version_store, compiled_stores}
+use Rattle.compile_laws.specs.Compiles.{Compiles, file_group, is_ansi}
+use Rattle.compile_laws.specs.Ordered.{ordered_group, compiled_tables}
 use Rattle.compile_laws.specs.WellNamed.{is_known_rule, is_known_group}
 use Rattle.compile_laws.proofs.Known.{has_values}
 use Rattle.compile_laws.proofs.Values.{values_known}
-use Rattle.compile_laws.proofs.Ordered.{in_order_permutes, tables_are_only_ones}
-use Rattle.kmx_format.specs.File.{all_rules, rules_of}
+use Rattle.compile_laws.proofs.Ordered.{tables_are_only_ones}
+use Rattle.kmx_format.specs.File.{all_rules}
 use Rattle.kmx_format.specs.Writable.{is_version, IsWritable, IsWritableGroup}
 use Rattle.kmn_parser.specs.ProgramLaws.{IsReadRule, IsReadGroup}
 use Rattle.store_table.specs.Names.{stated, is_named, is_begun, begins_no_group, begin_code, begin_refusal}
-use Rattle.store_table.specs.Known.{Known, known}
+use Rattle.store_table.specs.Known.{known}
 use Rattle.item_checker.specs.Items.{rule_code, rule_refusal, rules_refusal}
-use Rattle.limit_checker.specs.Limits.{OfStore, OfRule, in_line_order, key_count, record_count, records_of_statement, all_records}
+use Rattle.limit_checker.specs.Limits.{in_line_order, all_records}
 use Rattle.rule_checker.specs.Refused.{IsRead, refused}
 use Rattle.checker_laws.proofs.Unrefused.{none_at_line, none_broken, none_first, Stands}
 use Rattle.checker_laws.proofs.Lists.{all_true, All-append_parts}
@@ -48,6 +41,7 @@ use Rattle.checker_laws.proofs.Within.{IsShortRule, rules_are_short, few_groups,
 use Rattle.checker_laws.proofs.Numbers.{has_keys, keys_appear, rule_items_pass, group_number}
 use Rattle.checker_laws.proofs.Elements.{stores_written}
 use Rattle.checker_laws.proofs.Records.{IsSoundRule, group_written}
+use Rattle.checker_laws.proofs.RecordCounts.{records_counted}
 
 -- each version that a source can state is one of the format
 has_found : {X : Type 0} (P : ℕ → Type 0) (f : X → ℕ) (test : X → Bool) (xs : List X) (other : ℕ) → AllByRecursion (λ x. P (f x)) xs → P other → P (unwrap_or (option_map f (find test xs)) other)
@@ -137,69 +131,6 @@ module _ (program : Program) (read : IsRead program) (accepted : refused program
       (all_true (λ r. list_all (has_keys program) (rule_items r)) (program_rules program) (rule_items_pass (has_keys program) program (keys_appear program)))
       (none_first (rules_refusal (known program)) [] program.groups whole.rule_items) (rules_are_short program whole)
 
--- a rule has as many records as the limits count
-record_length : (numbers : Numbers) (rule : RuleDef) (place : ℕ) (elements : List Element) → length (records_from numbers rule place elements) ≡ length elements
-record_length numbers rule place [] = refl
-record_length numbers rule place (e ∷ elements) = ap suc (record_length numbers rule (place + 1) elements)
-
-keyed_length : (numbers : Numbers) (rule : RuleDef) (item : Option SrcItem) → length (keyed_records numbers rule item) ≡ key_count numbers.stores item
-keyed_length numbers rule (Some (source.Any store)) = record_length numbers rule 0 (elements_named numbers.stores store)
-keyed_length numbers rule (Some item) = refl
-keyed_length numbers rule None = refl
-
-abbrev counted : Numbers → RuleDef → ℕ
-counted numbers rule = record_count numbers.stores rule.kind rule.key
-
-rules_length : (numbers : Numbers) (rules : List RuleDef) → length (flat_map (rule_records numbers) (filter is_plain rules)) ≡ sum_by (counted numbers) rules
-rules_length numbers [] = refl
-rules_length numbers (rule ∷ rules) = by rule.kind (rules_length numbers rules) ∙ sym (sum_by-cons (counted numbers) rule rules)
-  where
-    by : (k : RuleKind) → length (flat_map (rule_records numbers) (filter is_plain rules)) ≡ sum_by (counted numbers) rules
-        → length (flat_map (rule_records numbers) (if is_plain_kind k then rule ∷ filter is_plain rules else filter is_plain rules)) ≡ record_count numbers.stores k rule.key + sum_by (counted numbers) rules
-    by kind.Plain h = omega (arith, length-append (rule_records numbers rule) (flat_map (rule_records numbers) (filter is_plain rules)), keyed_length numbers rule rule.key, h)
-    by kind.OnMatch h = omega (arith, h)
-    by kind.OnNoMatch h = omega (arith, h)
-
-groups_length : (numbers : Numbers) (groups : List GroupDef)
-    → length (flat_map rules_of (map (λ group. ordered_group (file_group numbers group)) groups)) ≡ sum_by (counted numbers) (flat_map (λ (group : GroupDef). group.rules) groups)
-groups_length numbers [] = refl
-groups_length numbers (group ∷ groups) =
-    let records = flat_map (rule_records numbers) (filter is_plain group.rules) in
-    omega (
-      arith,
-      length-append (in_order records) (flat_map rules_of (map (λ g. ordered_group (file_group numbers g)) groups)),
-      length_permutation records (in_order records) (in_order_permutes records),
-      rules_length numbers group.rules,
-      groups_length numbers groups,
-      sum_by-append (counted numbers) group.rules (flat_map (λ (g : GroupDef). g.rules) groups),
-    )
-
-no_records : (facts : Known) (stores : List StoreDef) → sum_by (records_of_statement facts) (map OfStore stores) ≡ 0
-no_records facts [] = refl
-no_records facts (store ∷ stores) = omega (arith, sum_by-cons (records_of_statement facts) (OfStore store) (map OfStore stores), no_records facts stores)
-
-statements_length : (facts : Known) (stores : List StoreDef) (rules : List RuleDef)
-    → sum_by (records_of_statement facts) (in_line_order stores rules) ≡ sum_by (λ (rule : RuleDef). record_count facts.stores rule.kind rule.key) rules
-statements_length facts stores [] = no_records facts stores
-statements_length facts stores (rule ∷ rules) =
-    let rest = in_line_order (stores_after rule.line stores) rules in
-    omega (
-      arith,
-      sum_by-append (records_of_statement facts) (map OfStore (stores_before rule.line stores)) (OfRule rule ∷ rest),
-      no_records facts (stores_before rule.line stores),
-      sum_by-cons (records_of_statement facts) (OfRule rule) rest,
-      statements_length facts (stores_after rule.line stores) rules,
-      sum_by-cons (λ (r : RuleDef). record_count facts.stores r.kind r.key) rule rules,
-    )
-
--- the records that the limits count are those of the program's tables
-pub records_counted : (program : Program) → all_records (known program) (in_line_order program.stores (program_rules program)) ≡ length (all_rules (compiled_tables program))
-unfolding known compiled_tables
-records_counted program =
-    sum-map (records_of_statement (known program)) (in_line_order program.stores (program_rules program))
-    ∙ statements_length (known program) program.stores (program_rules program)
-    ∙ sym (groups_length (numbers_of program) program.groups)
-
 -- the tables can be written
 pub compiled_written : (program : Program) → IsRead program → refused program ≡ None → IsWritable (compiled_tables program)
 unfolding compiled_tables
@@ -217,7 +148,7 @@ compiled_written program read accepted =
       groups = subst (λ (n : ℕ). All (IsWritableGroup (length (compiled_stores program)) n) (map group_of program.groups)) (sym count) (all_written program read accepted);
       store_count = few_stores program read whole;
       group_count = let few = few_groups program whole in omega (arith, few, count);
-      rule_count = let few = few_records program whole in omega (arith, few, records_counted program);
+      rule_count = let few = few_records program whole in omega (arith, few, records_counted program read whole);
       element_count = few_in_all program read whole;
     }
 
@@ -225,7 +156,7 @@ pub tables_written : (program : Program) (tables : Tables) → IsRead program �
 tables_written program tables read accepted compiles =
     subst IsWritable (sym (tables_are_only_ones program tables read.order.own compiles)) (compiled_written program read accepted)
 
-pub table_records_counted : (program : Program) (tables : Tables) → IsRead program → Compiles program tables
+pub table_records_counted : (program : Program) (tables : Tables) → IsRead program → refused program ≡ None → Compiles program tables
     → all_records (known program) (in_line_order program.stores (program_rules program)) ≡ length (all_rules tables)
-table_records_counted program tables read compiles =
-    records_counted program ∙ sym (ap (λ (t : Tables). length (all_rules t)) (tables_are_only_ones program tables read.order.own compiles))
+table_records_counted program tables read accepted compiles =
+    records_counted program read (unrefused program accepted) ∙ sym (ap (λ (t : Tables). length (all_rules t)) (tables_are_only_ones program tables read.order.own compiles))

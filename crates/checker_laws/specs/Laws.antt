@@ -44,8 +44,8 @@ StoresAreCounted =
     (program : Program) → IsRead program → refused program ≡ None
     → sizes (known program) (statements_of program) ≡ element_counts (compiled_stores program)
 
--- what the limit of records counts, over all statements of a program, is the records of its tables
+-- what the limit of records counts, over all statements of an accepted program, is the records of its tables
 abbrev pub RecordsAreCounted : Type 0
 RecordsAreCounted =
-    (program : Program) (tables : Tables) → IsRead program → Compiles program tables
+    (program : Program) (tables : Tables) → IsRead program → refused program ≡ None → Compiles program tables
     → all_records (known program) (statements_of program) ≡ length (records_of tables)

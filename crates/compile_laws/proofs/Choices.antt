@@ -24,11 +24,11 @@ use Rattle.rule_model.specs.declared.tables.Rule.{Rule}
 use Rattle.rule_model.specs.declared.tables.Tables.{Tables}
 use Rattle.rule_model.specs.Keyboard.{RuleMeaning}
 use Rattle.rule_model.specs.Content.{content}
-use Rattle.rule_model.specs.Hold.{caught_by, fitting_place, holds}
+use Rattle.rule_model.specs.Hold.{caught_by, fitting_place_with, holds}
 use Rattle.rule_model.specs.Choose.{Chosen, goes_before, best_with, best, first_with, first}
 use Rattle.rule_model.specs.Naming.{SourceNames, names_of}
 use Rattle.rule_model.specs.Tab.{tab, tab_rule}
-use Rattle.rule_model.specs.Src.{src, src_pattern, src_key, src_rule}
+use Rattle.rule_model.specs.Src.{src, src_pattern, src_key, src_rule, cased_keys}
 use Rattle.compile_laws.specs.Numbers.{Numbers, numbers_of}
 use Rattle.compile_laws.specs.Compiles.{file_pattern, rule_records, stands_before}
 use Rattle.rule_model.specs.OwnLines.{have_own_lines}
@@ -37,7 +37,7 @@ use Rattle.compile_laws.proofs.Known.{KnownRule}
 use Rattle.compile_laws.proofs.Patterns.{context_caught-count}
 use Rattle.compile_laws.proofs.Outputs.{lost}
 use Rattle.compile_laws.proofs.Least.{FirstIfAny, prefer, found_first, FirstIfAny-permutation, FirstIfAny-append, rising, less_trans}
-use Rattle.compile_laws.proofs.Records.{caught_record, one_place, chosen_key, rule_caught, record_caught, passes, context_of, rule-parts, record-parts, rule_first}
+use Rattle.compile_laws.proofs.Records.{caught_record, half_now, key_now, one_place, chosen_key, rule_caught, record_caught, passes, context_of, rule-parts, record-parts, rule_first}
 
 -- a rule statement with what it caught
 abbrev pub ChosenRule : Type 0
@@ -60,8 +60,8 @@ best_rule names caught (r ∷ rs) = best_rule_with names r (caught r) (best_rule
 abbrev pub src_chosen : SourceNames → ChosenRule → Chosen
 src_chosen names x = (src_rule names x.0, x.1)
 
-abbrev pub chosen_record : Numbers → ChosenRule → Rule
-chosen_record numbers x = caught_record numbers x.0 x.1
+abbrev pub chosen_record : Numbers → KeyPress → ChosenRule → Rule
+chosen_record numbers press x = caught_record numbers press x.0 x.1
 
 either_chosen : (names : SourceNames) (b : Bool) (x y : ChosenRule) →
     (if b then Some (src_chosen names y) else Some (src_chosen names x)) ≡ option_map (src_chosen names) (if b then Some y else Some x)
@@ -121,41 +121,41 @@ lines_part : (la lb line_a line_b place_a place_b : ℕ) → nat_eq line_a line_
     is_lt (ordering_then (ordering_then (nat_cmp la lb) (nat_cmp line_b line_a)) (nat_cmp place_b place_a)) ≡ true
 lines_part la lb line_a line_b place_a place_b apart after = grind (arith, nat_tests)
 
-order-kept : (numbers : Numbers) (names : SourceNames) (a b : ChosenRule) → nat_eq a.0.line b.0.line ≡ false →
-    stands_before (chosen_record numbers a) (chosen_record numbers b) ≡ goes_before (src_rule names a.0) (src_rule names b.0)
-order-kept numbers names a b apart =
-    lines_decide (length (map (file_pattern numbers) a.0.context)) (length (map (file_pattern numbers) b.0.context)) a.0.line b.0.line (unwrap_or a.1.key_place 0) (unwrap_or b.1.key_place 0) apart
+order-kept : (numbers : Numbers) (press : KeyPress) (names : SourceNames) (a b : ChosenRule) → nat_eq a.0.line b.0.line ≡ false →
+    stands_before (chosen_record numbers press a) (chosen_record numbers press b) ≡ goes_before (src_rule names a.0) (src_rule names b.0)
+order-kept numbers press names a b apart =
+    lines_decide (length (map (file_pattern numbers) a.0.context)) (length (map (file_pattern numbers) b.0.context)) a.0.line b.0.line (chosen_record numbers press a).place (chosen_record numbers press b).place apart
     ∙ (λ i. nat_lt (lengths b i) (lengths a i) || (nat_eq (lengths a i) (lengths b i) && nat_lt a.0.line b.0.line))
   where
     lengths : (x : ChosenRule) → length (map (file_pattern numbers) x.0.context) ≡ length (map (src_pattern names) x.0.context)
     lengths x = length-map x.0.context (file_pattern numbers) ∙ sym (length-map x.0.context (src_pattern names))
 
-either_record : (numbers : Numbers) (b : Bool) (x y : ChosenRule) →
-    (if b then Some (chosen_record numbers y) else Some (chosen_record numbers x)) ≡ option_map (chosen_record numbers) (if b then Some y else Some x)
-either_record numbers true x y = refl
-either_record numbers false x y = refl
+either_record : (numbers : Numbers) (press : KeyPress) (b : Bool) (x y : ChosenRule) →
+    (if b then Some (chosen_record numbers press y) else Some (chosen_record numbers press x)) ≡ option_map (chosen_record numbers press) (if b then Some y else Some x)
+either_record numbers press true x y = refl
+either_record numbers press false x y = refl
 
 -- the earlier of two records is that of the better rule
-prefer-kept : (numbers : Numbers) (names : SourceNames) (r : RuleDef) (c : Option Caught) (others : Option ChosenRule) →
+prefer-kept : (numbers : Numbers) (press : KeyPress) (names : SourceNames) (r : RuleDef) (c : Option Caught) (others : Option ChosenRule) →
     ((x : ChosenRule) → others ≡ Some x → nat_eq x.0.line r.line ≡ false) →
-    prefer stands_before (option_map (caught_record numbers r) c) (option_map (chosen_record numbers) others) ≡ option_map (chosen_record numbers) (best_rule_with names r c others)
-prefer-kept numbers names r None others apart = refl
-prefer-kept numbers names r (Some c) None apart = refl
-prefer-kept numbers names r (Some c) (Some other) apart =
-    (λ i. if order-kept numbers names other (r, c) (apart other refl) i then Some (chosen_record numbers other) else Some (caught_record numbers r c))
-    ∙ either_record numbers (goes_before (src_rule names other.0) (src_rule names r)) (r, c) other
+    prefer stands_before (option_map (caught_record numbers press r) c) (option_map (chosen_record numbers press) others) ≡ option_map (chosen_record numbers press) (best_rule_with names r c others)
+prefer-kept numbers press names r None others apart = refl
+prefer-kept numbers press names r (Some c) None apart = refl
+prefer-kept numbers press names r (Some c) (Some other) apart =
+    (λ i. if order-kept numbers press names other (r, c) (apart other refl) i then Some (chosen_record numbers press other) else Some (caught_record numbers press r c))
+    ∙ either_record numbers press (goes_before (src_rule names other.0) (src_rule names r)) (r, c) other
 
-records-apart : (numbers : Numbers) (r : RuleDef) (c : Option Caught) (others : Option ChosenRule) →
+records-apart : (numbers : Numbers) (press : KeyPress) (r : RuleDef) (c : Option Caught) (others : Option ChosenRule) →
     ((x : ChosenRule) → others ≡ Some x → nat_eq x.0.line r.line ≡ false) →
-    (x y : Rule) → option_map (caught_record numbers r) c ≡ Some x → option_map (chosen_record numbers) others ≡ Some y →
+    (x y : Rule) → option_map (caught_record numbers press r) c ≡ Some x → option_map (chosen_record numbers press) others ≡ Some y →
     stands_before y x ≡ false → stands_before x y ≡ true
-records-apart numbers r None others apart x y e f after = absurd (none-some x e)
-records-apart numbers r (Some c) None apart x y e f after = absurd (none-some y f)
-records-apart numbers r (Some c) (Some other) apart x y e f after =
-    let at_x = same_Some (caught_record numbers r c) x e in
-    let at_y = same_Some (chosen_record numbers other) y f in
+records-apart numbers press r None others apart x y e f after = absurd (none-some x e)
+records-apart numbers press r (Some c) None apart x y e f after = absurd (none-some y f)
+records-apart numbers press r (Some c) (Some other) apart x y e f after =
+    let at_x = same_Some (caught_record numbers press r c) x e in
+    let at_y = same_Some (chosen_record numbers press other) y f in
     (λ i. stands_before (sym at_x i) (sym at_y i))
-    ∙ lines_part (length (map (file_pattern numbers) other.0.context)) (length (map (file_pattern numbers) r.context)) other.0.line r.line (unwrap_or other.1.key_place 0) (unwrap_or c.key_place 0)
+    ∙ lines_part (length (map (file_pattern numbers) other.0.context)) (length (map (file_pattern numbers) r.context)) other.0.line r.line (chosen_record numbers press other).place (caught_record numbers press r c).place
     (apart other refl) ((λ i. stands_before (at_y i) (at_x i)) ∙ after)
 
 -- no other rule stands in a line of its own
@@ -197,7 +197,7 @@ module _ (p : Program) (t : Tables) (l : Linked p t) (values : List (List Elemen
   best_now rs = best_rule (names_of p) (rule_caught p t l values left press using_keys) rs
 
   best_first : (rs : List RuleDef) → AllByRecursion (KnownRule p using_keys) rs → have_own_lines rs ≡ true →
-      FirstIfAny stands_before (passes p t l values left press using_keys) (flat_map (rule_records (numbers_of p)) rs) (option_map (chosen_record (numbers_of p)) (best_now rs))
+      FirstIfAny stands_before (passes p t l values left press using_keys) (flat_map (rule_records (numbers_of p)) rs) (option_map (chosen_record (numbers_of p) press) (best_now rs))
   unfolding Within
   best_first [] known lines = All-nil (λ y. passes p t l values left press using_keys y ≡ false)
   best_first (r ∷ rs) known lines =
@@ -206,12 +206,12 @@ module _ (p : Program) (t : Tables) (l : Linked p t) (values : List (List Elemen
       let apart : (x : ChosenRule) → best_now rs ≡ Some x → nat_eq x.0.line r.line ≡ false =
       λ x e. (best_rule-within (names_of p) (λ (other : RuleDef). nat_eq other.line r.line ≡ false) caught rs (other_lines r rs (not-true _ each.0)) x e).0 in
       subst (FirstIfAny stands_before (passes p t l values left press using_keys) (flat_map (rule_records (numbers_of p)) (r ∷ rs)))
-      (prefer-kept (numbers_of p) (names_of p) r (caught r) (best_now rs) apart)
+      (prefer-kept (numbers_of p) press (names_of p) r (caught r) (best_now rs) apart)
       (FirstIfAny-append stands_before (passes p t l values left press using_keys) (less_trans stands_before records_order)
       (rule_records (numbers_of p) r) (flat_map (rule_records (numbers_of p)) rs)
-      (option_map (caught_record (numbers_of p) r) (caught r)) (option_map (chosen_record (numbers_of p)) (best_now rs))
+      (option_map (caught_record (numbers_of p) press r) (caught r)) (option_map (chosen_record (numbers_of p) press) (best_now rs))
       (rule_first p t l values left press using_keys r known.0) (best_first rs known.1 each.1)
-      (records-apart (numbers_of p) r (caught r) (best_now rs) apart))
+      (records-apart (numbers_of p) press r (caught r) (best_now rs) apart))
 
   -- what is known of the best rule
   pub record BestKnown (x : ChosenRule) : Type 0 where
@@ -228,34 +228,36 @@ module _ (p : Program) (t : Tables) (l : Linked p t) (values : List (List Elemen
         caught = h.1;
         count =
             context_caught-count (content (src p).stores values) left (map (src_pattern (names_of p)) x.0.context) x.1.catches
-            (caught-catches (context_of p t l values left press using_keys x.0) (fitting_place (content (src p).stores values) press (src_key (names_of p) x.0.key)) x.1
+            (caught-catches (context_of p t l values left press using_keys x.0) (fitting_place_with (cased_keys p) (content (src p).stores values) press (src_key (names_of p) x.0.key)) x.1
             (sym (rule-parts p t l values left press using_keys x.0) ∙ h.1))
             ∙ length-map x.0.context (src_pattern (names_of p));
       }
 
   -- the record of the best rule catches what the rule does, but for the place of its key
-  record_catches : (x : ChosenRule) → BestKnown x → passes p t l values left press using_keys (chosen_record (numbers_of p) x) ≡ true →
-      record_caught p t l values left press using_keys (chosen_record (numbers_of p) x) ≡ Some (lost x.1)
+  record_catches : (x : ChosenRule) → BestKnown x → passes p t l values left press using_keys (chosen_record (numbers_of p) press x) ≡ true →
+      record_caught p t l values left press using_keys (chosen_record (numbers_of p) press x) ≡ Some (lost x.1)
   record_catches x h passed =
       let k = context_of p t l values left press using_keys x.0 in
-      let fits = key_fits (if using_keys then chosen_key (numbers_of p) x.0.key x.1.key_place else key.Any) press in
-      let parts = record-parts p t l values left press using_keys x.0 h.known x.1.key_place (chosen_key (numbers_of p) x.0.key x.1.key_place) in
+      let wanted = chosen_key (numbers_of p) x.0.key x.1.key_place in
+      let now = key_now (cased_keys p) press wanted in
+      let fits = key_fits (if using_keys then now else key.Any) press in
+      let parts = record-parts p t l values left press using_keys x.0 h.known x.1.key_place (half_now (cased_keys p) press wanted) now in
       parts
-      ∙ lost-caught k (fitting_place (content (src p).stores values) press (src_key (names_of p) x.0.key)) fits x.1
+      ∙ lost-caught k (fitting_place_with (cased_keys p) (content (src p).stores values) press (src_key (names_of p) x.0.key)) fits x.1
       (sym (rule-parts p t l values left press using_keys x.0) ∙ h.caught)
       (ap is_some (sym parts) ∙ passed)
 
   -- the meaning of a record that goes, with what it catches
   abbrev pub tab_chosen : ChosenRule → Chosen
-  tab_chosen x = (tab_rule t.stores using_keys (chosen_record (numbers_of p) x), lost x.1)
+  tab_chosen x = (tab_rule t.stores using_keys (chosen_record (numbers_of p) press x), lost x.1)
 
   found_chosen : (o : Option ChosenRule) (xs : List Rule) → ((x : ChosenRule) → o ≡ Some x → BestKnown x) →
-      FirstIfAny stands_before (passes p t l values left press using_keys) xs (option_map (chosen_record (numbers_of p)) o) →
-      option_and_then (λ x. option_map (λ c. (tab_rule t.stores using_keys x, c)) (record_caught p t l values left press using_keys x)) (option_map (chosen_record (numbers_of p)) o)
+      FirstIfAny stands_before (passes p t l values left press using_keys) xs (option_map (chosen_record (numbers_of p) press) o) →
+      option_and_then (λ x. option_map (λ c. (tab_rule t.stores using_keys x, c)) (record_caught p t l values left press using_keys x)) (option_map (chosen_record (numbers_of p) press) o)
       ≡ option_map tab_chosen o
   found_chosen None xs known h = refl
   found_chosen (Some x) xs known h =
-      ap (option_map (λ c. (tab_rule t.stores using_keys (chosen_record (numbers_of p) x), c))) (record_catches x (known x refl) h.passes)
+      ap (option_map (λ c. (tab_rule t.stores using_keys (chosen_record (numbers_of p) press x), c))) (record_catches x (known x refl) h.passes)
 
   -- the first record of a sorted table that holds is that of the best rule
   pub choice-kept : (rs : List RuleDef) → AllByRecursion (KnownRule p using_keys) rs → have_own_lines rs ≡ true →
@@ -263,8 +265,8 @@ module _ (p : Program) (t : Tables) (l : Linked p t) (values : List (List Elemen
       first (holds (content (tab t).stores values) left press) (map (tab_rule t.stores using_keys) table) ≡ option_map tab_chosen (best_now rs)
   choice-kept rs known lines table same sorted =
       let h = FirstIfAny-permutation stands_before (passes p t l values left press using_keys) (flat_map (rule_records (numbers_of p)) rs) table same
-      (option_map (chosen_record (numbers_of p)) (best_now rs)) (best_first rs known lines) in
+      (option_map (chosen_record (numbers_of p) press) (best_now rs)) (best_first rs known lines) in
       first-found (tab_rule t.stores using_keys) (holds (content (tab t).stores values) left press) table
       ∙ (ap (option_and_then (λ x. option_map (λ c. (tab_rule t.stores using_keys x, c)) (record_caught p t l values left press using_keys x)))
-      (found_first stands_before (passes p t l values left press using_keys) table (rising stands_before records_order table sorted) (option_map (chosen_record (numbers_of p)) (best_now rs)) h)
+      (found_first stands_before (passes p t l values left press using_keys) table (rising stands_before records_order table sorted) (option_map (chosen_record (numbers_of p) press) (best_now rs)) h)
       ∙ found_chosen (best_now rs) table (best_known rs known) h)

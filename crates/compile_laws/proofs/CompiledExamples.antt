@@ -17,6 +17,7 @@ use Rattle.rule_model.specs.declared.tables.Pat.TheVariants as pattern
 use Rattle.rule_model.specs.declared.tables.Out.TheVariants as output
 use Rattle.rule_model.specs.declared.tables.Rule.{Rule}
 use Rattle.rule_model.specs.Naming.{names_of, stores_of}
+use Rattle.rule_model.specs.Src.{cased_keys}
 use Rattle.compile_laws.specs.Numbers.{values_of, numbers_of, compiled_stores}
 use Rattle.compile_laws.specs.Compiles.{file_group, stands_before}
 
@@ -67,7 +68,7 @@ abbrev pub of_a : Rule
 of_a = record { line = 6; place = 0; key = key.Char 97; context = []; output = output.Char 120 ∷ output.Mark 1 ∷ [] }
 
 abbrev pub of_b : Rule
-of_b = record { line = 6; place = 1; key = key.Char 98; context = []; output = output.Char 121 ∷ output.Mark 1 ∷ [] }
+of_b = record { line = 6; place = 2; key = key.Char 98; context = []; output = output.Char 121 ∷ output.Mark 1 ∷ [] }
 
 abbrev pub of_z : Rule
 of_z =
@@ -81,7 +82,7 @@ of_z =
 
 -- a record for each element of the key store, with the element that `index` puts at its place
 records_numbered : (file_group (numbers_of numbered) main_group).rules ≡ of_a ∷ of_b ∷ of_z ∷ []
-unfolding names_of stores_of values_of same_name code_in
+unfolding names_of stores_of values_of same_name code_in cased_keys
 records_numbered = refl
 
 -- the longer context goes first, and the places of a key store in their order

@@ -29,7 +29,7 @@ use Rattle.rule_model.specs.declared.tables.Rule.{Rule}
 use Rattle.rule_model.specs.declared.tables.Group.{Group}
 use Rattle.rule_model.specs.declared.tables.Tables.{Tables}
 use Rattle.rule_model.specs.Naming.{names_of, stores_of}
-use Rattle.rule_model.specs.Src.{src, src_options, is_unicode}
+use Rattle.rule_model.specs.Src.{src, src_options, is_unicode, cased_keys}
 use Rattle.rule_model.specs.Tab.{tab, tab_options, tab_dictionary}
 use Rattle.rule_model.specs.KeyEvent.{after_key}
 use Rattle.rule_model.specs.Enter.{by_default}
@@ -73,7 +73,7 @@ seen step =
 
 -- a program and its tables, played with the same events
 played : Program → List Event → List Seen × List Seen
-unfolding trace src src_options names_of stores_of values_of tab tab_options tab_dictionary after_key happening by_default key_fits char_of_press same_name name_chars code_in us_characters chars encode_utf8
+unfolding trace src src_options cased_keys names_of stores_of values_of tab tab_options tab_dictionary after_key happening by_default key_fits char_of_press same_name name_chars code_in us_characters chars encode_utf8
 played p events = (map seen (trace (src p) events).done, map seen (trace (tab (compiled p)) events).done)
 
 abbrev both : List Seen → List Seen × List Seen
@@ -139,7 +139,7 @@ key_by_key = refl
 key_records :
     map (λ (g : Group). g.rules) (compiled (along (virtual 0x4000 65 ∷ virtual 0x4010 65 ∷ []) (codes "xy"))).groups
     ≡ (record { line = 5; place = 0; key = key.Virtual 0x4000 65; context = []; output = output.Char 120 ∷ [] }
-    ∷ record { line = 5; place = 1; key = key.Virtual 0x4010 65; context = []; output = output.Char 121 ∷ [] }
+    ∷ record { line = 5; place = 2; key = key.Virtual 0x4010 65; context = []; output = output.Char 121 ∷ [] }
     ∷ []) ∷ []
 unfolding played
 key_records = refl
@@ -285,7 +285,7 @@ toggle_tables =
             rules =
                 record { line = 5; place = 0; key = key.Virtual 0x4000 256; context = pattern.Equal 0 3 ∷ []; output = output.Enter 0 ∷ [] }
                 ∷ record { line = 4; place = 0; key = key.Virtual 0x4000 65; context = []; output = output.Set 0 3 ∷ [] }
-                ∷ record { line = 4; place = 1; key = key.Char 98; context = []; output = output.Char 98 ∷ output.Set 0 3 ∷ [] }
+                ∷ record { line = 4; place = 2; key = key.Char 98; context = []; output = output.Char 98 ∷ output.Set 0 3 ∷ [] }
                 ∷ [];
             on_match = [];
             on_nomatch = [];
@@ -300,7 +300,7 @@ toggle_named = record { start = refl; groups = refl; words = refl; stores = refl
 abbrev toggle_first : List Rule
 toggle_first =
     record { line = 4; place = 0; key = key.Virtual 0x4000 65; context = []; output = output.Set 0 3 ∷ [] }
-    ∷ record { line = 4; place = 1; key = key.Char 98; context = []; output = output.Char 98 ∷ output.Set 0 3 ∷ [] }
+    ∷ record { line = 4; place = 2; key = key.Char 98; context = []; output = output.Char 98 ∷ output.Set 0 3 ∷ [] }
     ∷ []
 
 abbrev toggle_last : Rule

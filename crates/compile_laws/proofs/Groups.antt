@@ -19,17 +19,17 @@ use Rattle.rule_model.specs.declared.tables.Group.{Group}
 use Rattle.rule_model.specs.declared.tables.Tables.{Tables}
 use Rattle.rule_model.specs.Keyboard.{Ref, Named, Numbered, Keyboard, GroupMeaning, Output}
 use Rattle.rule_model.specs.Content.{content, group_at}
-use Rattle.rule_model.specs.Hold.{holds}
+use Rattle.rule_model.specs.Hold.{holds, holds_with}
 use Rattle.rule_model.specs.Choose.{choose}
 use Rattle.rule_model.specs.Act.{items_caught}
 use Rattle.rule_model.specs.Enter.{by_default, default_of, nothing, act_if_any, do_unmatched, do_group, chosen_in, in_group, enter_group}
 use Rattle.rule_model.specs.Naming.{names_of, rule_items}
 use Rattle.rule_model.specs.Tab.{tab, tab_rule, tab_group, tab_output, output_if_any}
-use Rattle.rule_model.specs.Src.{src, src_rule, src_group, src_outputs, is_plain, is_on_match, is_on_nomatch}
+use Rattle.rule_model.specs.Src.{cased_keys, src, src_rule, src_group, src_outputs, is_plain, is_on_match, is_on_nomatch}
 use Rattle.compile_laws.specs.Numbers.{numbers_of, number_of_group}
 use Rattle.compile_laws.specs.Compiles.{Compiles, IsOrderedGroup, file_group, file_output, statement_outputs, or_nul}
 use Rattle.compile_laws.specs.WellNamed.{IsWellNamed, is_group, is_known_group}
-use Rattle.compile_laws.proofs.Keyboards.{src_groups, src_choice, tab_groups, tab_choice}
+use Rattle.compile_laws.proofs.Keyboards.{src_groups, src_choice, src_cased, tab_groups, tab_choice, tab_cased}
 use Rattle.compile_laws.proofs.Linked.{Linked}
 use Rattle.compile_laws.proofs.Known.{has_values, KnownGroup, KnownStatement, group_known}
 use Rattle.compile_laws.proofs.Values.{values_known}
@@ -41,12 +41,12 @@ default-same : (a b : Keyboard) → a.dictionary ≡ b.dictionary → (press : K
 unfolding by_default
 default-same a b e press s = λ i. default_of press (name_in (e i) press.code) s
 
-some_output : (f : Out → Output) (outs : List Out) → output_if_any (map f (or_nul outs)) ≡ Some (map f (or_nul outs))
+pub some_output : (f : Out → Output) (outs : List Out) → output_if_any (map f (or_nul outs)) ≡ Some (map f (or_nul outs))
 some_output f [] = refl
 some_output f (out ∷ outs) = refl
 
 -- the group that a group compiles to, with this table of records
-abbrev with_table : Program → GroupDef → List Rule → Group
+abbrev pub with_table : Program → GroupDef → List Rule → Group
 with_table p g table = record (file_group (numbers_of p) g) { rules = table }
 
 pub ordered_group : (p : Program) (g : GroupDef) (h : Group) → IsOrderedGroup (file_group (numbers_of p) g) h → h ≡ with_table p g h.rules
@@ -81,17 +81,17 @@ module _ (p : Program) (t : Tables) (l : Linked p t) (d : (tab t).dictionary ≡
         (outputs-same p t l e f same x.1 (length x.0.context) b.count x.0.output b.known.output b.known.output_values taken)
         ∙ statement-same (find is_on_match g.rules) known.on_match _
 
-  chosen_src : (g : GroupDef) (s : EventState) →
+  pub chosen_src : (g : GroupDef) (s : EventState) →
       chosen_in (src p) press (src_group (names_of p) g) s ≡ option_map (src_chosen (names_of p)) (best_now p t l s.current s.left press g.using_keys (filter is_plain g.rules))
   chosen_src g s =
-      (λ i. choose (src_choice p i) (holds (content (src p).stores s.current) s.left press) (map (src_rule (names_of p)) (filter is_plain g.rules)))
-      ∙ best-map (names_of p) (holds (content (src p).stores s.current) s.left press) (filter is_plain g.rules)
+      (λ i. choose (src_choice p i) (holds_with (src_cased p i) (content (src p).stores s.current) s.left press) (map (src_rule (names_of p)) (filter is_plain g.rules)))
+      ∙ best-map (names_of p) (holds_with (cased_keys p) (content (src p).stores s.current) s.left press) (filter is_plain g.rules)
 
-  chosen_tab : (g : GroupDef) → KnownGroup p g → (h : Group) → IsOrderedGroup (file_group (numbers_of p) g) h → (s : EventState) →
+  pub chosen_tab : (g : GroupDef) → KnownGroup p g → (h : Group) → IsOrderedGroup (file_group (numbers_of p) g) h → (s : EventState) →
       chosen_in (tab t) press (tab_group t.stores (with_table p g h.rules)) s
       ≡ option_map (tab_chosen p t l s.current s.left press g.using_keys) (best_now p t l s.current s.left press g.using_keys (filter is_plain g.rules))
   chosen_tab g known h o s =
-      (λ i. choose (tab_choice t i) (holds (content (tab t).stores s.current) s.left press) (map (tab_rule t.stores g.using_keys) h.rules))
+      (λ i. choose (tab_choice t i) (holds_with (tab_cased t i) (content (tab t).stores s.current) s.left press) (map (tab_rule t.stores g.using_keys) h.rules))
       ∙ choice-kept p t l s.current s.left press g.using_keys (filter is_plain g.rules) known.rules known.lines h.rules o.records o.in_order
 
   pub group-same : (g : GroupDef) → KnownGroup p g → (h : Group) → IsOrderedGroup (file_group (numbers_of p) g) h → (s : EventState) →

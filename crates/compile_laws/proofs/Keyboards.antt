@@ -1,6 +1,6 @@
 -- The parts of the keyboards of a program and of tables, which stay shut elsewhere.
 use Rattle.std.proofs.Common.{◌≡◌, refl}
-use Rattle.std.specs.Prelude.{map, find, List, ◌++◌}
+use Rattle.std.specs.Prelude.{map, find, List, [], ◌++◌}
 use Rattle.kmn_base.specs.declared.events.Event.{Event}
 use Rattle.kmn_base.specs.declared.keys.KeyPress.{KeyPress}
 use Rattle.rule_model.specs.declared.event_state.EventState.{EventState}
@@ -10,7 +10,7 @@ use Rattle.rule_model.specs.Keyboard.{Keyboard, Numbered, Best, First}
 use Rattle.rule_model.specs.System.{system_options}
 use Rattle.rule_model.specs.Naming.{names_of}
 use Rattle.compile_laws.specs.WellNamed.{stated_stores}
-use Rattle.rule_model.specs.Src.{src, src_group, start_named, is_unicode}
+use Rattle.rule_model.specs.Src.{src, cased_keys, src_group, start_named, is_unicode}
 use Rattle.rule_model.specs.Tab.{tab, tab_group, tab_dictionary, tab_options, with_options}
 use Rattle.rule_model.specs.Enter.{enter_group}
 use Rattle.rule_model.specs.KeyEvent.{after_key}
@@ -31,6 +31,14 @@ src_groups p = refl
 pub src_dictionary : (p : Program) → (src p).dictionary ≡ (names_of p).keys
 unfolding src
 src_dictionary p = refl
+
+pub src_cased : (p : Program) → (src p).cased ≡ cased_keys p
+unfolding src
+src_cased p = refl
+
+pub tab_cased : (t : Tables) → (tab t).cased ≡ []
+unfolding tab
+tab_cased t = refl
 
 pub src_choice : (p : Program) → (src p).choice ≡ Best
 unfolding src

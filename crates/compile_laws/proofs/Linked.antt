@@ -8,6 +8,7 @@ use Rattle.rule_model.specs.declared.tables.Tables.{Tables}
 use Rattle.rule_model.specs.Keyboard.{Named, Numbered}
 use Rattle.rule_model.specs.Content.{content, elements_at, store_number, option_number}
 use Rattle.rule_model.specs.Naming.{stores_of, elements_named}
+use Rattle.rule_model.specs.System.{system_ref}
 use Rattle.rule_model.specs.Tab.{tab, elements_of}
 use Rattle.rule_model.specs.Src.{src, value_elements}
 use Rattle.compile_laws.specs.Numbers.{numbers_of, values_of, number_of_store, number_of_value}
@@ -29,4 +30,6 @@ pub record Linked (p : Program) (t : Tables) : Type 0 where
       ≡ elements_at (src p).stores (store_number (src p).stores (Named s))
   pub named_elements : (s : List ℕ) → elements_at (src p).stores (store_number (src p).stores (Named s)) ≡ elements_named (stores_of p) s
   pub fixed : (s : List ℕ) (values : List (List Element)) → is_fixed p s ≡ true → content (src p).stores values (Named s) ≡ elements_named (stores_of p) s
+  pub same_system : (id : ℕ) (values : List (List Element)) → content (tab t).stores values (system_ref id) ≡ content (src p).stores values (system_ref id)
+  pub same_system_option : (id : ℕ) → option_number (tab t).stores (system_ref id) ≡ option_number (src p).stores (system_ref id)
   pub same_value : (v : List ℕ) → is_value p v ≡ true → elements_of t.stores (number_of_value (numbers_of p) v) ≡ value_elements v

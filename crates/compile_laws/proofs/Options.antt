@@ -2,7 +2,7 @@
 use Rattle.std.proofs.Common.{◌≡◌, ℕ, suc, ◌+◌, ◌<◌, ◌≤◌, Bool, true, false, ◌&&◌, ◌||◌, List, [], ◌∷◌, ◌++◌, length, map, Option, Some, None, refl, ap, sym, ◌∙◌, arith, is_some, if◌then◌else◌, append-nil}
 use Rattle.std.specs.Prelude.{nat_eq, find, filter, flat_map, option_to_list, position, unwrap_or}
 use Rattle.std.specs.List.{list_all, list_any, AllZip, AllByRecursion}
-use Rattle.std.proofs.lemmas.Bool.{and_parts, or_from, false≢true, ne_eqb}
+use Rattle.std.proofs.lemmas.Bool.{and_parts, or_from, false≢true, ne_eqb, cond_both}
 use Rattle.std.proofs.lemmas.List.{nil_from_length}
 use Rattle.std.proofs.lemmas.List.Concat.{flat_map-append}
 use Rattle.std.proofs.lemmas.List.Folds.{list_any-append}
@@ -18,6 +18,7 @@ use Rattle.rule_model.specs.declared.program.RuleDef.{RuleDef}
 use Rattle.rule_model.specs.declared.program.SrcItem.{SrcItem}
 use Rattle.rule_model.specs.declared.program.SrcItem.TheVariants as source
 use Rattle.rule_model.specs.declared.tables.Out.{Out}
+use Rattle.rule_model.specs.declared.tables.Rule.{Rule}
 use Rattle.rule_model.specs.declared.tables.Store.{Store}
 use Rattle.rule_model.specs.declared.tables.Group.{Group}
 use Rattle.rule_model.specs.declared.tables.Tables.{Tables}
@@ -25,9 +26,9 @@ use Rattle.rule_model.specs.Match.{element_at}
 use Rattle.rule_model.specs.Hold.{key_of_element}
 use Rattle.rule_model.specs.Naming.{stores_of, elements_named, rule_items}
 use Rattle.rule_model.specs.Tab.{pattern_options, output_options, rule_options, group_options, tab_options}
-use Rattle.rule_model.specs.Src.{pattern_uses, output_uses, rule_uses, group_uses, numbers_named, src_options, is_plain, is_on_match, is_on_nomatch}
+use Rattle.rule_model.specs.Src.{cased_keys, pattern_uses, output_uses, rule_uses, group_uses, numbers_named, src_options, is_plain, is_on_match, is_on_nomatch}
 use Rattle.compile_laws.specs.Numbers.{numbers_of, number_of_store}
-use Rattle.compile_laws.specs.Compiles.{Compiles, IsOrderedGroup, AreOrderedGroups, file_pattern, file_output, file_outputs, or_nul, element_outs, element_outs_if_any, file_record, records_from, own_key, keyed_records, rule_records, statement_outputs, file_group}
+use Rattle.compile_laws.specs.Compiles.{Compiles, IsOrderedGroup, AreOrderedGroups, file_pattern, file_output, file_outputs, or_nul, element_outs, element_outs_if_any, has_halves, half_key, file_record, key_records, records_from, own_key, keyed_records, rule_records, statement_outputs, file_group}
 use Rattle.compile_laws.specs.WellNamed.{IsWellNamed, is_known_pattern, is_known_output, is_known_key, is_known_group, is_fixed, are_keys}
 use Rattle.compile_laws.proofs.Known.{KnownRule, KnownStatement, KnownGroup, group_known, has_values}
 use Rattle.compile_laws.proofs.Values.{values_known}
@@ -97,8 +98,8 @@ module _ (p : Program) where
   outputs-options : (n : ℕ) (place : Option ℕ) (xs : List SrcItem) → list_all (is_known_output p n) xs ≡ true → flat_map output_options (file_outputs (numbers_of p) n place xs) ≡ numbers (flat_map output_uses xs)
   outputs-options n place xs known = nul-options (flat_map (file_output (numbers_of p) n place) xs) ∙ items-options n place xs known
 
-  record-options : (using_keys : Bool) (r : RuleDef) → KnownRule p using_keys r → (place : Option ℕ) (k : RuleKey) → rule_options (file_record (numbers_of p) r place k) ≡ numbers (rule_uses r)
-  record-options using_keys r known place k =
+  record-options : (using_keys : Bool) (r : RuleDef) → KnownRule p using_keys r → (place : Option ℕ) (half : ℕ) (k : RuleKey) → rule_options (file_record (numbers_of p) r place half k) ≡ numbers (rule_uses r)
+  record-options using_keys r known place half k =
       (λ i. context-options r.context known.context i ++ outputs-options (length r.context) place r.output known.output i)
       ∙ sym (flat_map-append (numbers_named (stores_of p)) (flat_map pattern_uses r.context) (flat_map output_uses r.output))
 
@@ -111,32 +112,55 @@ module _ (p : Program) where
     no_more true = refl
     no_more false = refl
 
+    twice : (a : Bool) → (a || a) ≡ a
+    twice true = refl
+    twice false = refl
+
+    -- each record of a key has the rule's options
+    key-options : (using_keys : Bool) (r : RuleDef) → KnownRule p using_keys r → (place : Option ℕ) (k : RuleKey) (rest : List Rule) →
+        (list_any q (numbers (rule_uses r)) || list_any q (flat_map rule_options rest)) ≡ list_any q (numbers (rule_uses r)) →
+        list_any q (flat_map rule_options (key_records (numbers_of p) r place k ++ rest)) ≡ list_any q (numbers (rule_uses r))
+    key-options using_keys r known place k rest h =
+        let uses : Bool = list_any q (numbers (rule_uses r)) in
+        let x : Rule = file_record (numbers_of p) r place 0 (half_key 0 k) in
+        let y : Rule = file_record (numbers_of p) r place 1 (half_key 1 k) in
+        let z : Rule = file_record (numbers_of p) r place 0 k in
+        cond_both (has_halves (cased_keys p) k) (x ∷ y ∷ []) (z ∷ []) (λ xs. list_any q (flat_map rule_options (xs ++ rest)) ≡ uses)
+        (λ _. one 0 (half_key 0 k) (y ∷ rest) (also uses (list_any q (flat_map rule_options (y ∷ rest))) (one 1 (half_key 1 k) rest h)))
+        (λ _. one 0 k rest h)
+      where
+        also : (a b : Bool) → b ≡ a → (a || b) ≡ a
+        also true b e = refl
+        also false b e = e
+
+        one : (half : ℕ) (l : RuleKey) (more : List Rule) → (list_any q (numbers (rule_uses r)) || list_any q (flat_map rule_options more)) ≡ list_any q (numbers (rule_uses r)) →
+            list_any q (flat_map rule_options (file_record (numbers_of p) r place half l ∷ more)) ≡ list_any q (numbers (rule_uses r))
+        one half l more e =
+            list_any-append q (rule_options (file_record (numbers_of p) r place half l)) (flat_map rule_options more)
+            ∙ ((λ i. list_any q (record-options using_keys r known place half l i) || list_any q (flat_map rule_options more)) ∙ e)
+
     store-options : (using_keys : Bool) (r : RuleDef) → KnownRule p using_keys r → (n : ℕ) (es : List Element) →
         (list_any q (numbers (rule_uses r)) || list_any q (flat_map rule_options (records_from (numbers_of p) r n es))) ≡ list_any q (numbers (rule_uses r))
     store-options using_keys r known n [] = no_more (list_any q (numbers (rule_uses r)))
     store-options using_keys r known n (e ∷ es) =
-        let x = file_record (numbers_of p) r (Some n) (unwrap_or (key_of_element e) key.Any) in
-        let rest = flat_map rule_options (records_from (numbers_of p) r (n + 1) es) in
-        (λ i. list_any q (numbers (rule_uses r)) || list_any-append q (rule_options x) rest i)
-        ∙ again (list_any q (numbers (rule_uses r))) (rule_options x)
-        (ap (list_any q) (record-options using_keys r known (Some n) (unwrap_or (key_of_element e) key.Any))) (list_any q rest) (store-options using_keys r known (n + 1) es)
+        let k = unwrap_or (key_of_element e) key.Any in
+        (λ i. list_any q (numbers (rule_uses r)) || key-options using_keys r known (Some n) k (records_from (numbers_of p) r (n + 1) es) (store-options using_keys r known (n + 1) es) i)
+        ∙ twice (list_any q (numbers (rule_uses r)))
 
     first-options : (using_keys : Bool) (r : RuleDef) → KnownRule p using_keys r → (es : List Element) → are_keys es ≡ true →
         list_any q (flat_map rule_options (records_from (numbers_of p) r 0 es)) ≡ list_any q (numbers (rule_uses r))
     first-options using_keys r known [] keys = absurd (false≢true keys)
     first-options using_keys r known (e ∷ es) keys =
-        let x = file_record (numbers_of p) r (Some 0) (unwrap_or (key_of_element e) key.Any) in
-        let rest = flat_map rule_options (records_from (numbers_of p) r (0 + 1) es) in
-        list_any-append q (rule_options x) rest
-        ∙ ((λ i. list_any q (record-options using_keys r known (Some 0) (unwrap_or (key_of_element e) key.Any) i) || list_any q rest)
-        ∙ store-options using_keys r known (0 + 1) es)
+        key-options using_keys r known (Some 0) (unwrap_or (key_of_element e) key.Any) (records_from (numbers_of p) r (0 + 1) es) (store-options using_keys r known (0 + 1) es)
 
     keyed-options : (using_keys : Bool) (r : RuleDef) → KnownRule p using_keys r → (item : Option SrcItem) → is_known_key p using_keys item ≡ true →
         list_any q (flat_map rule_options (keyed_records (numbers_of p) r item)) ≡ list_any q (numbers (rule_uses r))
     keyed-options using_keys r known (Some (source.Any s)) keyed =
         let whole = and_parts using_keys (is_fixed p s && are_keys (elements_named (stores_of p) s)) keyed in
         first-options using_keys r known (elements_named (stores_of p) s) (and_parts (is_fixed p s) (are_keys (elements_named (stores_of p) s)) whole.1).1
-    keyed-options using_keys r known item keyed = ap (list_any q) (append-nil _ ∙ record-options using_keys r known None (own_key (numbers_of p) item))
+    keyed-options using_keys r known item keyed =
+        ap (λ xs. list_any q (flat_map rule_options xs)) (sym (append-nil (key_records (numbers_of p) r None (own_key (numbers_of p) item))))
+        ∙ key-options using_keys r known None (own_key (numbers_of p) item) [] (no_more (list_any q (numbers (rule_uses r))))
 
     rules-options : (using_keys : Bool) (rs : List RuleDef) → AllByRecursion (KnownRule p using_keys) rs →
         list_any q (flat_map rule_options (flat_map (rule_records (numbers_of p)) rs)) ≡ list_any q (numbers (flat_map rule_uses rs))

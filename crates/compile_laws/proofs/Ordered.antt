@@ -1,11 +1,11 @@
 -- The tables that a program compiles to are in order, and there are no others.
-use Rattle.std.proofs.Common.{◌≡◌, ℕ, zero, suc, ◌+◌, ◌<◌, ◌≤◌, Bool, true, false, not, List, [], ◌∷◌, length, map, get_or, Option, Some, None, refl, ap, sym, ◌∙◌, arith, nat_eq, if◌then◌else◌, nat_cmp, ◌⊎◌, inl, inr}
+use Rattle.std.proofs.Common.{◌++◌, ◌*◌, ◌≡◌, ℕ, zero, suc, ◌+◌, ◌<◌, ◌≤◌, Bool, true, false, not, List, [], ◌∷◌, length, map, get_or, Option, Some, None, refl, ap, sym, ◌∙◌, arith, nat_eq, if◌then◌else◌, nat_cmp, ◌⊎◌, inl, inr}
 use Rattle.std.specs.Prelude.{All, Contains, filter, flat_map, unwrap_or, slice_index_or}
 use Rattle.std.specs.Cmp.{IsStrictWeakOrder}
 use Rattle.std.specs.List.{list_all, list_any, sum_by}
 use Rattle.std.specs.List.Sorted.{IsPermutation, IsSortedBy}
 use Rattle.std.specs.Ordering.{is_lt, ordering_then}
-use Rattle.std.proofs.lemmas.Bool.{and_parts, not-true as not_true}
+use Rattle.std.proofs.lemmas.Bool.{cond_both, and_parts, not-true as not_true}
 use Rattle.std.proofs.lemmas.Bool.{or_parts}
 use Rattle.std.proofs.lemmas.Bool.Decides.{nat_tests}
 use Rattle.std.proofs.lemmas.List.{length-map}
@@ -15,6 +15,7 @@ use Rattle.std.proofs.lemmas.List.Elements.{All-nil, All-cons, All-head, All-tai
 use Rattle.std.proofs.lemmas.List.Sorted.{All-permutation, sum_by-IsPermutation, IsPermutation-refl, IsPermutation-sym, IsPermutation-trans, IsPermutation-cons, IsPermutation-middle}
 use Rattle.kmn_base.specs.declared.items.Element.{Element}
 use Rattle.kmn_base.specs.declared.keys.RuleKey.TheVariants as key
+use Rattle.kmn_base.specs.declared.keys.RuleKey.{RuleKey}
 use Rattle.rule_model.specs.declared.program.Program.{Program}
 use Rattle.rule_model.specs.declared.program.GroupDef.{GroupDef}
 use Rattle.rule_model.specs.declared.program.RuleDef.{RuleDef}
@@ -26,7 +27,7 @@ use Rattle.rule_model.specs.Hold.{key_of_element}
 use Rattle.rule_model.specs.Naming.{elements_named}
 use Rattle.compile_laws.specs.Numbers.{Numbers, numbers_of}
 use Rattle.rule_model.specs.Src.{is_plain}
-use Rattle.compile_laws.specs.Compiles.{IsOrderedGroup, file_record, own_key, records_from, keyed_records, rule_records, file_group, stands_before}
+use Rattle.compile_laws.specs.Compiles.{has_halves, half_key, key_records, IsOrderedGroup, file_record, own_key, records_from, keyed_records, rule_records, file_group, stands_before}
 use Rattle.compile_laws.specs.Ordered.{placed, in_order, ordered_group, compiled_tables}
 use Rattle.rule_model.specs.OwnLines.{have_own_lines}
 use Rattle.compile_laws.specs.Law.{TablesAreOnlyOnes, ProgramCompiles}
@@ -94,26 +95,47 @@ module _ {X : Type 0} (lt : X → X → Bool) (order : IsStrictWeakOrder lt) (P 
 abbrev AtLine : ℕ → Rule → Type 0
 AtLine line x = x.line ≡ line
 
+key_lines : (numbers : Numbers) (r : RuleDef) (place : Option ℕ) (k : RuleKey) → All (AtLine r.line) (key_records numbers r place k)
+key_lines numbers r place k =
+    let x : Rule = file_record numbers r place 0 (half_key 0 k) in
+    let y : Rule = file_record numbers r place 1 (half_key 1 k) in
+    let z : Rule = file_record numbers r place 0 k in
+    cond_both (has_halves numbers.cased k) (x ∷ y ∷ []) (z ∷ []) (All (AtLine r.line))
+    (λ _. All-cons (AtLine r.line) x (y ∷ []) refl (All-cons (AtLine r.line) y [] refl (All-nil (AtLine r.line))))
+    (λ _. All-cons (AtLine r.line) z [] refl (All-nil (AtLine r.line)))
+
 store_lines : (numbers : Numbers) (r : RuleDef) (n : ℕ) (es : List Element) → All (AtLine r.line) (records_from numbers r n es)
 store_lines numbers r n [] = All-nil (AtLine r.line)
 store_lines numbers r n (e ∷ es) =
-    All-cons (AtLine r.line) (file_record numbers r (Some n) (unwrap_or (key_of_element e) key.Any)) (records_from numbers r (n + 1) es) refl (store_lines numbers r (n + 1) es)
-
-one_line : (numbers : Numbers) (r : RuleDef) (item : Option SrcItem) → All (AtLine r.line) (file_record numbers r None (own_key numbers item) ∷ [])
-one_line numbers r item = All-cons (AtLine r.line) (file_record numbers r None (own_key numbers item)) [] refl (All-nil (AtLine r.line))
+    All-append (AtLine r.line) (key_records numbers r (Some n) (unwrap_or (key_of_element e) key.Any)) (records_from numbers r (n + 1) es)
+    (key_lines numbers r (Some n) (unwrap_or (key_of_element e) key.Any)) (store_lines numbers r (n + 1) es)
 
 keyed_lines : (numbers : Numbers) (r : RuleDef) (item : Option SrcItem) → All (AtLine r.line) (keyed_records numbers r item)
 keyed_lines numbers r (Some (source.Any store)) = store_lines numbers r 0 (elements_named numbers.stores store)
-keyed_lines numbers r item = one_line numbers r item
+keyed_lines numbers r item = key_lines numbers r None (own_key numbers item)
 
 -- the records of a key store have their places
 abbrev IsFrom : ℕ → Rule → Type 0
 IsFrom n x = n ≤ x.place
 
-places_from : (numbers : Numbers) (r : RuleDef) (n m : ℕ) (es : List Element) → n ≤ m → All (IsFrom n) (records_from numbers r m es)
+-- of a key from twice its place on, up to the next place
+key_places : (numbers : Numbers) (r : RuleDef) (place : Option ℕ) (k : RuleKey) → All (λ (x : Rule). (2 * unwrap_or place 0 ≤ x.place) × (x.place < 2 * unwrap_or place 0 + 2)) (key_records numbers r place k)
+key_places numbers r place k =
+    let P : Rule → Type 0 = λ x. (2 * unwrap_or place 0 ≤ x.place) × (x.place < 2 * unwrap_or place 0 + 2) in
+    let x : Rule = file_record numbers r place 0 (half_key 0 k) in
+    let y : Rule = file_record numbers r place 1 (half_key 1 k) in
+    let z : Rule = file_record numbers r place 0 k in
+    cond_both (has_halves numbers.cased k) (x ∷ y ∷ []) (z ∷ []) (All P)
+    (λ _. All-cons P x (y ∷ []) (omega arith, omega arith) (All-cons P y [] (omega arith, omega arith) (All-nil P)))
+    (λ _. All-cons P z [] (omega arith, omega arith) (All-nil P))
+
+places_from : (numbers : Numbers) (r : RuleDef) (n m : ℕ) (es : List Element) → n ≤ 2 * m → All (IsFrom n) (records_from numbers r m es)
 places_from numbers r n m [] low = All-nil (IsFrom n)
 places_from numbers r n m (e ∷ es) low =
-    All-cons (IsFrom n) (file_record numbers r (Some m) (unwrap_or (key_of_element e) key.Any)) (records_from numbers r (m + 1) es) low (places_from numbers r n (m + 1) es (omega (arith, low)))
+    let k = unwrap_or (key_of_element e) key.Any in
+    All-append (IsFrom n) (key_records numbers r (Some m) k) (records_from numbers r (m + 1) es)
+    (All-weaker (λ (x : Rule). (2 * m ≤ x.place) × (x.place < 2 * m + 2)) (IsFrom n) (λ x is. omega (arith, low, is.0)) (key_records numbers r (Some m) k) (key_places numbers r (Some m) k))
+    (places_from numbers r n (m + 1) es (omega (arith, low)))
 
 cons_cases : {X : Type 0} (x : X) (xs : List X) (a : X) → Contains (x ∷ xs) a → (x ≡ a) ⊎ Contains xs a
 cons_cases x xs a (zero, less, is) = inl is
@@ -121,28 +143,6 @@ cons_cases x xs a (suc k, less, is) = inr (k, omega (arith, less), is)
 
 none_in : {X : Type 0} {R : Type 0} (a : X) → Contains [] a → R
 none_in a c = absurd (omega (arith, c.1))
-
--- two records of a rule at one place are one
-store_apart : (numbers : Numbers) (r : RuleDef) (n : ℕ) (es : List Element) (a b : Rule) →
-    Contains (records_from numbers r n es) a → Contains (records_from numbers r n es) b → a.place ≡ b.place → a ≡ b
-store_apart numbers r n [] a b in_a in_b same = none_in a in_a
-store_apart numbers r n (e ∷ es) a b in_a in_b same =
-    by_cases (λ in_rest also. store_apart numbers r (n + 1) es a b in_rest also same) (cons_cases first rest a in_a) (cons_cases first rest b in_b)
-  where
-    first : Rule
-    first = file_record numbers r (Some n) (unwrap_or (key_of_element e) key.Any)
-
-    rest : List Rule
-    rest = records_from numbers r (n + 1) es
-
-    behind : (x : Rule) → Contains rest x → n + 1 ≤ x.place
-    behind x c = All-contains (IsFrom (n + 1)) rest x (places_from numbers r (n + 1) (n + 1) es (omega arith)) c
-
-    by_cases : (Contains rest a → Contains rest b → a ≡ b) → (first ≡ a) ⊎ Contains rest a → (first ≡ b) ⊎ Contains rest b → a ≡ b
-    by_cases later (inl at_a) (inl at_b) = sym at_a ∙ at_b
-    by_cases later (inl at_a) (inr later_b) = absurd (omega (arith, behind b later_b, same, ap (λ (x : Rule). x.place) at_a))
-    by_cases later (inr later_a) (inl at_b) = absurd (omega (arith, behind a later_a, same, ap (λ (x : Rule). x.place) at_b))
-    by_cases later (inr later_a) (inr later_b) = later later_a later_b
 
 one_apart : (x a b : Rule) → Contains (x ∷ []) a → Contains (x ∷ []) b → a ≡ b
 one_apart x a b in_a in_b = by_cases (cons_cases x [] a in_a) (cons_cases x [] b in_b)
@@ -152,10 +152,58 @@ one_apart x a b in_a in_b = by_cases (cons_cases x [] a in_a) (cons_cases x [] b
     by_cases (inr no_a) at_b = none_in a no_a
     by_cases (inl at_a) (inr no_b) = none_in b no_b
 
+-- of two records with different places the one at a place
+two_apart : (x y a b : Rule) → x.place < y.place → Contains (x ∷ y ∷ []) a → Contains (x ∷ y ∷ []) b → a.place ≡ b.place → a ≡ b
+two_apart x y a b less in_a in_b same = by_cases (cons_cases x (y ∷ []) a in_a) (cons_cases x (y ∷ []) b in_b)
+  where
+    at_y : (c : Rule) → Contains (y ∷ []) c → y ≡ c
+    at_y c is = one_apart y y c (0, omega arith, refl) is
+
+    by_cases : (x ≡ a) ⊎ Contains (y ∷ []) a → (x ≡ b) ⊎ Contains (y ∷ []) b → a ≡ b
+    by_cases (inl at_a) (inl at_b) = sym at_a ∙ at_b
+    by_cases (inr in_a) (inr in_b) = sym (at_y a in_a) ∙ at_y b in_b
+    by_cases (inl at_a) (inr in_b) = absurd (omega (arith, less, same, ap (λ (x : Rule). x.place) at_a, ap (λ (x : Rule). x.place) (at_y b in_b)))
+    by_cases (inr in_a) (inl at_b) = absurd (omega (arith, less, same, ap (λ (x : Rule). x.place) (at_y a in_a), ap (λ (x : Rule). x.place) at_b))
+
+key_apart : (numbers : Numbers) (r : RuleDef) (place : Option ℕ) (k : RuleKey) (a b : Rule) →
+    Contains (key_records numbers r place k) a → Contains (key_records numbers r place k) b → a.place ≡ b.place → a ≡ b
+key_apart numbers r place k a b =
+    let x : Rule = file_record numbers r place 0 (half_key 0 k) in
+    let y : Rule = file_record numbers r place 1 (half_key 1 k) in
+    let z : Rule = file_record numbers r place 0 k in
+    cond_both (has_halves numbers.cased k) (x ∷ y ∷ []) (z ∷ []) (λ xs. Contains xs a → Contains xs b → a.place ≡ b.place → a ≡ b)
+    (λ _. two_apart x y a b (omega arith))
+    (λ _ in_a in_b same. one_apart z a b in_a in_b)
+
+-- two records of a rule at one place are one
+store_apart : (numbers : Numbers) (r : RuleDef) (n : ℕ) (es : List Element) (a b : Rule) →
+    Contains (records_from numbers r n es) a → Contains (records_from numbers r n es) b → a.place ≡ b.place → a ≡ b
+store_apart numbers r n [] a b in_a in_b same = none_in a in_a
+store_apart numbers r n (e ∷ es) a b in_a in_b same =
+    by_cases (λ in_rest also. store_apart numbers r (n + 1) es a b in_rest also same) (Contains-append_cases heads rest a in_a) (Contains-append_cases heads rest b in_b)
+  where
+    heads : List Rule
+    heads = key_records numbers r (Some n) (unwrap_or (key_of_element e) key.Any)
+
+    rest : List Rule
+    rest = records_from numbers r (n + 1) es
+
+    behind : (x : Rule) → Contains rest x → 2 * n + 2 ≤ x.place
+    behind x c = All-contains (IsFrom (2 * n + 2)) rest x (places_from numbers r (2 * n + 2) (n + 1) es (omega arith)) c
+
+    before : (x : Rule) → Contains heads x → x.place < 2 * n + 2
+    before x c = (All-contains (λ (x : Rule). (2 * n ≤ x.place) × (x.place < 2 * n + 2)) heads x (key_places numbers r (Some n) (unwrap_or (key_of_element e) key.Any)) c).1
+
+    by_cases : (Contains rest a → Contains rest b → a ≡ b) → Contains heads a ⊎ Contains rest a → Contains heads b ⊎ Contains rest b → a ≡ b
+    by_cases later (inl at_a) (inl at_b) = key_apart numbers r (Some n) (unwrap_or (key_of_element e) key.Any) a b at_a at_b same
+    by_cases later (inl at_a) (inr later_b) = absurd (omega (arith, behind b later_b, same, before a at_a))
+    by_cases later (inr later_a) (inl at_b) = absurd (omega (arith, behind a later_a, same, before b at_b))
+    by_cases later (inr later_a) (inr later_b) = later later_a later_b
+
 keyed_apart : (numbers : Numbers) (r : RuleDef) (item : Option SrcItem) (a b : Rule) →
     Contains (keyed_records numbers r item) a → Contains (keyed_records numbers r item) b → a.place ≡ b.place → a ≡ b
 keyed_apart numbers r (Some (source.Any store)) a b in_a in_b same = store_apart numbers r 0 (elements_named numbers.stores store) a b in_a in_b same
-keyed_apart numbers r item a b in_a in_b same = one_apart (file_record numbers r None (own_key numbers item)) a b in_a in_b
+keyed_apart numbers r item a b in_a in_b same = key_apart numbers r None (own_key numbers item) a b in_a in_b same
 
 -- no record of other rules stands in a line that is none of theirs
 abbrev OffLine : ℕ → Rule → Type 0

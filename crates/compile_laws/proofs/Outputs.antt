@@ -102,7 +102,7 @@ module _ (p : Program) (t : Tables) (l : Linked p t) (e f : Ref → EventState �
       λ i. if s.stopped then s else put_element (element_at (l.same_content store s.current known i) (places i)) s
 
   -- an item does what it compiles to does
-  one-same : (x : SrcItem) → is_known_output p n x ≡ true → list_all (is_value p) (item_values x) ≡ true → (s : EventState) →
+  pub one-same : (x : SrcItem) → is_known_output p n x ≡ true → list_all (is_value p) (item_values x) ≡ true → (s : EventState) →
       act (tab t) f (lost c) (map (tab_output t.stores) (file_output (numbers_of p) n c.key_place x)) s
       ≡ (if s.stopped then s else act_one (src p) e c (src_output (names_of p) x) s)
   one-same (source.Index store offset) known valued s = index-act store offset (nat_eq offset (n + 1)) refl known s
@@ -113,6 +113,8 @@ module _ (p : Program) (t : Tables) (l : Linked p t) (e f : Ref → EventState �
   one-same (source.Enter group) known valued s = λ i. if s.stopped then s else (if nat_le 50 s.entered then record s { stopped = true } else same group known s i)
   one-same (source.Set store value) known valued s =
       λ i. if s.stopped then s else set_current (l.same_option store known i) (l.same_value value (and_parts (is_value p value) true valued).0 i) s
+  one-same (source.SetSystem id value) known valued s =
+      λ i. if s.stopped then s else set_current (l.same_system_option id i) (l.same_value value (and_parts (is_value p value) true valued).0 i) s
   one-same (source.Save store) known valued s = λ i. if s.stopped then s else save_current (l.same_option store known i) s
   one-same (source.Reset store) known valued s = λ i. if s.stopped then s else reset_current (l.same_option store known i) (l.same_elements store known i) s
   one-same x known valued s = refl

@@ -18,7 +18,7 @@ use Rattle.rule_model.specs.Keyboard.{Ref, Pattern, IsAny, IsNotAny, IsIndex, If
 use Rattle.rule_model.specs.Content.{content}
 use Rattle.rule_model.specs.Match.{Content, takes_item, matches, place_for, place_of, place_caught, element_at, is_element, nothing_caught, catch_item, catches_from}
 use Rattle.rule_model.specs.System.{is_equal}
-use Rattle.rule_model.specs.Hold.{is_true, is_at_start, pattern_count, has_room, fitting_place, caught_by, holds}
+use Rattle.rule_model.specs.Hold.{is_true, is_at_start, pattern_count, has_room, fitting_place_with, caught_by, holds_with}
 use Rattle.rule_model.specs.Naming.{names_of}
 use Rattle.rule_model.specs.Tab.{tab, tab_pattern}
 use Rattle.rule_model.specs.Src.{src, src_pattern}
@@ -91,13 +91,13 @@ parts false catches place = refl
 
 -- a rule holds where its context is caught and its key fits
 pub holds-parts :
-    (content : Content) (left : List Item) (press : KeyPress) (rule : RuleMeaning) →
-    holds content left press rule ≡ caught_by (context_caught content left rule.context) (fitting_place content press rule.key)
-holds-parts content left press rule =
+    (cased : List ℕ) (content : Content) (left : List Item) (press : KeyPress) (rule : RuleMeaning) →
+    holds_with cased content left press rule ≡ caught_by (context_caught content left rule.context) (fitting_place_with cased content press rule.key)
+holds-parts cased content left press rule =
     parts
     (list_all (is_true content) rule.context && has_room rule.context left)
     (catches_from content [] rule.context (drop (length left - pattern_count rule.context) left))
-    (fitting_place content press rule.key)
+    (fitting_place_with cased content press rule.key)
 
 pub context_caught-same :
     (ca cb : Content) (xs ys : List Pattern) → SameContext ca cb xs ys → (left : List Item) → context_caught ca left xs ≡ context_caught cb left ys
@@ -180,4 +180,8 @@ pattern-same p t l values (source.Equal s v) known valued =
     equal-same _ _ _ _ (sym (l.same_content s values known)) (λ c v. refl) _ _ (sym (l.same_value v (and_parts (is_value p v) true valued).0))
 pattern-same p t l values (source.Unequal s v) known valued =
     unequal-same _ _ _ _ (sym (l.same_content s values known)) (λ c v. refl) _ _ (sym (l.same_value v (and_parts (is_value p v) true valued).0))
+pattern-same p t l values (source.SystemEqual id v) known valued =
+    equal-same _ _ _ _ (sym (l.same_system id values)) (λ c v. refl) _ _ (sym (l.same_value v (and_parts (is_value p v) true valued).0))
+pattern-same p t l values (source.SystemUnequal id v) known valued =
+    unequal-same _ _ _ _ (sym (l.same_system id values)) (λ c v. refl) _ _ (sym (l.same_value v (and_parts (is_value p v) true valued).0))
 pattern-same p t l values x known valued = record { takes = refl; fits = λ seen x. refl; place = λ x. refl; holds = refl; start = refl }

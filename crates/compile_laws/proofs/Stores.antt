@@ -1,5 +1,5 @@
--- The stores of a program's tables are those of the program, more that are no options, and the system options.
-use Rattle.std.proofs.Common.{◌≡◌, ℕ, zero, suc, ◌+◌, ◌<◌, ◌≤◌, Bool, true, false, List, [], ◌∷◌, ◌++◌, length, map, not, ◌&&◌, Option, Some, None, refl, ap, sym, ◌∙◌, arith, is_some, if◌then◌else◌, cond, append_assoc}
+-- The stores of a program's tables are those of the program, and more that are no options.
+use Rattle.std.proofs.Common.{◌≡◌, ℕ, zero, suc, ◌+◌, ◌<◌, ◌≤◌, Bool, true, false, List, [], ◌∷◌, ◌++◌, length, map, not, ◌&&◌, Option, Some, None, refl, ap, sym, ◌∙◌, arith, is_some, if◌then◌else◌, cond, append-nil, append_assoc}
 use Rattle.std.specs.Prelude.{nat_eq, find, option_map, position, slice_get, unwrap_or}
 use Rattle.std.specs.List.{list_any, AllByRecursion}
 use Rattle.std.specs.Str.{bytes_eq}
@@ -21,8 +21,10 @@ use Rattle.compile_laws.specs.Numbers.{numbers_of, values_of, value_store, dicti
 use Rattle.compile_laws.specs.Compiles.{Compiles}
 use Rattle.compile_laws.specs.WellNamed.{IsWellNamed, is_store, is_fixed, stated_stores}
 use Rattle.rule_model.specs.Trace.{options_of, none_saved, first_state}
-use Rattle.rule_model.specs.System.{system_options}
 use Rattle.rule_model.proofs.PlainOptions.{length-with_options}
+use Rattle.rule_model.specs.System.{system_options, system_ref}
+use Rattle.rule_model.specs.Plain.{option_names}
+use Rattle.rule_model.proofs.SystemOptions.{names_behind, system_option_is, content_by_option}
 use Rattle.compile_laws.proofs.Keyboards.{src_stores, tab_stores}
 use Rattle.compile_laws.proofs.Linked.{Linked, is_value}
 use Rattle.compile_laws.proofs.Options.{options-same, options-within}
@@ -257,6 +259,28 @@ fixed-elements p s values fixed =
     ∙ (fixed_at (stated_stores p) values (store_number (stated_stores p) (Named s)) (not-true (is_some (option_number (stated_stores p) (Named s))) fixed)
     ∙ elements-named s (src_options p) 0 (stores_of p))))
 
+-- the option numbers of the system options of both are the same
+none_named : (more : List StoreMeaning) → NoOptions more → option_names more ≡ []
+none_named more none = ap (map (λ (store : StoreMeaning). store.name)) (no_more_options more none)
+
+more_names : (a b : List StoreMeaning) (m : More a b) → option_names (m.own ++ m.more) ≡ option_names m.own
+more_names a b m = names_behind m.own m.more ∙ (ap (λ names. option_names m.own ++ names) (none_named m.more m.none) ∙ append-nil (option_names m.own))
+
+system-option : (a b : List StoreMeaning) → More a b → (id : ℕ) → option_number b (system_ref id) ≡ option_number a (system_ref id)
+system-option a b m id =
+    (λ i. option_number ((m.is ∙ sym (append_assoc m.own m.more system_options)) i) (system_ref id))
+    ∙ (system_option_is (m.own ++ m.more) id
+    ∙ (ap (λ names. Some (length names + (if nat_eq id 31 then 1 else 0))) (more_names a b m)
+    ∙ (sym (system_option_is m.own id) ∙ (λ i. option_number (sym m.first i) (system_ref id)))))
+
+system-number : (a b : List StoreMeaning) → More a b → (id : ℕ) → (o : ℕ) × (option_number a (system_ref id) ≡ Some o)
+system-number a b m id = (length (option_names m.own) + (if nat_eq id 31 then 1 else 0), (λ i. option_number (m.first i) (system_ref id)) ∙ system_option_is m.own id)
+
+system-content : (a b : List StoreMeaning) → More a b → (id : ℕ) (values : List (List Element)) → content b values (system_ref id) ≡ content a values (system_ref id)
+system-content a b m id values =
+    let number = system-number a b m id in
+    content_by_option b values (system_ref id) number.0 (system-option a b m id ∙ number.1) ∙ sym (content_by_option a values (system_ref id) number.0 number.1)
+
 value-same : (p : Program) (t : Tables) → Compiles p t → (v : List ℕ) → is_value p v ≡ true → elements_of t.stores (number_of_value (numbers_of p) v) ≡ value_elements v
 value-same p t c v stated =
     let at = at_place (position (λ known. bytes_eq known v) (values_of p)) stated in
@@ -270,5 +294,7 @@ linked p t ok c =
       same_elements = λ s known. elements-same p t ok c s known;
       named_elements = stated-elements p;
       fixed = fixed-elements p;
+      same_system = system-content (src p).stores (tab t).stores (tables-more p t ok c);
+      same_system_option = system-option (src p).stores (tab t).stores (tables-more p t ok c);
       same_value = value-same p t c;
     }

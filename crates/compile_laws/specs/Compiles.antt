@@ -1,5 +1,5 @@
 -- Which tables a program compiles to.
-use Rattle.std.specs.Prelude.{◌≡◌, ℕ, ◌+◌, ◌<◌, Bool, not, nat_eq, if◌then◌else◌, List, [], ◌∷◌, length, map, flat_map, filter, find, Option, Some, None, unwrap_or, slice_index_or}
+use Rattle.std.specs.Prelude.{◌≡◌, ℕ, ◌+◌, ◌*◌, ◌<◌, Bool, false, not, nat_eq, if◌then◌else◌, List, [], ◌∷◌, ◌++◌, length, map, flat_map, filter, find, Option, Some, None, unwrap_or, slice_index_or}
 use Rattle.std.specs.List.Sorted.{IsPermutation, IsSortedBy}
 use Rattle.std.specs.Ordering.{is_lt, ordering_then, nat_cmp}
 use Rattle.kmn_base.specs.declared.items.Element.{Element}
@@ -20,7 +20,8 @@ use Rattle.rule_model.specs.declared.tables.Rule.{Rule}
 use Rattle.rule_model.specs.declared.tables.Group.{Group}
 use Rattle.rule_model.specs.declared.tables.Tables.{Tables}
 use Rattle.rule_model.specs.Match.{element_at}
-use Rattle.rule_model.specs.Hold.{key_of_element}
+use Rattle.rule_model.specs.Hold.{key_of_element, is_exchanged}
+use Rattle.rule_model.specs.CasedKeys.{half_flags}
 use Rattle.rule_model.specs.Naming.{mark_number, key_number, elements_named}
 use Rattle.rule_model.specs.Src.{is_plain, is_on_match, is_on_nomatch, is_unicode}
 use Rattle.compile_laws.specs.Numbers.{Numbers, numbers_of, number_of_store, number_of_group, number_of_value, number_of_start, version_of, compiled_stores}
@@ -35,6 +36,8 @@ file_pattern numbers (source.Index store offset) = pattern.Index (number_of_stor
 file_pattern numbers (source.ContextAt offset) = pattern.ContextAt offset
 file_pattern numbers (source.Equal store value) = pattern.Equal (number_of_store numbers store) (number_of_value numbers value)
 file_pattern numbers (source.Unequal store value) = pattern.Unequal (number_of_store numbers store) (number_of_value numbers value)
+file_pattern numbers (source.SystemEqual id value) = pattern.SystemEqual id (number_of_value numbers value)
+file_pattern numbers (source.SystemUnequal id value) = pattern.SystemUnequal id (number_of_value numbers value)
 file_pattern numbers item = pattern.Nul
 
 -- an element as an output; a virtual key comes to nothing
@@ -62,6 +65,7 @@ file_output numbers count place (source.ContextAt offset) = output.ContextAt off
 file_output numbers count place (source.Outs store) = flat_map element_outs (elements_named numbers.stores store)
 file_output numbers count place (source.Enter group) = output.Enter (number_of_group numbers group) ∷ []
 file_output numbers count place (source.Set store value) = output.Set (number_of_store numbers store) (number_of_value numbers value) ∷ []
+file_output numbers count place (source.SetSystem id value) = output.SetSystem id (number_of_value numbers value) ∷ []
 file_output numbers count place (source.Save store) = output.Save (number_of_store numbers store) ∷ []
 file_output numbers count place (source.Reset store) = output.Reset (number_of_store numbers store) ∷ []
 file_output numbers count place source.Beep = output.Beep ∷ []
@@ -77,22 +81,39 @@ or_nul (out ∷ outs) = out ∷ outs
 abbrev pub file_outputs : Numbers → ℕ → Option ℕ → List SrcItem → List Out
 file_outputs numbers count place items = or_nul (flat_map (file_output numbers count place) items)
 
--- the record of a rule with this key and, where it has a key store, the place of the key in it
-abbrev pub file_record : Numbers → RuleDef → Option ℕ → RuleKey → Rule
-file_record numbers rule place wanted =
+-- whether a key has two records: a virtual key that exchanges shift and caps lock
+abbrev pub has_halves : List ℕ → RuleKey → Bool
+has_halves cased (key.Virtual flags code) = is_exchanged cased flags code
+has_halves cased wanted = false
+
+-- the key of one of the two
+abbrev pub half_key : ℕ → RuleKey → RuleKey
+half_key half (key.Virtual flags code) = key.Virtual (half_flags half flags) code
+half_key half wanted = wanted
+
+-- the record of a rule with this key and, where it has a key store, the place of the key in it, and of two halves this one
+abbrev pub file_record : Numbers → RuleDef → Option ℕ → ℕ → RuleKey → Rule
+file_record numbers rule place half wanted =
     record {
       line = rule.line;
-      place = unwrap_or place 0;
+      place = 2 * unwrap_or place 0 + half;
       key = wanted;
       context = map (file_pattern numbers) rule.context;
       output = file_outputs numbers (length rule.context) place rule.output;
     }
 
--- a record for each element of a key store, which stand from this place on; a key store that is checked has no mark
+-- the records of a rule for a key: one, or two halves
+abbrev pub key_records : Numbers → RuleDef → Option ℕ → RuleKey → List Rule
+key_records numbers rule place wanted =
+    if has_halves numbers.cased wanted
+    then file_record numbers rule place 0 (half_key 0 wanted) ∷ file_record numbers rule place 1 (half_key 1 wanted) ∷ []
+    else file_record numbers rule place 0 wanted ∷ []
+
+-- the records for each element of a key store, which stand from this place on; a key store that is checked has no mark
 abbrev pub records_from : Numbers → RuleDef → ℕ → List Element → List Rule
 records_from numbers rule place [] = []
 records_from numbers rule place (e ∷ elements) =
-    file_record numbers rule (Some place) (unwrap_or (key_of_element e) key.Any) ∷ records_from numbers rule (place + 1) elements
+    key_records numbers rule (Some place) (unwrap_or (key_of_element e) key.Any) ++ records_from numbers rule (place + 1) elements
 
 -- the key of a rule that has no key store; a rule of a group without keys has none
 abbrev pub own_key : Numbers → Option SrcItem → RuleKey
@@ -103,7 +124,7 @@ own_key numbers item = key.Any
 -- the records of a rule with this key: one for each element of a key store, else one
 abbrev pub keyed_records : Numbers → RuleDef → Option SrcItem → List Rule
 keyed_records numbers rule (Some (source.Any store)) = records_from numbers rule 0 (elements_named numbers.stores store)
-keyed_records numbers rule item = file_record numbers rule None (own_key numbers item) ∷ []
+keyed_records numbers rule item = key_records numbers rule None (own_key numbers item)
 
 -- the records of a rule
 abbrev pub rule_records : Numbers → RuleDef → List Rule
@@ -126,7 +147,7 @@ file_group numbers group =
     }
 
 -- a record stands before another: its context is longer; or as long, and its line earlier; or its line the same, and
--- its place in the key store earlier
+-- its place earlier: that of its key in the key store, and of a cased key's two records
 abbrev pub stands_before : Rule → Rule → Bool
 stands_before a b =
     is_lt (ordering_then (ordering_then (nat_cmp (length b.context) (length a.context)) (nat_cmp a.line b.line)) (nat_cmp a.place b.place))

@@ -13,13 +13,16 @@ use Rattle.rule_model.specs.declared.tables.Store.{Store}
 use Rattle.rule_model.specs.Match.{same_value}
 use Rattle.rule_model.specs.Tab.{distinct_onto}
 use Rattle.rule_model.specs.Naming.{SourceNames, names_of, stores_of, rule_items, all_rules}
-use Rattle.rule_model.specs.Src.{value_elements}
+use Rattle.rule_model.specs.Src.{value_elements, cased_keys}
 
 -- the value that an item compares with or sets
 abbrev pub item_values : SrcItem → List (List ℕ)
 item_values (source.Equal store value) = value ∷ []
 item_values (source.Unequal store value) = value ∷ []
 item_values (source.Set store value) = value ∷ []
+item_values (source.SystemEqual id value) = value ∷ []
+item_values (source.SystemUnequal id value) = value ∷ []
+item_values (source.SetSystem id value) = value ∷ []
 item_values item = []
 
 -- the values of a program, each once, by first appearance
@@ -39,13 +42,15 @@ dictionary_stores (name ∷ names) = record { system = 34; name = []; elements =
 abbrev pub compiled_stores : Program → List Store
 compiled_stores program = stores_of program ++ (dictionary_stores (names_of program).keys ++ map value_store (values_of program))
 
--- what a program's numbers are found by: its names, stores, groups and values, and the number of the first value store
+-- what a program's numbers are found by: its names, stores, groups and values, and the number of the first value store; and
+-- the codes of its cased keys
 pub record Numbers : Type 0 where
   pub names : SourceNames
   pub stores : List Store
   pub groups : List (List ℕ)
   pub values : List (List ℕ)
   pub first_value : ℕ
+  pub cased : List ℕ
 
 -- the numbers of a program: behind the stores of the statements stands the key dictionary, if any, and then the values
 abbrev pub numbers_of : Program → Numbers
@@ -56,6 +61,7 @@ numbers_of program =
       groups = map (λ (group : GroupDef). group.name) program.groups;
       values = values_of program;
       first_value = length (stores_of program) + length (dictionary_stores (names_of program).keys);
+      cased = cased_keys program;
     }
 
 -- the number of a store in the file: the place of the first that has the name

@@ -129,6 +129,8 @@ S:any(v) context(0) + 'a' > 'b' ⇒ C08 8
 S:any(v) context(2) + 'a' > 'b' ⇒ C08 8
 S:any(v) context(3) + 'a' > 'b' ⇒ C08 8
 S:context(1) any(v) + 'a' > 'b' ⇒ C08 8
+S:if(&layer = "s") any(v) + 'a' > index(v,1) ⇒ C08 8
+S:if(&layer = "s") any(v) + 'a' > index(v,2) ⇒ ok
 S:context(2) any(v) + 'a' > 'b' ⇒ C08 8
 S:any(v) index(v,0) + 'a' > 'b' ⇒ C08 8
 S:any(v) index(v,2) + 'a' > 'b' ⇒ C08 8
@@ -207,8 +209,8 @@ const PROFILE: &str = r##"K:+ 'a' > call(d) ⇒ C11 3
 K:match > 'a' call(d) ⇒ C11 3
 K:nomatch > call('d') ⇒ C11 3
 K:+ 'a' > \¶call(d) ⇒ C11 3
-K:+ 'a' > call(d) layer(x) ⇒ C11 3
-K:+ 'a' > layer(x) call(d) ⇒ C12 3
+K:+ 'a' > call(d) switch(x) ⇒ C11 3
+K:+ 'a' > switch(x) call(d) ⇒ C12 3
 K:+ 'a' > call(d)¶store(&capsononly) '1' ⇒ C11 3
 K:store(&capsononly) '1'¶+ 'a' > call(d) ⇒ C12 3
 K:+ 'a' > call(d)¶any(q) + 'b' > 'c' ⇒ C05 4
@@ -224,15 +226,22 @@ S:nomatch > [K_A] ⇒ C12 8
 K:+ 'a' > switch(x) ⇒ C12 3
 K:+ 'a' > clearcontext ⇒ C12 3
 K:+ 'a' > fix ⇒ C12 3
-K:+ 'a' > layer(x) ⇒ C12 3
+K:+ 'a' > layer(x) ⇒ S02 3
 K:+ 'a' > set(&x = "v") ⇒ C12 3
-K:+ 'a' > set(&layer = "v") ⇒ C12 3
-K:platform(x) + 'a' > 'b' ⇒ C12 3
-K:layer(x) + 'a' > 'b' ⇒ C12 3
+K:+ 'a' > set(&platform = "v") ⇒ C12 3
+K:+ 'a' > set(&layer = v) ⇒ S02 3
+K:+ 'a' > platform("v") ⇒ S06 3
+K:platform(x) + 'a' > 'b' ⇒ S02 3
+K:layer(x) + 'a' > 'b' ⇒ S02 3
+K:'a' platform("v") + 'a' > 'b' ⇒ S09 3
+K:'a' baselayout(x) + 'a' > 'b' ⇒ S09 3
 K:baselayout(x) + 'a' > 'b' ⇒ C12 3
 K:if(&x = "v") + 'a' > 'b' ⇒ C12 3
 K:if(&x != "v") + 'a' > 'b' ⇒ C12 3
-K:platform(x) 'a' + 'b' > context(1) ⇒ C12 3
+K:baselayout(x) 'a' + 'b' > context(1) ⇒ C12 3
+K:platform("v") 'a' + 'b' > context(1) ⇒ C08 3
+K:platform("v") 'a' + 'b' > context(2) ⇒ ok
+K:if(&LAYER = "v") layer("") if(&platform != "v") + 'a' > set(&Layer = "v") layer("w") ⇒ ok
 K:baselayout(x) + U+10000 > call(x) ⇒ C12 3
 K:'a' + 'b' > fix context(0) ⇒ C12 3
 K:'a' + 'b' > context(0) fix ⇒ C08 3
@@ -243,8 +252,6 @@ S:nomatch > context ⇒ C12 8
 S:nomatch > context(9) ⇒ C12 8
 S:nomatch > 'a' index(v,9) ⇒ C12 8
 N:match > context ⇒ C12 8
-K:store(&casedkeys) [K_A] ⇒ C12 3
-K:store(&casedkeys) ⇒ C12 3
 K:store(&includecodes) 'x' ⇒ C12 3
 K:store(&capsalwaysoff) '1' ⇒ C12 3
 K:store(&CapsOnOnly) '1' ⇒ C12 3
@@ -324,6 +331,15 @@ K:store(&bitmap) dk(x)¶store(&version) '5.0' ⇒ C14 3
 K:store(&version) '5.0'¶store(&bitmap) dk(x) ⇒ C12 3
 S:store(&bitmap)¶store(&bitmap) 'p.ico' $v $e ⇒ ok
 S:store(&name) dk(x) [K_A]¶store(&hotkey) [CTRL K_A]¶store(&message) $k¶store(&language) dk(x) [K_A] ⇒ ok
+K:store(&casedkeys) 'a' ⇒ C25 3
+K:store(&casedkeys) [K_A] [SHIFT K_A] ⇒ C25 3
+K:store(&casedkeys) [T_x] ⇒ C25 3
+S:store(&casedkeys) $m ⇒ C25 8
+K:store(&casedkeys) [K_A]¶store(&casedkeys) 'a' ⇒ C25 4
+A:store(o) dk(x)¶begin Unicode > use(main)¶group(main) using keys¶store(&casedkeys) 'a'¶if(o = "1") + 'a' > 'b' ⇒ C14 1
+S:store(&casedkeys) $o¶if(o = "1") + 'a' > 'b' ⇒ C13 8
+K:store(&casedkeys) $k¶store(k) [K_A] ⇒ C07 3
+K:store(k) [K_A]¶store(&casedkeys) [K_B] $k¶store(&casedkeys) ⇒ ok
 S:+ 'a' > save(o) set(v = "1") reset(e) $k2¶store(k2) 'a'¶store(k3) $k $m ⇒ ok"##;
 
 /// The limits, both sides of each.
@@ -378,7 +394,9 @@ K:store(&language) ⟨dk(a№) ×5001⟩ ⇒ C21 3
 K:store(x) ⟨dk(a№) ×5000⟩¶dk(a1) + 'a' > dk(A2)¶+ 'a' > dk(b) ⇒ C21 5
 K:⟨+ 'a' > dk(a№)¶×5001⟩ ⇒ C21 5003
 K:store(x) ⟨dk(a) ×5001⟩ ⇒ ok
-K:store(k) '⟨a×50000⟩'¶+ any(k) > 'x'¶+ any(k) > 'x'¶match > 'y'¶+ 'b' > 'c' ⇒ C22 7"##;
+K:store(k) '⟨a×50000⟩'¶+ any(k) > 'x'¶+ any(k) > 'x'¶match > 'y'¶+ 'b' > 'c' ⇒ C22 7
+K:store(&casedkeys) [K_A]¶store(k) ⟨[K_A] ×50000⟩¶+ any(k) > 'x' ⇒ ok
+K:store(&casedkeys) [K_A]¶store(k) ⟨[K_A] ×49999⟩¶+ any(k) > 'x'¶+ 'b' > 'c'¶+ [K_A] > 'd' ⇒ C22 7"##;
 
 /// A keyboard of every kind of statement.
 const SAMPLE: &str =

@@ -42,6 +42,10 @@ const SOURCES: &[(&str, Answer)] = &[
         "store(k) [K_A] [SHIFT K_A]\nstore(o) 'xy'\nbegin Unicode>use(main)\ngroup(main) using keys\n+ any(k) > index(o,1)",
         Answer::File(55, 206),
     ),
+    (
+        "store(&casedkeys) [K_A] [K_B] [K_C]\nbegin Unicode > use(main)\ngroup(main) using keys\n+ [K_B] > 'x'",
+        Answer::File(44, 190),
+    ),
     ("", Answer::Refused(1, Code::C01)),
     (
         "begin Unicode>use(main)\ngroup(main) using keys\n+ 'a' > ",

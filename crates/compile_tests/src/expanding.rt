@@ -11,7 +11,7 @@ use std::test::Fail;
 /// A store's system id and its elements.
 type StoreRow = (u32, &'static [Element]);
 
-/// A record's line, its place in the key store, its key, context and output.
+/// A record's line, twice its place in the key store, its key, context and output.
 type RuleRow = (u32, u32, RuleKey, &'static [Pat], &'static [Out]);
 
 /// The statements of a source behind the two lines, and the stores and records that it has.
@@ -66,7 +66,7 @@ const SOURCES: &[(&str, &[StoreRow], &[RuleRow])] = &[
             ),
             (
                 5,
-                1,
+                2,
                 RuleKey::Virtual {
                     flags: 16400,
                     code: 65,
@@ -104,6 +104,34 @@ const SOURCES: &[(&str, &[StoreRow], &[RuleRow])] = &[
                 RuleKey::Char(122),
                 &[],
                 &[Out::Set(0, 2), Out::Reset(0)],
+            ),
+        ],
+    ),
+    (
+        "store(o) \"0\"\nif(o = \"s\") if(&layer = \"s\") platform('s') + 'a' > set(o = 's') layer(\"s\") set(&layer = \"t\")\nif(&platform != \"t\") + 'b' > 'c'",
+        &[
+            (0, &[Element::Char('0')]),
+            (0, &[Element::Char('s')]),
+            (0, &[Element::Char('t')]),
+        ],
+        &[
+            (
+                4,
+                0,
+                RuleKey::Char(97),
+                &[
+                    Pat::Equal(0, 1),
+                    Pat::SystemEqual(33, 1),
+                    Pat::SystemEqual(31, 1),
+                ],
+                &[Out::Set(0, 1), Out::SetSystem(33, 1), Out::SetSystem(33, 2)],
+            ),
+            (
+                5,
+                0,
+                RuleKey::Char(98),
+                &[Pat::SystemUnequal(31, 2)],
+                &[Out::Char('c')],
             ),
         ],
     ),
@@ -162,8 +190,44 @@ const SOURCES: &[(&str, &[StoreRow], &[RuleRow])] = &[
         ],
         &[
             (6, 0, RuleKey::Char(97), &[], &[Out::Char('x')]),
-            (6, 1, RuleKey::Char(98), &[], &[Out::Nul]),
-            (6, 2, RuleKey::Char(99), &[], &[Out::Nul]),
+            (6, 2, RuleKey::Char(98), &[], &[Out::Nul]),
+            (6, 4, RuleKey::Char(99), &[], &[Out::Nul]),
+        ],
+    ),
+];
+
+/// A record's place, the flags of its key, 0 for a character, the code or the character, and the character that is put.
+type CasedRow = (u32, u32, u16, char);
+
+/// The statements of a source with cased keys behind the two lines, and the records that it has.
+const CASED: &[(&str, &[CasedRow])] = &[
+    (
+        "store(&casedkeys) [K_B]\nstore(k) [K_A] [K_B] 'c' [SHIFT K_B]\nstore(o) \"wxyz\"\n+ any(k) > index(o,1)",
+        &[
+            (0, 0x4000, 65, 'w'),
+            (2, 0x4200, 66, 'x'),
+            (3, 0x4110, 66, 'x'),
+            (4, 0, 99, 'y'),
+            (6, 0x4210, 66, 'z'),
+            (7, 0x4100, 66, 'z'),
+        ],
+    ),
+    (
+        "store(k) [K_B] [K_A]\nstore(&casedkeys) $k\n+ [SHIFT K_A] > 'x'\n+ [CTRL K_A] > 'y'",
+        &[
+            (0, 0x4210, 65, 'x'),
+            (1, 0x4100, 65, 'x'),
+            (0, 0x4220, 65, 'y'),
+            (1, 0x4130, 65, 'y'),
+        ],
+    ),
+    (
+        "store(&casedkeys) [K_A] [K_B]\nstore(&casedkeys) [K_C]\n+ [CAPS K_A] > 'x'\n+ [NCAPS K_B] > 'y'\n+ 'a' > 'z'\n+ [K_C] > 'w'",
+        &[
+            (0, 0x4100, 65, 'x'),
+            (0, 0x4200, 66, 'y'),
+            (0, 0, 97, 'z'),
+            (0, 0x4000, 67, 'w'),
         ],
     ),
 ];
@@ -213,6 +277,39 @@ fn are_records(groups: &[Group], rows: &[RuleRow]) -> bool {
     })
 }
 
+/// The key of these flags and this code, or of a character.
+fn key_of(flags: u32, code: u16) -> RuleKey {
+    match flags {
+        0 => RuleKey::Char(code),
+        _ => RuleKey::Virtual { flags, code },
+    }
+}
+
+fn is_cased_record(rule: &Rule, row: CasedRow) -> bool {
+    let (place, flags, code, put) = row;
+    rule.place == place
+        && rule.key == key_of(flags, code)
+        && rule.output.as_slice() == [Out::Char(put)].as_slice()
+}
+
+/// Whether a source with cased keys has these records.
+fn expands_cased(alloc: Global, statements: &str, rows: &[CasedRow]) -> Result<bool, Fail> {
+    let source = with_line(alloc, KEYBOARD.as_bytes(), statements.as_bytes())?;
+    let checked = front(alloc, source.as_slice())?;
+    let tables = expand(alloc, &checked)?;
+    Ok(
+        tables.groups.as_slice().iter().all(|group| {
+            group.rules.len() == rows.len()
+                && group
+                    .rules
+                    .as_slice()
+                    .iter()
+                    .zip(rows)
+                    .all(|(rule, row)| is_cased_record(rule, *row))
+        }),
+    )
+}
+
 /// Whether a source has these stores and records.
 fn expands_to(
     alloc: Global,
@@ -235,6 +332,17 @@ fn expands_sources(rt: HostRuntime) -> Result<(), Fail> {
     for &(statements, stores, records) in SOURCES {
         assert!(rt;
             expands_to(rt.alloc(), statements, stores, records)?,
+            "{statements}"
+        );
+    }
+    Ok(())
+}
+
+#[test]
+fn expands_cased_keys(rt: HostRuntime) -> Result<(), Fail> {
+    for &(statements, rows) in CASED {
+        assert!(rt;
+            expands_cased(rt.alloc(), statements, rows)?,
             "{statements}"
         );
     }

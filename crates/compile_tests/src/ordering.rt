@@ -6,7 +6,7 @@ use rule_order::order;
 use std::alloc::Global;
 use std::test::Fail;
 
-/// Each record as the length of its context, its line and its place in the key store, in the order of the rules; and in
+/// Each record as the length of its context, its line and its place, in the order of the rules; and in
 /// that of a file: the longer context, the earlier line, and the earlier place.
 const RECORDS: &[(&[(u32, u32, u32)], &[(u32, u32, u32)])] = &[
     (&[(0, 3, 0), (1, 4, 0)], &[(1, 4, 0), (0, 3, 0)]),

@@ -17,9 +17,9 @@ use Rattle.rule_model.specs.declared.tables.Out.{Out}
 use Rattle.rule_model.specs.declared.tables.Rule.{Rule}
 use Rattle.rule_model.specs.declared.tables.Group.{Group}
 use Rattle.rule_model.specs.declared.tables.Tables.{Tables}
-use Rattle.rule_model.specs.Src.{is_plain_kind, is_match_kind, is_nomatch_kind, is_plain, is_on_match, is_on_nomatch}
+use Rattle.rule_model.specs.Src.{is_plain_kind, is_match_kind, is_nomatch_kind, is_plain, is_on_match, is_on_nomatch, cased_keys}
 use Rattle.compile_laws.specs.Numbers.{Numbers, numbers_of}
-use Rattle.compile_laws.specs.Compiles.{file_pattern, file_output, or_nul, file_outputs, file_record, own_key, keyed_records, rule_records, statement_outputs, file_group}
+use Rattle.compile_laws.specs.Compiles.{file_pattern, file_output, or_nul, file_outputs, has_halves, half_key, file_record, own_key, keyed_records, rule_records, statement_outputs, file_group}
 use Rattle.compile_laws.specs.Ordered.{in_order, ordered_group, compiled_tables}
 use Rattle.compile_laws.proofs.Ordered.{in_order_permutes}
 use Rattle.kmn_items.specs.declared.syntax.Where.TheVariants as section
@@ -60,11 +60,11 @@ module _ (numbers : Numbers) where
 
   -- a rule without a key store has one record
   abbrev pub HasOneRecord : RuleDef → Type 0
-  HasOneRecord rule = rule_records numbers rule ≡ file_record numbers rule None (own_key numbers rule.key) ∷ []
+  HasOneRecord rule = rule_records numbers rule ≡ file_record numbers rule None 0 (own_key numbers rule.key) ∷ []
 
   record-few : (using_keys : Bool) (rule : RuleDef) → IsSpelledRule using_keys rule → HasOneRecord rule → sum_by rule_size (rule_records numbers rule) ≤ stated_size rule
   record-few using_keys rule ok one =
-      let made : Rule = file_record numbers rule None (own_key numbers rule.key) in
+      let made : Rule = file_record numbers rule None 0 (own_key numbers rule.key) in
       let all = ap (sum_by rule_size) one in
       let sum = sum_by-cons rule_size made [] in
       let context = length-map rule.context (file_pattern numbers) in
@@ -115,11 +115,16 @@ module _ (numbers : Numbers) where
       let same = sum_by-IsPermutation rule_size (plain_records group.rules) (in_order (plain_records group.rules)) (in_order_permutes (plain_records group.rules)) in
       omega (arith, here, rest, made, stated, same)
 
-  module _ (names : Names) where
-    one-record : (k : RuleKey) (rule : RuleDef) → keyed_records numbers rule (back_key names k) ≡ file_record numbers rule None (own_key numbers (back_key names k)) ∷ []
+  -- without cased keys no key has halves
+  module _ (names : Names) (uncased : numbers.cased ≡ []) where
+    one-record : (k : RuleKey) (rule : RuleDef) → keyed_records numbers rule (back_key names k) ≡ file_record numbers rule None 0 (own_key numbers (back_key names k)) ∷ []
     one-record key.Any rule = refl
     one-record (key.Char c) rule = refl
-    one-record (key.Virtual flags code) rule = refl
+    one-record (key.Virtual flags code) rule =
+        let wanted : RuleKey = own_key numbers (back_key names (key.Virtual flags code)) in
+        λ i. if has_halves (uncased i) wanted
+        then file_record numbers rule None 0 (half_key 0 wanted) ∷ file_record numbers rule None 1 (half_key 1 wanted) ∷ []
+        else file_record numbers rule None 0 wanted ∷ []
 
     back-one : (line : ℕ) (rules : List Rule) → AllByRecursion HasOneRecord (back_rules names line rules)
     back-one line [] = tt
@@ -142,8 +147,8 @@ module _ (numbers : Numbers) where
         let written : GroupDef = back_group names line (unwrap_or (slice_get called 0) []) group in
         (group-one line (unwrap_or (slice_get called 0) []) group, groups-one (line + 1 + length written.rules) (drop 1 called) groups)
 
-pub few_items : (tables : Tables) (line : ℕ) → AreSpelledGroups line (back tables).groups → table_size (compiled_tables (back tables)) ≤ sum_by rules_size (back tables).groups
+pub few_items : (tables : Tables) (line : ℕ) → cased_keys (back tables) ≡ [] → AreSpelledGroups line (back tables).groups → table_size (compiled_tables (back tables)) ≤ sum_by rules_size (back tables).groups
 unfolding compiled_tables back
-few_items tables line ok =
+few_items tables line uncased ok =
     groups-few (numbers_of (back tables)) line (back tables).groups ok
-    (groups-one (numbers_of (back tables)) (names_for tables) (1 + length (written_stores tables) + length (written_begins tables)) (names_for tables).groups tables.groups)
+    (groups-one (numbers_of (back tables)) (names_for tables) uncased (1 + length (written_stores tables) + length (written_begins tables)) (names_for tables).groups tables.groups)

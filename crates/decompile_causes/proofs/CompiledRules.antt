@@ -2,7 +2,7 @@
 use Rattle.std.proofs.Common.{◌≡◌, ℕ, suc, zero, ◌+◌, Bool, true, false, not, ◌&&◌, ◌||◌, List, [], ◌∷◌, ◌++◌, length, map, Option, None, Some, refl, sym, ◌∙◌, ap, arith, if◌then◌else◌}
 use Rattle.std.specs.Prelude.{All, nat_eq, nat_lt, filter, find, flat_map, option_to_list, slice_get, unwrap_or}
 use Rattle.std.specs.List.{list_all, list_any, AllByRecursion}
-use Rattle.std.proofs.lemmas.Bool.{and_parts, or_parts, ne_eqb, le-ltb}
+use Rattle.std.proofs.lemmas.Bool.{and_parts, or_parts, ne_eqb, le-ltb, cond_both}
 use Rattle.std.proofs.lemmas.List.Elements.{All-head, All-tail, All-from_recursion, recursion_from_All}
 use Rattle.std.proofs.lemmas.List.Folds.{list_all-append, list_any-append}
 use Rattle.std.proofs.lemmas.List.Sorted.{All-permutation}
@@ -28,7 +28,7 @@ use Rattle.rule_model.specs.Naming.{names_of, stores_of, rule_items, elements_na
 use Rattle.rule_model.specs.Src.{is_plain_kind, is_plain, is_on_match, is_on_nomatch, value_elements}
 use Rattle.rule_model.specs.Tab.{elements_of}
 use Rattle.compile_laws.specs.Numbers.{Numbers, numbers_of, number_of_store, number_of_value}
-use Rattle.compile_laws.specs.Compiles.{file_pattern, element_outs, element_outs_if_any, file_output, or_nul, file_record, records_from, own_key, keyed_records, rule_records, statement_outputs, file_group}
+use Rattle.compile_laws.specs.Compiles.{file_pattern, element_outs, element_outs_if_any, file_output, or_nul, has_halves, half_key, file_record, key_records, records_from, own_key, keyed_records, rule_records, statement_outputs, file_group}
 use Rattle.compile_laws.specs.Ordered.{in_order, ordered_group}
 use Rattle.compile_laws.specs.WellNamed.{is_store, is_fixed, is_known_pattern, is_known_output}
 use Rattle.compile_laws.proofs.Linked.{is_value}
@@ -98,6 +98,8 @@ module _ (numbers : Numbers) where
   nul-same before (source.ContextAt offset) stands code = refl
   nul-same before (source.Equal store value) stands code = refl
   nul-same before (source.Unequal store value) stands code = refl
+  nul-same before (source.SystemEqual id value) stands code = refl
+  nul-same before (source.SystemUnequal id value) stands code = refl
   nul-same before source.Nul stands code = refl
   nul-same before source.OutOfProfile stands code = absurd (cc)
   nul-same before item stands code = absurd (cc)
@@ -147,6 +149,8 @@ module _ (program : Program) (read : IsRead program) (whole : IsUnrefused progra
       λ i. store-fine store ok.0 stated i || value-there value ok.1 (and_parts (is_value program value) true values).0 i
   pattern-fine (source.Unequal store value) ok stated values marks =
       λ i. store-fine store ok.0 stated i || value-there value ok.1 (and_parts (is_value program value) true values).0 i
+  pattern-fine (source.SystemEqual id value) ok stated values marks = value-there value ok (and_parts (is_value program value) true values).0
+  pattern-fine (source.SystemUnequal id value) ok stated values marks = value-there value ok (and_parts (is_value program value) true values).0
   pattern-fine (source.Char c) ok stated values marks = refl
   pattern-fine (source.ContextAt offset) ok stated values marks = refl
   pattern-fine item ok stated values marks = refl
@@ -209,6 +213,7 @@ module _ (program : Program) (read : IsRead program) (whole : IsUnrefused progra
   output-fine count place (source.Outs store) ok stated values marks = elements-fine (elements_named (stores_of program) store) (named_fine store)
   output-fine count place (source.Set store value) ok stated values marks =
       λ i. (store-fine store ok.0 stated i || value-there value ok.1 (and_parts (is_value program value) true values).0 i) || false
+  output-fine count place (source.SetSystem id value) ok stated values marks = λ i. value-there value ok (and_parts (is_value program value) true values).0 i || false
   output-fine count place (source.Save store) ok stated values marks = λ i. (store-fine store ok stated i || false) || false
   output-fine count place (source.Reset store) ok stated values marks = λ i. (store-fine store ok stated i || false) || false
   output-fine count place item ok stated values marks = refl
@@ -263,10 +268,16 @@ module _ (program : Program) (read : IsRead program) (whole : IsUnrefused progra
   element-key-fine (element.Mark m) is h = refl
   element-key-fine (element.Key flags code) is h = (or_parts (not (has_key_name names.keys code)) _ h).0
 
+  -- a half of a key is as the key
+  half-fine : (half : ℕ) (k : RuleKey) → is_unspelled_key names k ≡ false → is_unspelled_key names (half_key half k) ≡ false
+  half-fine half key.Any h = h
+  half-fine half (key.Char c) h = h
+  half-fine half (key.Virtual flags code) h = h
+
   -- the records of a rule
   module _ (using_keys : Bool) (rule : RuleDef) (stated : KnownRule program using_keys rule) (said : IsSaidRule rule) (code : context_code [] rule.context ≡ None) where
-    record-fine : (place : Option ℕ) (k : RuleKey) → is_unspelled_key names k ≡ false → IsSayableRule names (file_record numbers rule place k)
-    record-fine place k h =
+    record-fine : (place : Option ℕ) (half : ℕ) (k : RuleKey) → is_unspelled_key names k ≡ false → IsSayableRule names (file_record numbers rule place half k)
+    record-fine place half k h =
         let ok = items-have IsWrittenItem rule said.written.items in
         let marks = items-pass (has_marks program) rule said.marks in
         record {
@@ -276,19 +287,25 @@ module _ (program : Program) (read : IsRead program) (whole : IsUnrefused progra
           context = context-fine rule.context said.written.context code (patterns-fine rule.context ok.0 stated.context stated.context_values marks.0);
         }
 
+    key-fit : (place : Option ℕ) (k : RuleKey) → is_unspelled_key names k ≡ false → AllByRecursion (IsSayableRule names) (key_records numbers rule place k)
+    key-fit place k h =
+        cond_both (has_halves numbers.cased k) _ _ (AllByRecursion (IsSayableRule names))
+        (λ e. (record-fine place 0 (half_key 0 k) (half-fine 0 k h), (record-fine place 1 (half_key 1 k) (half-fine 1 k h), tt))) (λ e. (record-fine place 0 k h, tt))
+
     store-records : (place : ℕ) (es : List Element) → All IsSoundElement es → All Fine es → AllByRecursion (IsSayableRule names) (records_from numbers rule place es)
     store-records place [] sound fine = tt
-    store-records place (e ∷ es) sound fine = (
-      record-fine (Some place) (unwrap_or (key_of_element e) key.Any) (element-key-fine e (All-head IsSoundElement e es sound) (All-head Fine e es fine)),
-      store-records (place + 1) es (All-tail IsSoundElement e es sound) (All-tail Fine e es fine),
-    )
+    store-records place (e ∷ es) sound fine =
+        let wanted : RuleKey = unwrap_or (key_of_element e) key.Any in
+        all_join (IsSayableRule names) (key_records numbers rule (Some place) wanted) (records_from numbers rule (place + 1) es)
+        (key-fit (Some place) wanted (element-key-fine e (All-head IsSoundElement e es sound) (All-head Fine e es fine)))
+        (store-records (place + 1) es (All-tail IsSoundElement e es sound) (All-tail Fine e es fine))
 
     keyed-fine : (item : Option SrcItem) → All IsReadItem (option_to_list item) → All IsWrittenItem (option_to_list item) → list_all (has_keys program) (option_to_list item) ≡ true
         → AllByRecursion (IsSayableRule names) (keyed_records numbers rule item)
-    keyed-fine None is ok among = (record-fine None (own_key numbers None) (key-fine None is ok among), tt)
+    keyed-fine None is ok among = key-fit None (own_key numbers None) (key-fine None is ok among)
     keyed-fine (Some (source.Any store)) is ok among =
         store-records 0 (elements_named (stores_of program) store) (found_sound (stores_of program) (stated_sound program read whole) store) (named_fine store)
-    keyed-fine (Some item) is ok among = (record-fine None (own_key numbers (Some item)) (key-fine (Some item) is ok among), tt)
+    keyed-fine (Some item) is ok among = key-fit None (own_key numbers (Some item)) (key-fine (Some item) is ok among)
 
     rule-fine : AllByRecursion (IsSayableRule names) (rule_records numbers rule)
     rule-fine =

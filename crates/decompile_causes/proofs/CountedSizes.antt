@@ -101,7 +101,7 @@ module _ (tables : Tables) (can : IsPlayable tables) (out : CanBeWrittenOut tabl
             (le-ltb ALL_ELEMENTS (sum (map element_count (compiled_stores program))) (omega (arith, elements, total, flat))));
         stores = omega (arith, stores, l, m);
         marks = marks_few tables can said out;
-        records = records_few tables can;
+        records = records_few tables can out;
       }
 
   pub limits_unpassed : IsSayable tables → IsRead program → AreShortStores → limits_refusal program ≡ None

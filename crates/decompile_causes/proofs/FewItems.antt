@@ -1,6 +1,6 @@
 -- No rule that is written out of playable tables has too many items, and there are not too many rules and deadkeys.
 use Rattle.std.proofs.Common.{◌≡◌, ℕ, ◌+◌, ◌≤◌, Bool, false, List, [], ◌∷◌, ◌++◌, length, drop, map, None, refl, sym, ◌∙◌, ap, subst, arith, length-append}
-use Rattle.std.specs.Prelude.{All, flat_map, sum, slice_get, unwrap_or, nat_lt}
+use Rattle.std.specs.Prelude.{All, flat_map, sum, slice_get, unwrap_or, nat_lt, filter, ◌&&◌}
 use Rattle.std.specs.List.{AllByRecursion, range_with_len}
 use Rattle.std.specs.Fmt.{decimal}
 use Rattle.std.proofs.lemmas.Bool.{le-ltb}
@@ -28,16 +28,17 @@ use Rattle.rule_model.specs.Tab.{distinct_onto}
 use Rattle.kmx_format.specs.Writable.{IsWritableRule}
 use Rattle.kmx_format.specs.Playable.{IsPlayable, IsPlayableGroup}
 use Rattle.store_table.specs.Known.{Known, known}
-use Rattle.limit_checker.specs.Limits.{Statement, OfStore, OfRule, in_line_order, item_size, output_size, key_count, records_of_statement, record_count, mark_count, all_records, group_refusal}
+use Rattle.limit_checker.specs.Limits.{Statement, OfStore, OfRule, in_line_order, item_size, output_size, cased_codes, virtual_count, key_count, records_of_statement, record_count, mark_count, all_records, group_refusal}
 use Rattle.limit_checker.proofs.FirstPassed.{sum_append}
 use Rattle.checker_laws.proofs.Sizes.{items_in_order}
 use Rattle.store_table.specs.First.{first_of}
 use Rattle.decompile_laws.specs.Marks.{greatest_mark}
-use Rattle.decompile_laws.specs.Items.{Names, back_pattern, back_output, back_key, some_items}
+use Rattle.decompile_laws.specs.Items.{Names, back_pattern, back_output, back_key, some_items, key_called}
 use Rattle.decompile_laws.specs.Back.{back_rule, back_rules, back_statement, match_line, nomatch_line, back_group, back_groups, names_for, written_stores, written_begins, written_groups, back}
 use Rattle.decompile_laws.specs.WrittenOut.{CanBeWrittenOut}
 use Rattle.decompile_laws.proofs.Choosing.{all_join}
 use Rattle.decompile_laws.proofs.Numbering.{marks-are}
+use Rattle.decompile_laws.proofs.Uncased.{uncased}
 use Rattle.decompile_causes.proofs.Sayable.{IsSayable}
 use Rattle.decompile_causes.proofs.SpelledPrograms.{greatest_near}
 use Rattle.decompile_causes.proofs.UnpassedLimits.{IsShort, few_groups_refused}
@@ -132,20 +133,24 @@ module _ (facts : Known) (names : Names) where
 
   -- records: one for each rule
   abbrev records : RuleDef → ℕ
-  records rule = record_count facts.stores rule.kind rule.key
+  records rule = record_count facts rule.kind rule.key
 
-  one-key : (k : RuleKey) → key_count facts.stores (back_key names k) ≡ 1
-  one-key key.Any = refl
-  one-key (key.Char c) = refl
-  one-key (key.Virtual flags code) = refl
+  -- without cased keys each key has one
+  abbrev AreUncased : Type 0
+  AreUncased = cased_codes facts ≡ []
 
-  rules-recorded : (line : ℕ) (rules : List Rule) → sum (map records (back_rules names line rules)) ≡ length rules
-  rules-recorded line [] = refl
-  rules-recorded line (rule ∷ rules) =
-      let here = one-key rule.key in
-      let rest = rules-recorded (line + 1) rules in
-      let all : sum (map records (back_rules names line (rule ∷ rules))) ≡ key_count facts.stores (back_key names rule.key) + sum (map records (back_rules names (line + 1) rules)) =
-      sum-cons (key_count facts.stores (back_key names rule.key)) (map records (back_rules names (line + 1) rules)) in
+  one-key : AreUncased → (k : RuleKey) → key_count facts (back_key names k) ≡ 1
+  one-key uncased key.Any = refl
+  one-key uncased (key.Char c) = refl
+  one-key uncased (key.Virtual flags code) = let called = key_called names flags code in ap (λ (cased : List ℕ). virtual_count cased called.flags called.code) uncased
+
+  rules-recorded : AreUncased → (line : ℕ) (rules : List Rule) → sum (map records (back_rules names line rules)) ≡ length rules
+  rules-recorded uncased line [] = refl
+  rules-recorded uncased line (rule ∷ rules) =
+      let here = one-key uncased rule.key in
+      let rest = rules-recorded uncased (line + 1) rules in
+      let all : sum (map records (back_rules names line (rule ∷ rules))) ≡ key_count facts (back_key names rule.key) + sum (map records (back_rules names (line + 1) rules)) =
+      sum-cons (key_count facts (back_key names rule.key)) (map records (back_rules names (line + 1) rules)) in
       omega (arith, here, rest, all)
 
   none-recorded : (a b : ℕ) (xs ys : List Out) → sum (map records (back_statement names OnMatch a xs ++ back_statement names OnNoMatch b ys)) ≡ 0
@@ -157,18 +162,18 @@ module _ (facts : Known) (names : Names) where
   abbrev group_records : Group → List Rule
   group_records group = group.rules
 
-  groups-recorded : (line : ℕ) (called : List (List ℕ)) (groups : List Group)
+  groups-recorded : AreUncased → (line : ℕ) (called : List (List ℕ)) (groups : List Group)
       → sum (map records (flat_map rules_of (back_groups names line called groups))) ≡ length (flat_map group_records groups)
-  groups-recorded line called [] = refl
-  groups-recorded line called (group ∷ groups) =
+  groups-recorded uncased line called [] = refl
+  groups-recorded uncased line called (group ∷ groups) =
       let written : GroupDef = back_group names line (unwrap_or (slice_get called 0) []) group in
       let statements : List RuleDef = back_statement names OnMatch (match_line line group) group.on_match ++ back_statement names OnNoMatch (nomatch_line names line group) group.on_nomatch in
       let next : ℕ = line + 1 + length written.rules in
       let both = sum-mapped records written.rules (flat_map rules_of (back_groups names next (drop 1 called) groups)) in
       let here = sum-mapped records (back_rules names (line + 1) group.rules) statements in
-      let plain = rules-recorded (line + 1) group.rules in
+      let plain = rules-recorded uncased (line + 1) group.rules in
       let none = none-recorded (match_line line group) (nomatch_line names line group) group.on_match group.on_nomatch in
-      let rest = groups-recorded next (drop 1 called) groups in
+      let rest = groups-recorded uncased next (drop 1 called) groups in
       let l = length-append group.rules (flat_map group_records groups) in
       omega (arith, both, here, plain, none, rest, l)
 
@@ -177,7 +182,7 @@ stores-recorded facts [] = refl
 stores-recorded facts (store ∷ stores) = stores-recorded facts stores
 
 abbrev recorded : Known → RuleDef → ℕ
-recorded facts rule = record_count facts.stores rule.kind rule.key
+recorded facts rule = record_count facts rule.kind rule.key
 
 statements-recorded : (facts : Known) (stores : List StoreDef) (rules : List RuleDef)
     → sum (map (records_of_statement facts) (in_line_order stores rules)) ≡ sum (map (recorded facts) rules)
@@ -205,11 +210,15 @@ module _ (tables : Tables) (can : IsPlayable tables) where
       tables.groups can.groups)
 
   -- there are not too many records
-  pub records_few : all_records (known (back tables)) statements ≤ RECORDS
+  uncased-codes : CanBeWrittenOut tables → cased_codes (known (back tables)) ≡ []
+  unfolding known
+  uncased-codes written = ap (filter (λ code. nat_lt 0 code && nat_lt code 256)) (uncased tables can written)
+
+  pub records_few : CanBeWrittenOut tables → all_records (known (back tables)) statements ≤ RECORDS
   unfolding back
-  records_few =
+  records_few written =
       let all = statements-recorded (known (back tables)) (written_stores tables) (all_rules (back tables)) in
-      let of = groups-recorded (known (back tables)) (names_for tables) (1 + length (written_stores tables) + length (written_begins tables)) (names_for tables).groups tables.groups in
+      let of = groups-recorded (known (back tables)) (names_for tables) (uncased-codes written) (1 + length (written_stores tables) + length (written_begins tables)) (names_for tables).groups tables.groups in
       let few = can.rule_count in
       omega (arith, all, of, few)
 

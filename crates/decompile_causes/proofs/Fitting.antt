@@ -8,11 +8,13 @@ use Rattle.compile_laws.specs.Ordered.{compiled_tables}
 use Rattle.compile_laws.proofs.Ordered.{tables_are_only_ones}
 use Rattle.checker_laws.proofs.Written.{tables_written}
 use Rattle.decompile_laws.specs.Back.{back}
+use Rattle.decompile_laws.proofs.Uncased.{uncased}
 use Rattle.decompile_causes.specs.Laws.{TextFits}
 use Rattle.decompile_causes.proofs.Accepted.{program_is_spelled, program_read, program_unrefused}
 use Rattle.decompile_causes.proofs.FileBounds.{table_size, file_bound}
 use Rattle.decompile_causes.proofs.TextItems.{text_long}
 use Rattle.decompile_causes.proofs.CompiledItems.{few_items}
+use Rattle.decompile_causes.proofs.WrittenOut.{spelled_written_out}
 
 pub text_fits : TextFits
 text_fits bytes has tables compiles =
@@ -20,7 +22,8 @@ text_fits bytes has tables compiles =
     let spelled = program_is_spelled bytes has in
     let read = program_read bytes has in
     let can : IsWritable tables = tables_written program tables read (program_unrefused bytes has) compiles in
-    let few = few_items (tables_of bytes) (1 + length program.stores + length program.begins) spelled.groups in
+    let cased = uncased (tables_of bytes) has.playable (spelled_written_out bytes has.playable has.spelled) in
+    let few = few_items (tables_of bytes) (1 + length program.stores + length program.begins) cased spelled.groups in
     let same : tables ≡ compiled_tables program = tables_are_only_ones program tables read.order.own compiles in
     let long = text_long program spelled in
     let short = spelled.short in

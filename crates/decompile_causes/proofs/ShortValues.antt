@@ -77,10 +77,13 @@ module _ (names : Names) (short : (n : ℕ) → IsShortValue (value_called names
   pattern-short : (p : Pat) → HasShortValues (back_pattern names p)
   pattern-short (pattern.Equal s value) = (short value, tt)
   pattern-short (pattern.Unequal s value) = (short value, tt)
+  pattern-short (pattern.SystemEqual id value) = (short value, tt)
+  pattern-short (pattern.SystemUnequal id value) = (short value, tt)
   pattern-short p = tt
 
   output-short : (o : Out) → HasShortValues (back_output names o)
   output-short (output.Set s value) = (short value, tt)
+  output-short (output.SetSystem id value) = (short value, tt)
   output-short o = tt
 
   some-short : (os : List Out) → AllByRecursion HasShortValues (some_items (map (back_output names) os))

@@ -158,10 +158,7 @@ no-nul true count h = absurd (omega arith)
 no-nul false count h = (refl, omega arith)
 
 module _ (names : Names) where
-  -- a condition on a system option has no spelling
   abbrev pub IsSpelledPattern : Pat → Type 0
-  IsSpelledPattern (pattern.SystemEqual id value) = ⊥
-  IsSpelledPattern (pattern.SystemUnequal id value) = ⊥
   IsSpelledPattern p = IsSpelledItem section.Context (back_pattern names p)
 
   pub context_spelled : (p n : Bool) (context : List Pat) → AllByRecursion IsSpelledPattern context → stands_behind_match p context ≡ false → one_if n + length (filter is_nul context) ≤ 1
@@ -178,8 +175,10 @@ module _ (names : Names) where
       let other = behind-other p context h in (e.0, order-condition p n other.0, context_spelled p n context e.1 other.1 k)
   context_spelled p n (pattern.Unequal s value ∷ context) e h k =
       let other = behind-other p context h in (e.0, order-condition p n other.0, context_spelled p n context e.1 other.1 k)
-  context_spelled p n (pattern.SystemEqual id value ∷ context) e h k = absurd e.0
-  context_spelled p n (pattern.SystemUnequal id value ∷ context) e h k = absurd e.0
+  context_spelled p n (pattern.SystemEqual id value ∷ context) e h k =
+      let other = behind-other p context h in (e.0, order-condition p n other.0, context_spelled p n context e.1 other.1 k)
+  context_spelled p n (pattern.SystemUnequal id value ∷ context) e h k =
+      let other = behind-other p context h in (e.0, order-condition p n other.0, context_spelled p n context e.1 other.1 k)
   context_spelled p n (pattern.Nul ∷ context) e h k =
       let other = behind-other p context h in
       let first = no-nul n (length (filter is_nul context)) k in

@@ -20,7 +20,7 @@ use Rattle.rule_model.specs.declared.tables.Tables.{Tables}
 use Rattle.rule_model.specs.Tab.{elements_of}
 use Rattle.kmx_format.specs.FileUnits.{unit_item_of_pattern, unit_item_of_output}
 use Rattle.kmx_format.specs.Playable.{IsPlayable, IsPlayableGroup}
-use Rattle.kmx_format.specs.Writable.{IsWritableRule}
+use Rattle.kmx_format.specs.Writable.{has_system_id, sets_system_id, IsWritableRule}
 use Rattle.kmn_base.specs.Spelling.{IsSpellable}
 use Rattle.kmn_text.specs.Spelled.{IsSpelledName, IsStoreName, IsSpelledRule, AreSpelledRules, AreSpelledGroups}
 use Rattle.decompile_laws.specs.Names.{named_stores, free_names}
@@ -85,50 +85,64 @@ module _ (tables : Tables) (can : IsPlayable tables) (said : IsSayable tables) (
       (let l = group_count (free_names (103 ∷ []) (map (λ (group : Group). group.name) tables.groups) (length tables.groups)) [] tables.groups in omega (arith, l))
 
   -- items
-  pattern-spelled : (p : Pat) → GoodPattern tables p → is_unspelled_pattern names p ≡ false → IsSpellable (unit_item_of_pattern p) → IsSpelledPattern names p
-  pattern-spelled (pattern.Char c) g h s = character c s
-  pattern-spelled (pattern.Mark m) g h s = mark_name m (pattern-parts tables (pattern.Mark m) h).0
-  pattern-spelled (pattern.Any n) g h s = (store_name n g.named.0).named
-  pattern-spelled (pattern.NotAny n) g h s = (store_name n g.named.0).named
-  pattern-spelled (pattern.Index n offset) g h s = ((store_name n g.named.0).named, (let less = s.1.1 in omega arith))
-  pattern-spelled (pattern.ContextAt offset) g h s = (let less = s.1 in omega arith)
-  pattern-spelled (pattern.Equal n value) g h s =
+  pattern-spelled : (p : Pat) → GoodPattern tables p → is_unspelled_pattern names p ≡ false → IsSpellable (unit_item_of_pattern p) → has_system_id p ≡ true → IsSpelledPattern names p
+  pattern-spelled (pattern.Char c) g h s i = character c s
+  pattern-spelled (pattern.Mark m) g h s i = mark_name m (pattern-parts tables (pattern.Mark m) h).0
+  pattern-spelled (pattern.Any n) g h s i = (store_name n g.named.0).named
+  pattern-spelled (pattern.NotAny n) g h s i = (store_name n g.named.0).named
+  pattern-spelled (pattern.Index n offset) g h s i = ((store_name n g.named.0).named, (let less = s.1.1 in omega arith))
+  pattern-spelled (pattern.ContextAt offset) g h s i = (let less = s.1 in omega arith)
+  pattern-spelled (pattern.Equal n value) g h s i =
       (store_name n g.named.0, value_spelled tables.stores value can.stores (or_parts (is_unspelled_value (elements_of tables.stores value)) false (pattern-parts tables (pattern.Equal n value) h).2).0)
-  pattern-spelled (pattern.Unequal n value) g h s =
+  pattern-spelled (pattern.Unequal n value) g h s i =
       (store_name n g.named.0, value_spelled tables.stores value can.stores (or_parts (is_unspelled_value (elements_of tables.stores value)) false (pattern-parts tables (pattern.Unequal n value) h).2).0)
-  pattern-spelled (pattern.SystemEqual id value) g h s = absurd (cc)
-  pattern-spelled (pattern.SystemUnequal id value) g h s = absurd (cc)
-  pattern-spelled pattern.Nul g h s = tt
+  pattern-spelled (pattern.SystemEqual id value) g h s i =
+      (i, value_spelled tables.stores value can.stores (or_parts (is_unspelled_value (elements_of tables.stores value)) false (pattern-parts tables (pattern.SystemEqual id value) h).2).0)
+  pattern-spelled (pattern.SystemUnequal id value) g h s i =
+      (i, value_spelled tables.stores value can.stores (or_parts (is_unspelled_value (elements_of tables.stores value)) false (pattern-parts tables (pattern.SystemUnequal id value) h).2).0)
+  pattern-spelled pattern.Nul g h s i = tt
 
-  output-spelled : (o : Out) → GoodOutput tables o → is_unspelled_output names o ≡ false → IsSpellable (unit_item_of_output o) → IsSpelledOutput names o
-  output-spelled (output.Char c) g h s = character c s
-  output-spelled (output.Mark m) g h s = mark_name m (output-parts tables (output.Mark m) h).0
-  output-spelled (output.Index n offset) g h s = ((store_name n g.named.0).named, (let less = s.1.1 in omega arith))
-  output-spelled output.Context g h s = tt
-  output-spelled (output.ContextAt offset) g h s = (let less = s.1 in omega arith)
-  output-spelled (output.Enter n) g h s = group_name n g.groups.0
-  output-spelled (output.Set n value) g h s =
+  output-spelled : (o : Out) → GoodOutput tables o → is_unspelled_output names o ≡ false → IsSpellable (unit_item_of_output o) → sets_system_id o ≡ true → IsSpelledOutput names o
+  output-spelled (output.Char c) g h s i = character c s
+  output-spelled (output.Mark m) g h s i = mark_name m (output-parts tables (output.Mark m) h).0
+  output-spelled (output.Index n offset) g h s i = ((store_name n g.named.0).named, (let less = s.1.1 in omega arith))
+  output-spelled output.Context g h s i = tt
+  output-spelled (output.ContextAt offset) g h s i = (let less = s.1 in omega arith)
+  output-spelled (output.Enter n) g h s i = group_name n g.groups.0
+  output-spelled (output.Set n value) g h s i =
       (store_name n g.named.0, value_spelled tables.stores value can.stores (or_parts (is_unspelled_value (elements_of tables.stores value)) false (output-parts tables (output.Set n value) h).2).0)
-  output-spelled (output.SetSystem id value) g h s = absurd (cc)
-  output-spelled (output.Save n) g h s = (store_name n g.named.0).named
-  output-spelled (output.Reset n) g h s = (store_name n g.named.0).named
-  output-spelled output.Nul g h s = tt
-  output-spelled output.Beep g h s = tt
-  output-spelled output.Stop g h s = tt
+  output-spelled (output.SetSystem id value) g h s i =
+      (i, value_spelled tables.stores value can.stores (or_parts (is_unspelled_value (elements_of tables.stores value)) false (output-parts tables (output.SetSystem id value) h).2).0)
+  output-spelled (output.Save n) g h s i = (store_name n g.named.0).named
+  output-spelled (output.Reset n) g h s i = (store_name n g.named.0).named
+  output-spelled output.Nul g h s i = tt
+  output-spelled output.Beep g h s i = tt
+  output-spelled output.Stop g h s i = tt
 
-  patterns-spelled : (ps : List Pat) → AllByRecursion (GoodPattern tables) ps → list_any (is_unspelled_pattern names) ps ≡ false → All (λ p. IsSpellable (unit_item_of_pattern p)) ps
+  -- the system options are those that a source can name
+  abbrev HasSystemId : Pat → Type 0
+  HasSystemId p = has_system_id p ≡ true
+
+  abbrev SetsSystemId : Out → Type 0
+  SetsSystemId o = sets_system_id o ≡ true
+
+  patterns-spelled : (ps : List Pat) → AllByRecursion (GoodPattern tables) ps → list_any (is_unspelled_pattern names) ps ≡ false → All (λ p. IsSpellable (unit_item_of_pattern p)) ps → All HasSystemId ps
       → AllByRecursion (IsSpelledPattern names) ps
-  patterns-spelled [] g h s = tt
-  patterns-spelled (p ∷ ps) g h s =
-      let parts = or_parts (is_unspelled_pattern names p) (list_any (is_unspelled_pattern names) ps) h in
-      (pattern-spelled p g.0 parts.0 (All-head (λ p. IsSpellable (unit_item_of_pattern p)) p ps s), patterns-spelled ps g.1 parts.1 (All-tail (λ p. IsSpellable (unit_item_of_pattern p)) p ps s))
+  patterns-spelled [] g h s i = tt
+  patterns-spelled (p ∷ ps) g h s i =
+      let parts = or_parts (is_unspelled_pattern names p) (list_any (is_unspelled_pattern names) ps) h in (
+        pattern-spelled p g.0 parts.0 (All-head (λ p. IsSpellable (unit_item_of_pattern p)) p ps s) (All-head HasSystemId p ps i),
+        patterns-spelled ps g.1 parts.1 (All-tail (λ p. IsSpellable (unit_item_of_pattern p)) p ps s) (All-tail HasSystemId p ps i),
+      )
 
-  outputs-spelled : (os : List Out) → AllByRecursion (GoodOutput tables) os → list_any (is_unspelled_output names) os ≡ false → All (λ o. IsSpellable (unit_item_of_output o)) os
+  outputs-spelled : (os : List Out) → AllByRecursion (GoodOutput tables) os → list_any (is_unspelled_output names) os ≡ false → All (λ o. IsSpellable (unit_item_of_output o)) os → All SetsSystemId os
       → AllByRecursion (IsSpelledOutput names) os
-  outputs-spelled [] g h s = tt
-  outputs-spelled (o ∷ os) g h s =
-      let parts = or_parts (is_unspelled_output names o) (list_any (is_unspelled_output names) os) h in
-      (output-spelled o g.0 parts.0 (All-head (λ o. IsSpellable (unit_item_of_output o)) o os s), outputs-spelled os g.1 parts.1 (All-tail (λ o. IsSpellable (unit_item_of_output o)) o os s))
+  outputs-spelled [] g h s i = tt
+  outputs-spelled (o ∷ os) g h s i =
+      let parts = or_parts (is_unspelled_output names o) (list_any (is_unspelled_output names) os) h in (
+        output-spelled o g.0 parts.0 (All-head (λ o. IsSpellable (unit_item_of_output o)) o os s) (All-head SetsSystemId o os i),
+        outputs-spelled os g.1 parts.1 (All-tail (λ o. IsSpellable (unit_item_of_output o)) o os s) (All-tail SetsSystemId o os i),
+      )
 
   -- records
   abbrev IsOk : Bool → Rule → Type 0
@@ -141,10 +155,10 @@ module _ (tables : Tables) (can : IsPlayable tables) (said : IsSayable tables) (
       let one = or_parts (list_any (is_unspelled_pattern names) rule.context) order saying.context in
       let two = or_parts (stands_behind_match false rule.context) (nat_lt 1 (length (filter is_nul rule.context))) one.1 in
       let few = ltb-false 1 (length (filter is_nul rule.context)) two.1 in
-      let out = some_spelled names rule.output (outputs-spelled rule.output good.output saying.output ok.output.items) in
+      let out = some_spelled names rule.output (outputs-spelled rule.output good.output saying.output ok.output.items ok.output.systems) in
       record {
         kind = (
-          context_spelled names false false rule.context (patterns-spelled rule.context good.context one.0 ok.context.items) two.0 (omega (arith, few)),
+          context_spelled names false false rule.context (patterns-spelled rule.context good.context one.0 ok.context.items ok.context.systems) two.0 (omega (arith, few)),
           key_as_spelled names (keys_named tables said) using_keys rule.key ok.key saying.key,
         );
         output = out.0;
@@ -160,17 +174,17 @@ module _ (tables : Tables) (can : IsPlayable tables) (said : IsSayable tables) (
     rules-spelled using_keys (line + 1) rules good.1 saying.1 (All-tail (IsOk using_keys) rule rules ok),
   )
 
-  match-spelled : (using_keys : Bool) (line : ℕ) (os : List Out) → AllByRecursion (GoodOutput tables) os → list_any (is_unspelled_output names) os ≡ false → All (λ o. IsSpellable (unit_item_of_output o)) os
+  match-spelled : (using_keys : Bool) (line : ℕ) (os : List Out) → AllByRecursion (GoodOutput tables) os → list_any (is_unspelled_output names) os ≡ false → All (λ o. IsSpellable (unit_item_of_output o)) os → All SetsSystemId os
       → AreSpelledRules using_keys line (back_statement names OnMatch line os)
-  match-spelled using_keys line [] good h s = tt
-  match-spelled using_keys line (o ∷ os) good h s =
-      (refl, record { kind = (refl, refl); output = output_spelled names unseen (o ∷ os) (outputs-spelled (o ∷ os) good h s); some = omega arith }, tt)
+  match-spelled using_keys line [] good h s i = tt
+  match-spelled using_keys line (o ∷ os) good h s i =
+      (refl, record { kind = (refl, refl); output = output_spelled names unseen (o ∷ os) (outputs-spelled (o ∷ os) good h s i); some = omega arith }, tt)
 
-  nomatch-spelled : (using_keys : Bool) (line : ℕ) (os : List Out) → AllByRecursion (GoodOutput tables) os → list_any (is_unspelled_output names) os ≡ false → All (λ o. IsSpellable (unit_item_of_output o)) os
+  nomatch-spelled : (using_keys : Bool) (line : ℕ) (os : List Out) → AllByRecursion (GoodOutput tables) os → list_any (is_unspelled_output names) os ≡ false → All (λ o. IsSpellable (unit_item_of_output o)) os → All SetsSystemId os
       → AreSpelledRules using_keys line (back_statement names OnNoMatch line os)
-  nomatch-spelled using_keys line [] good h s = tt
-  nomatch-spelled using_keys line (o ∷ os) good h s =
-      (refl, record { kind = (refl, refl); output = output_spelled names unseen (o ∷ os) (outputs-spelled (o ∷ os) good h s); some = omega arith }, tt)
+  nomatch-spelled using_keys line [] good h s i = tt
+  nomatch-spelled using_keys line (o ∷ os) good h s i =
+      (refl, record { kind = (refl, refl); output = output_spelled names unseen (o ∷ os) (outputs-spelled (o ∷ os) good h s i); some = omega arith }, tt)
 
   rules-append : (using_keys : Bool) (line n : ℕ) (xs ys : List RuleDef) → n ≡ line + length xs → AreSpelledRules using_keys line xs → AreSpelledRules using_keys n ys → AreSpelledRules using_keys line (xs ++ ys)
   rules-append using_keys line n [] ys e h k = let same : n ≡ line = omega (arith, e) in subst (λ m. AreSpelledRules using_keys m ys) same k
@@ -195,8 +209,8 @@ module _ (tables : Tables) (can : IsPlayable tables) (said : IsSayable tables) (
       rules-append group.using_keys (line + 1) (match_line line group) rules (matched ++ unmatched) (omega (arith, along))
       (rules-spelled group.using_keys (line + 1) group.rules good.rules saying.rules ok.rules)
       (rules-append group.using_keys (match_line line group) (nomatch_line names line group) matched unmatched (omega (arith, same))
-      (match-spelled group.using_keys (match_line line group) group.on_match good.on_match saying.on_match ok.on_match.itself.items)
-      (nomatch-spelled group.using_keys (nomatch_line names line group) group.on_nomatch good.on_nomatch saying.on_nomatch ok.on_nomatch.itself.items))
+      (match-spelled group.using_keys (match_line line group) group.on_match good.on_match saying.on_match ok.on_match.itself.items ok.on_match.itself.systems)
+      (nomatch-spelled group.using_keys (nomatch_line names line group) group.on_nomatch good.on_nomatch saying.on_nomatch ok.on_nomatch.itself.items ok.on_nomatch.itself.systems))
 
   first-spelled : (called : List (List ℕ)) → 0 < length called → AllByRecursion IsSpelledName called → IsSpelledName (unwrap_or (slice_get called 0) [])
   first-spelled [] some h = absurd (omega arith)

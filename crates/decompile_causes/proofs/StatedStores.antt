@@ -7,7 +7,7 @@ use Rattle.std.proofs.lemmas.Bool.{eqb-true}
 use Rattle.std.proofs.lemmas.List.{map-append}
 use Rattle.std.proofs.lemmas.List.Elements.{All-nil, All-cons, All-head, All-tail, All-append}
 use Rattle.std.proofs.lemmas.List.Folds.{list_any-append}
-use Rattle.kmn_base.specs.declared.codes.Code.TheVariants.{C03, C12, C13, C14}
+use Rattle.kmn_base.specs.declared.codes.Code.TheVariants.{C03, C12, C13, C14, C25}
 use Rattle.kmn_base.specs.declared.items.Element.{Element}
 use Rattle.rule_model.specs.declared.program.SrcItem.{SrcItem}
 use Rattle.rule_model.specs.declared.program.StoreDef.{StoreDef}
@@ -20,7 +20,7 @@ use Rattle.store_table.specs.declared.stating.Stated.{Stated}
 use Rattle.store_table.specs.Names.{stated, is_named, kept_name, store_names, is_store_again}
 use Rattle.store_table.specs.Names.{store_refusal as name_refusal, store_item_code as name_item_code, store_code as name_code}
 use Rattle.store_table.specs.Known.{Known, known, brought, statement_elements}
-use Rattle.item_checker.specs.Items.{is_no_character, is_left_out, is_layout_text, is_system_text, is_other_text, puts_option, wants_characters, brings_no_character, store_item_code, store_head_code, store_code, store_refusal}
+use Rattle.item_checker.specs.Items.{is_no_character, is_left_out, is_layout_text, is_system_text, is_other_text, puts_option, wants_characters, wants_plain_keys, brings_no_character, brings_no_plain_key, store_item_code, store_head_code, store_code, store_refusal}
 use Rattle.rule_checker.specs.Refused.{IsRead}
 use Rattle.checker_laws.proofs.Unrefused.{none_both, none_earlier, none_at_line, none_broken, Stands, none_first}
 use Rattle.checker_laws.proofs.Accepted.{IsUnrefused}
@@ -105,15 +105,18 @@ module _ (facts : Known) (s : Store) (stated : IsStatedStore facts s) where
   abbrev wants : Bool
   wants = wants_characters facts def
 
-  code_parts : (store_head_code facts def ≡ None) × (first_code (store_item_code facts wants) def.items ≡ None)
-  code_parts = none_both (store_head_code facts def) (first_code (store_item_code facts wants) def.items) stated.code
+  abbrev keys : Bool
+  keys = wants_plain_keys def
 
-  items-alone : (items : List SrcItem) → wants ≡ true → first_code (store_item_code facts wants) items ≡ None → list_any is_no_character (flat_map (brought facts) items) ≡ false
+  code_parts : (store_head_code facts def ≡ None) × (first_code (store_item_code facts wants keys) def.items ≡ None)
+  code_parts = none_both (store_head_code facts def) (first_code (store_item_code facts wants keys) def.items) stated.code
+
+  items-alone : (items : List SrcItem) → wants ≡ true → first_code (store_item_code facts wants keys) items ≡ None → list_any is_no_character (flat_map (brought facts) items) ≡ false
   items-alone [] want h = refl
   items-alone (item ∷ items) want h =
-      let both = none_both (store_item_code facts wants item) (first_code (store_item_code facts wants) items) h in
-      let one = none_broken C13 (puts_option facts item) ((C14, wants && brings_no_character facts item) ∷ []) both.0 in
-      let two = none_broken C14 (wants && brings_no_character facts item) [] one.1 in
+      let both = none_both (store_item_code facts wants keys item) (first_code (store_item_code facts wants keys) items) h in
+      let one = none_broken C13 (puts_option facts item) ((C14, wants && brings_no_character facts item) ∷ (C25, keys && brings_no_plain_key facts item) ∷ []) both.0 in
+      let two = none_broken C14 (wants && brings_no_character facts item) ((C25, keys && brings_no_plain_key facts item) ∷ []) one.1 in
       list_any-append is_no_character (brought facts item) (flat_map (brought facts) items)
       ∙ (λ i. second-fails wants (brings_no_character facts item) want two.0 i || items-alone items want both.1 i)
 

@@ -1,6 +1,6 @@
 -- The items that are read of whole tokens are written as a source writes them, and a context has them in order.
 use Rattle.std.proofs.Common.{◌≡◌, ℕ, zero, suc, ◌+◌, ◌≤◌, Bool, true, false, not, ◌&&◌, ◌||◌, if◌then◌else◌, List, [], ◌∷◌, ◌++◌, length, take, drop, map, Option, None, Some, Result, Ok, Err, refl, sym, ◌∙◌, ap, subst, arith, length-append}
-use Rattle.std.specs.Prelude.{All, filter, nat_lt}
+use Rattle.std.specs.Prelude.{All, filter, nat_lt, nat_eq}
 use Rattle.std.specs.List.{list_all, list_any}
 use Rattle.std.proofs.lemmas.Bool.{and_parts, cond_both, and_right, or_right}
 use Rattle.std.proofs.lemmas.Bool.Decides.{nat_tests}
@@ -13,7 +13,7 @@ use Rattle.kmn_base.specs.Answers.{and_then}
 use Rattle.rule_model.specs.declared.program.KeyName.{KeyName}
 use Rattle.rule_model.specs.declared.program.SrcItem.{SrcItem}
 use Rattle.rule_model.specs.declared.program.SrcItem.TheVariants as source
-use Rattle.kmn_items.specs.declared.syntax.Fault.{Fault}
+use Rattle.kmn_items.specs.declared.syntax.TokenRefusal.{TokenRefusal}
 use Rattle.kmn_items.specs.declared.syntax.Where.{Where}
 use Rattle.kmn_items.specs.declared.syntax.Where.TheVariants as section
 use Rattle.kmn_items.specs.declared.syntax.Seen.{Seen}
@@ -28,7 +28,7 @@ use Rattle.kmn_items.specs.Words.{is_system_name, is_key_name}
 use Rattle.kmn_items.specs.Slots.{broken}
 use Rattle.kmn_items.specs.Leads.{lead_of}
 use Rattle.kmn_items.specs.Standing.{standing_code, is_crowded, seen_count}
-use Rattle.kmn_items.specs.Forms.{word_slots, condition, equal_at, word_item}
+use Rattle.kmn_items.specs.Forms.{word_slots, option_id, system_condition, condition, system_setting, setting, layer_item, equal_at, word_item}
 use Rattle.kmn_items.specs.Brackets.{flags_of, named_key, key_item, modifier_count}
 use Rattle.kmn_items.specs.Item.{unseen, formed, read_word, read_quoted, read_bracket, read_led, read_item, prepend, then_items, read_items, last_item, read_key}
 use Rattle.kmn_parser.proofs.ReadItems.{text_at-drop}
@@ -42,11 +42,11 @@ use Rattle.decompile_causes.proofs.WrittenNames.{filled, text_is, named_at, stor
 
 -- ---- each item
 
-abbrev ItemsWritten : Result Taken Fault → Type 0
+abbrev ItemsWritten : Result Taken TokenRefusal → Type 0
 ItemsWritten (Ok taken) = All IsWrittenItem taken.items
 ItemsWritten (Err found) = Unit {0}
 
-formed-written : (found : Option Fault) (taken : Taken) → (found ≡ None → All IsWrittenItem taken.items) → ItemsWritten (formed found taken)
+formed-written : (found : Option TokenRefusal) (taken : Taken) → (found ≡ None → All IsWrittenItem taken.items) → ItemsWritten (formed found taken)
 formed-written None taken h = h refl
 formed-written (Some found) taken h = tt
 
@@ -60,25 +60,46 @@ characters-written (c ∷ cs) = All-cons IsWrittenItem (source.Char c) (map sour
 quoted-written : (place : Where) (seen : Seen) (at : ℕ) (cs : List ℕ) → ItemsWritten (read_quoted place seen at cs)
 quoted-written place seen at cs = cond_both (is_crowded place seen (length cs)) _ _ ItemsWritten (λ e. tt) (λ e. characters-written cs)
 
+system-written : (id : Option ℕ) (equal : Bool) (value : List ℕ) → IsSpelledValue value → IsWrittenItem (system_condition id equal value)
+system-written None equal value valued = tt
+system-written (Some id) true value valued = valued
+system-written (Some id) false value valued = valued
+
 condition-written : (name : List ℕ) (equal : Bool) (value : List ℕ) → (is_system_name name ≡ false → IsSpelledName name) → IsSpelledValue value → IsWrittenItem (condition name equal value)
 condition-written name equal value named valued =
-    cond_both (is_system_name name) _ _ IsWrittenItem (λ e. tt) (λ e. cond_both equal _ _ IsWrittenItem (λ f. (named e, valued)) (λ f. (named e, valued)))
+    cond_both (is_system_name name) _ _ IsWrittenItem (λ e. system-written (option_id name) equal value valued) (λ e. cond_both equal _ _ IsWrittenItem (λ f. (named e, valued)) (λ f. (named e, valued)))
 
-word-written : (last at : ℕ) (named : ItemWord) (tokens : List LineToken) → All IsWholeToken tokens → broken last at (word_slots named) tokens ≡ None → IsWrittenItem (word_item named tokens)
-word-written last at word.Any tokens ok whole = named_at last at 2 (word_slots word.Any) tokens ok whole refl
-word-written last at word.NotAny tokens ok whole = named_at last at 2 (word_slots word.NotAny) tokens ok whole refl
-word-written last at word.Index tokens ok whole = named_at last at 2 (word_slots word.Index) tokens ok whole refl
-word-written last at word.Save tokens ok whole = named_at last at 2 (word_slots word.Save) tokens ok whole refl
-word-written last at word.Reset tokens ok whole = named_at last at 2 (word_slots word.Reset) tokens ok whole refl
-word-written last at word.If tokens ok whole =
+system-setting : (id : Option ℕ) (value : List ℕ) → IsSpelledValue value → IsWrittenItem (system_setting id value)
+system-setting None value valued = tt
+system-setting (Some id) value valued = cond_both (nat_eq id 33) _ _ IsWrittenItem (λ e. valued) (λ e. tt)
+
+setting-written : (name value : List ℕ) → (is_system_name name ≡ false → IsSpelledName name) → IsSpelledValue value → IsWrittenItem (setting name value)
+setting-written name value named valued =
+    cond_both (is_system_name name) _ _ IsWrittenItem (λ e. system-setting (option_id name) value valued) (λ e. (named e, valued))
+
+layer-written : (place : Where) (value : List ℕ) → IsSpelledValue value → IsWrittenItem (layer_item place value)
+layer-written section.Store value valued = valued
+layer-written section.Context value valued = valued
+layer-written section.Key value valued = valued
+layer-written section.Output value valued = valued
+
+word-written : (place : Where) (last at : ℕ) (named : ItemWord) (tokens : List LineToken) → All IsWholeToken tokens → broken last at (word_slots named) tokens ≡ None → IsWrittenItem (word_item place named tokens)
+word-written place last at word.Any tokens ok whole = named_at last at 2 (word_slots word.Any) tokens ok whole refl
+word-written place last at word.NotAny tokens ok whole = named_at last at 2 (word_slots word.NotAny) tokens ok whole refl
+word-written place last at word.Index tokens ok whole = named_at last at 2 (word_slots word.Index) tokens ok whole refl
+word-written place last at word.Save tokens ok whole = named_at last at 2 (word_slots word.Save) tokens ok whole refl
+word-written place last at word.Reset tokens ok whole = named_at last at 2 (word_slots word.Reset) tokens ok whole refl
+word-written place last at word.If tokens ok whole =
     condition-written (text_at 2 tokens) (equal_at 3 tokens) (quoted (text_at 4 tokens)) (λ e. store_at last at 2 (word_slots word.If) tokens ok whole refl e)
     (value_at last at 4 (word_slots word.If) tokens ok whole refl)
-word-written last at word.Set tokens ok whole =
-    cond_both (is_system_name (text_at 2 tokens)) _ _ IsWrittenItem (λ e. tt)
-    (λ e. (store_at last at 2 (word_slots word.Set) tokens ok whole refl e, value_at last at 4 (word_slots word.Set) tokens ok whole refl))
-word-written last at other tokens ok whole = tt
+word-written place last at word.Set tokens ok whole =
+    setting-written (text_at 2 tokens) (quoted (text_at 4 tokens)) (λ e. store_at last at 2 (word_slots word.Set) tokens ok whole refl e)
+    (value_at last at 4 (word_slots word.Set) tokens ok whole refl)
+word-written place last at word.Layer tokens ok whole = layer-written place (quoted (text_at 2 tokens)) (value_at last at 2 (word_slots word.Layer) tokens ok whole refl)
+word-written place last at word.Platform tokens ok whole = value_at last at 2 (word_slots word.Platform) tokens ok whole refl
+word-written place last at other tokens ok whole = tt
 
-led-if : (code : Option Code) (at : ℕ) (read : Result Taken Fault) → ItemsWritten read → ItemsWritten (elim code [ Some c ↦ Err (fault at c) | None ↦ read ])
+led-if : (code : Option Code) (at : ℕ) (read : Result Taken TokenRefusal) → ItemsWritten read → ItemsWritten (elim code [ Some c ↦ Err (fault at c) | None ↦ read ])
 led-if None at read h = h
 led-if (Some c) at read h = tt
 
@@ -109,8 +130,8 @@ form-written : (place : Where) (seen : Seen) (last at : ℕ) (first : Lead) (tok
 form-written place seen last at lead.Characters tokens ok = led-if (standing_code place seen lead.Characters) at _ (quoted-written place seen at (quoted (text_at 0 tokens)))
 form-written place seen last at (lead.One c) tokens ok = led-if (standing_code place seen (lead.One c)) at _ (one-item (source.Char c) tt)
 form-written place seen last at (lead.Named named) tokens ok =
-    led-if (standing_code place seen (lead.Named named)) at (read_word seen last at named tokens)
-    (formed-written (broken last at (word_slots named) tokens) _ (λ whole. one-item (word_item named tokens) (word-written last at named tokens ok whole)))
+    led-if (standing_code place seen (lead.Named named)) at (read_word place seen last at named tokens)
+    (formed-written (broken last at (word_slots named) tokens) _ (λ whole. one-item (word_item place named tokens) (word-written place last at named tokens ok whole)))
 form-written place seen last at lead.Bracket tokens ok =
     led-if (standing_code place seen lead.Bracket) at _ (bracket-written place seen last at (modifier_count (drop 1 tokens)) (drop 1 tokens) (All-drop IsWholeToken 1 tokens ok))
 form-written place seen last at (lead.Wrong code) tokens ok = led-if (standing_code place seen (lead.Wrong code)) at _ tt
@@ -121,15 +142,15 @@ unfolding read_item
 item-written place seen last at tokens ok = form-written place seen last at (lead_of tokens) tokens ok
 
 -- the items of a section
-abbrev pub AllWritten : Result (List SrcItem) Fault → Type 0
+abbrev pub AllWritten : Result (List SrcItem) TokenRefusal → Type 0
 AllWritten (Ok items) = All IsWrittenItem items
 AllWritten (Err found) = Unit {0}
 
-prepend-written : (items : List SrcItem) (rest : Result (List SrcItem) Fault) → All IsWrittenItem items → AllWritten rest → AllWritten (prepend items rest)
+prepend-written : (items : List SrcItem) (rest : Result (List SrcItem) TokenRefusal) → All IsWrittenItem items → AllWritten rest → AllWritten (prepend items rest)
 prepend-written items (Ok more) here rest = All-append IsWrittenItem items more here rest
 prepend-written items (Err found) here rest = tt
 
-then-written : (first : Result Taken Fault) (more : Taken → Result (List SrcItem) Fault) → ItemsWritten first → ((taken : Taken) → AllWritten (more taken)) → AllWritten (then_items first more)
+then-written : (first : Result Taken TokenRefusal) (more : Taken → Result (List SrcItem) TokenRefusal) → ItemsWritten first → ((taken : Taken) → AllWritten (more taken)) → AllWritten (then_items first more)
 then-written (Ok taken) more here rest = prepend-written taken.items (more taken) here (rest taken)
 then-written (Err found) more here rest = tt
 
@@ -142,16 +163,16 @@ items_written place seen last zero at (token ∷ tokens) ok =
     (λ taken. items_written place taken.seen last taken.more (at + 1) tokens (All-tail IsWholeToken token tokens ok))
 
 -- the key of a rule
-abbrev pub KeyWritten : Result SrcItem Fault → Type 0
+abbrev pub KeyWritten : Result SrcItem TokenRefusal → Type 0
 KeyWritten (Ok item) = IsWrittenItem item
 KeyWritten (Err found) = Unit {0}
 
-last-written : (none : Fault) (items : List SrcItem) → All IsWrittenItem items → KeyWritten (last_item none items)
+last-written : (none : TokenRefusal) (items : List SrcItem) → All IsWrittenItem items → KeyWritten (last_item none items)
 last-written none [] h = tt
 last-written none (item ∷ []) h = All-head IsWrittenItem item [] h
 last-written none (item ∷ next ∷ items) h = last-written none (next ∷ items) (All-tail IsWrittenItem item (next ∷ items) h)
 
-then-key : (none : Fault) (items : Result (List SrcItem) Fault) → AllWritten items → KeyWritten (and_then items (last_item none))
+then-key : (none : TokenRefusal) (items : Result (List SrcItem) TokenRefusal) → AllWritten items → KeyWritten (and_then items (last_item none))
 then-key none (Ok items) h = last-written none items h
 then-key none (Err found) h = tt
 
@@ -171,7 +192,7 @@ record AreInOrder (seen after : Seen) (items : List SrcItem) : Type 0 where
   patterns : after.pattern ≡ (seen.pattern || list_any is_pattern_item items)
   count : nuls after.nul ≡ nuls seen.nul + length (filter is_nul_item items)
 
-abbrev TakenInOrder : Seen → Result Taken Fault → Type 0
+abbrev TakenInOrder : Seen → Result Taken TokenRefusal → Type 0
 TakenInOrder seen (Ok taken) = AreInOrder seen taken.seen taken.items
 TakenInOrder seen (Err found) = Unit {0}
 
@@ -238,11 +259,11 @@ characters-order seen cs = record {
   count = let none = characters-nuls cs in omega (arith, none);
 }
 
-led-order : (seen : Seen) (code : Option Code) (at : ℕ) (read : Result Taken Fault) → (code ≡ None → TakenInOrder seen read) → TakenInOrder seen (elim code [ Some c ↦ Err (fault at c) | None ↦ read ])
+led-order : (seen : Seen) (code : Option Code) (at : ℕ) (read : Result Taken TokenRefusal) → (code ≡ None → TakenInOrder seen read) → TakenInOrder seen (elim code [ Some c ↦ Err (fault at c) | None ↦ read ])
 led-order seen None at read h = h refl
 led-order seen (Some c) at read h = tt
 
-formed-order : (seen : Seen) (found : Option Fault) (taken : Taken) → AreInOrder seen taken.seen taken.items → TakenInOrder seen (formed found taken)
+formed-order : (seen : Seen) (found : Option TokenRefusal) (taken : Taken) → AreInOrder seen taken.seen taken.items → TakenInOrder seen (formed found taken)
 formed-order seen None taken h = h
 formed-order seen (Some found) taken h = tt
 
@@ -255,17 +276,22 @@ free-nul true n e = absurd (cc)
 free-nul false true e = absurd (cc)
 free-nul false false e = (refl, refl)
 
+system-alone : (id : Option ℕ) (equal : Bool) (value : List ℕ) → IsConditionAlone (system_condition id equal value)
+system-alone None equal value = record { stands = refl; pattern = refl; nul = refl }
+system-alone (Some id) true value = record { stands = refl; pattern = refl; nul = refl }
+system-alone (Some id) false value = record { stands = refl; pattern = refl; nul = refl }
+
 condition-alone : (name : List ℕ) (equal : Bool) (value : List ℕ) → IsConditionAlone (condition name equal value)
 condition-alone name equal value =
-    cond_both (is_system_name name) _ _ IsConditionAlone (λ e. record { stands = refl; pattern = refl; nul = refl })
+    cond_both (is_system_name name) _ _ IsConditionAlone (λ e. system-alone (option_id name) equal value)
     (λ e. cond_both equal _ _ IsConditionAlone (λ f. record { stands = refl; pattern = refl; nul = refl }) (λ f. record { stands = refl; pattern = refl; nul = refl }))
 
 module _ (seen : Seen) (last at : ℕ) (tokens : List LineToken) where
   abbrev Ordered : ItemWord → Type 0
   Ordered named = TakenInOrder seen (read_led section.Context seen last at (lead.Named named) tokens)
 
-  as-pattern : (named : ItemWord) → IsPatternAlone (word_item named tokens) → AreInOrder seen (record { pattern = true; nul = seen.nul }) (word_item named tokens ∷ [])
-  as-pattern named is = pattern-order seen (word_item named tokens) is
+  as-pattern : (named : ItemWord) → IsPatternAlone (word_item section.Context named tokens) → AreInOrder seen (record { pattern = true; nul = seen.nul }) (word_item section.Context named tokens ∷ [])
+  as-pattern named is = pattern-order seen (word_item section.Context named tokens) is
 
   word-order : (named : ItemWord) → Ordered named
   word-order word.Dead = led-order seen (standing_code section.Context seen (lead.Named word.Dead)) at _ (λ e. formed-order seen _ _ (as-pattern word.Dead (record { stands = refl; pattern = refl; nul = refl })))
@@ -275,13 +301,13 @@ module _ (seen : Seen) (last at : ℕ) (tokens : List LineToken) where
   word-order word.ContextAt = led-order seen (standing_code section.Context seen (lead.Named word.ContextAt)) at _ (λ e. formed-order seen _ _ (as-pattern word.ContextAt (record { stands = refl; pattern = refl; nul = refl })))
   word-order word.If =
       led-order seen (standing_code section.Context seen (lead.Named word.If)) at _
-      (λ e. formed-order seen _ _ (condition-order seen (word_item word.If tokens) (free-condition seen.pattern seen.nul e) (condition-alone (text_at 2 tokens) (equal_at 3 tokens) (quoted (text_at 4 tokens)))))
+      (λ e. formed-order seen _ _ (condition-order seen (word_item section.Context word.If tokens) (free-condition seen.pattern seen.nul e) (condition-alone (text_at 2 tokens) (equal_at 3 tokens) (quoted (text_at 4 tokens)))))
   word-order word.Layer =
       led-order seen (standing_code section.Context seen (lead.Named word.Layer)) at _
-      (λ e. formed-order seen _ _ (condition-order seen source.OutOfProfile (free-condition seen.pattern seen.nul e) (record { stands = refl; pattern = refl; nul = refl })))
+      (λ e. formed-order seen _ _ (condition-order seen (word_item section.Context word.Layer tokens) (free-condition seen.pattern seen.nul e) (record { stands = refl; pattern = refl; nul = refl })))
   word-order word.Platform =
       led-order seen (standing_code section.Context seen (lead.Named word.Platform)) at _
-      (λ e. formed-order seen _ _ (condition-order seen source.OutOfProfile (free-condition seen.pattern seen.nul e) (record { stands = refl; pattern = refl; nul = refl })))
+      (λ e. formed-order seen _ _ (condition-order seen (word_item section.Context word.Platform tokens) (free-condition seen.pattern seen.nul e) (record { stands = refl; pattern = refl; nul = refl })))
   word-order word.BaseLayout =
       led-order seen (standing_code section.Context seen (lead.Named word.BaseLayout)) at _
       (λ e. formed-order seen _ _ (condition-order seen source.OutOfProfile (free-condition seen.pattern seen.nul e) (record { stands = refl; pattern = refl; nul = refl })))
@@ -308,7 +334,7 @@ record IsContextBehind (seen : Seen) (items : List SrcItem) : Type 0 where
   order : has_late_item seen.pattern items ≡ false
   count : nuls seen.nul + length (filter is_nul_item items) ≤ 1
 
-abbrev ContextBehind : Seen → Result (List SrcItem) Fault → Type 0
+abbrev ContextBehind : Seen → Result (List SrcItem) TokenRefusal → Type 0
 ContextBehind seen (Ok items) = IsContextBehind seen items
 ContextBehind seen (Err found) = Unit {0}
 
@@ -323,7 +349,7 @@ late-append matched (x ∷ xs) ys =
     ∙ ((λ i. (matched && not (is_pattern_item x)) || (has_late_item (matched || is_pattern_item x) xs || has_late_item (or_assoc matched (is_pattern_item x) (list_any is_pattern_item xs) i) ys))
     ∙ sym (or_assoc (matched && not (is_pattern_item x)) (has_late_item (matched || is_pattern_item x) xs) (has_late_item (matched || (is_pattern_item x || list_any is_pattern_item xs)) ys)))
 
-prepend-order : (seen after : Seen) (items : List SrcItem) (rest : Result (List SrcItem) Fault) → AreInOrder seen after items → ContextBehind after rest → ContextBehind seen (prepend items rest)
+prepend-order : (seen after : Seen) (items : List SrcItem) (rest : Result (List SrcItem) TokenRefusal) → AreInOrder seen after items → ContextBehind after rest → ContextBehind seen (prepend items rest)
 prepend-order seen after items (Err found) here rest = tt
 prepend-order seen after items (Ok more) here rest = record {
   stand = list_all-append stands_in_context items more ∙ (λ i. here.stand i && rest.stand i);
@@ -338,7 +364,7 @@ prepend-order seen after items (Ok more) here rest = record {
       omega (arith, few, same, all, parts);
 }
 
-then-order : (seen : Seen) (first : Result Taken Fault) (more : Taken → Result (List SrcItem) Fault) → TakenInOrder seen first → ((taken : Taken) → ContextBehind taken.seen (more taken))
+then-order : (seen : Seen) (first : Result Taken TokenRefusal) (more : Taken → Result (List SrcItem) TokenRefusal) → TakenInOrder seen first → ((taken : Taken) → ContextBehind taken.seen (more taken))
     → ContextBehind seen (then_items first more)
 then-order seen (Ok taken) more here rest = prepend-order seen taken.seen taken.items (more taken) here (rest taken)
 then-order seen (Err found) more here rest = tt
@@ -351,11 +377,11 @@ context-order seen last zero at (token ∷ tokens) =
     (item-order seen last at (token ∷ tokens)) (λ taken. context-order taken.seen last taken.more (at + 1) tokens)
 
 -- the context of a rule
-abbrev pub ContextWritten : Result (List SrcItem) Fault → Type 0
+abbrev pub ContextWritten : Result (List SrcItem) TokenRefusal → Type 0
 ContextWritten (Ok items) = IsWrittenContext items
 ContextWritten (Err found) = Unit {0}
 
-whole-context : (read : Result (List SrcItem) Fault) → ContextBehind unseen read → ContextWritten read
+whole-context : (read : Result (List SrcItem) TokenRefusal) → ContextBehind unseen read → ContextWritten read
 whole-context (Ok items) h = record { stand = h.stand; order = h.order; one_nul = let few = h.count in omega (arith, few) }
 whole-context (Err found) h = tt
 

@@ -18,7 +18,7 @@ use Rattle.kmn_lines.specs.declared.token.TokenKind.{TokenKind}
 use Rattle.kmn_lines.specs.declared.token.TokenKind.TheVariants as kind
 use Rattle.kmn_lines.proofs.Sizes.{clash}
 use Rattle.kmn_lines.proofs.TextTokens.{quote-ascii}
-use Rattle.kmn_items.specs.declared.syntax.Fault.{Fault}
+use Rattle.kmn_items.specs.declared.syntax.TokenRefusal.{TokenRefusal}
 use Rattle.kmn_items.specs.declared.syntax.Slot.{Slot}
 use Rattle.kmn_items.specs.declared.syntax.Slot.TheVariants as slot
 use Rattle.kmn_items.specs.TokenTexts.{LineToken, text_at, inside, quoted, is_quoted, is_word, is_wordy}
@@ -39,7 +39,7 @@ use Rattle.decompile_causes.proofs.WholeTokens.{IsWholeToken}
 
 -- ---- forms
 
-or-none : (at : ℕ) (code : Option Code) (later : Option Fault) → or_fault at code later ≡ None → (code ≡ None) × (later ≡ None)
+or-none : (at : ℕ) (code : Option Code) (later : Option TokenRefusal) → or_fault at code later ≡ None → (code ≡ None) × (later ≡ None)
 or-none at None later e = (refl, e)
 or-none at (Some code) later e = absurd (cc)
 

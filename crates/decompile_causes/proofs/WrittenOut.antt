@@ -28,8 +28,7 @@ use Rattle.checker_laws.proofs.Lists.{All-append_parts}
 use Rattle.decompile_laws.specs.Items.{Names, store_called}
 use Rattle.decompile_laws.specs.Names.{named_by_pattern, named_by_output, named_by_rule, named_by_group, named_stores}
 use Rattle.decompile_laws.specs.Back.{names_for}
-use Rattle.decompile_laws.specs.WrittenOut.{element_keys, key_codes_of, store_keys, rule_keys, group_keys, table_keys, pattern_values, output_values, rule_values, group_values, table_values, pattern_systems, output_systems, rule_systems, group_systems, table_systems, has_key_name, is_ordinary, has_characters, KeepsName, CanBeWrittenOut}
-use Rattle.decompile_laws.proofs.Good.{Never}
+use Rattle.decompile_laws.specs.WrittenOut.{element_keys, key_codes_of, store_keys, rule_keys, group_keys, table_keys, pattern_values, output_values, rule_values, group_values, table_values, has_key_name, is_ordinary, has_characters, KeepsName, CanBeWrittenOut}
 use Rattle.decompile_causes.specs.Causes.{is_unspelled_element, is_unspelled_key, is_system_store, names_system_store, is_unspelled_value, has_unspelled_value, is_far_pattern, is_unspelled_pattern, is_far_output, is_unspelled_output, is_first_dictionary, is_unspelled_dictionary, is_unspelled_option, is_unspelled_system, is_unspelled_store}
 use Rattle.decompile_causes.specs.Unspelled.{unspelled}
 use Rattle.decompile_causes.proofs.Sayable.{sayable, IsSayableRule, IsSayableGroup, AreSayable, sayable-at, HasNoCause, IsSayable, without_cause}
@@ -73,11 +72,6 @@ no-others (element.Char c ∷ elements) h = no-others elements h
 no-others (element.Mark m ∷ elements) h = absurd (cc)
 no-others (element.Key flags code ∷ elements) h = absurd (cc)
 
--- a list has nothing of which all is never there
-none : (xs : List ℕ) → All Never xs → xs ≡ []
-none [] h = refl
-none (x ∷ xs) h = absurd (All-head Never x xs h)
-
 module _ (tables : Tables) where
   abbrev pub names : Names
   names = names_for tables
@@ -115,6 +109,8 @@ module _ (tables : Tables) where
   pattern-valued : (p : Pat) → has_unspelled_value names (pattern_values p) ≡ false → All IsCharacters (pattern_values p)
   pattern-valued (pattern.Equal s value) h = one-value value h
   pattern-valued (pattern.Unequal s value) h = one-value value h
+  pattern-valued (pattern.SystemEqual id value) h = one-value value h
+  pattern-valued (pattern.SystemUnequal id value) h = one-value value h
   pattern-valued p h = All-nil IsCharacters
 
   output-named : (o : Out) → All InRange (stores_of_output o) → names_system_store names (named_by_output o) ≡ false → All IsOrdinary (named_by_output o)
@@ -126,17 +122,8 @@ module _ (tables : Tables) where
 
   output-valued : (o : Out) → has_unspelled_value names (output_values o) ≡ false → All IsCharacters (output_values o)
   output-valued (output.Set s value) h = one-value value h
+  output-valued (output.SetSystem id value) h = one-value value h
   output-valued o h = All-nil IsCharacters
-
-  -- an item on a system option has a cause
-  pattern-systemless : (p : Pat) → is_far_pattern p ≡ false → All Never (pattern_systems p)
-  pattern-systemless (pattern.SystemEqual id value) h = absurd (cc)
-  pattern-systemless (pattern.SystemUnequal id value) h = absurd (cc)
-  pattern-systemless p h = All-nil Never
-
-  output-systemless : (o : Out) → is_far_output o ≡ false → All Never (output_systems o)
-  output-systemless (output.SetSystem id value) h = absurd (cc)
-  output-systemless o h = All-nil Never
 
   -- the parts of an item's test
   pub pattern-parts : (p : Pat) → is_unspelled_pattern names p ≡ false
@@ -205,22 +192,6 @@ module _ (tables : Tables) where
       (zipped (IsSayableRule names) (IsWritableRule (length tables.stores) (length tables.groups) group.using_keys) group.rules h.0.rules h.1.rules))
       (All-append IsCharacters (flat_map output_values group.on_match) (flat_map output_values group.on_nomatch)
       (outputs-valued group.on_match h.1.on_match.itself.stores h.0.on_match) (outputs-valued group.on_nomatch h.1.on_nomatch.itself.stores h.0.on_nomatch))
-
-  outputs-systemless : (os : List Out) → list_any (is_unspelled_output names) os ≡ false → All Never (flat_map output_systems os)
-  outputs-systemless = tested (is_unspelled_output names) output_systems Never (λ (o : Out) e. output-systemless o (output-parts o e).0)
-
-  rule-systemless : (rule : Rule) → IsSayableRule names rule → All Never (rule_systems rule)
-  rule-systemless rule h =
-      All-append Never (flat_map pattern_systems rule.context) (flat_map output_systems rule.output)
-      (tested (is_unspelled_pattern names) pattern_systems Never (λ (p : Pat) e. pattern-systemless p (pattern-parts p e).0) rule.context
-      (or_parts (list_any (is_unspelled_pattern names) rule.context) _ h.context).0)
-      (outputs-systemless rule.output h.output)
-
-  group-systemless : (group : Group) → IsSayableGroup names group → All Never (group_systems group)
-  group-systemless group h =
-      All-append Never (flat_map rule_systems group.rules) (flat_map output_systems group.on_match ++ flat_map output_systems group.on_nomatch)
-      (joined (IsSayableRule names) Never rule_systems rule-systemless group.rules h.rules)
-      (All-append Never (flat_map output_systems group.on_match) (flat_map output_systems group.on_nomatch) (outputs-systemless group.on_match h.on_match) (outputs-systemless group.on_nomatch h.on_nomatch))
 
   group-keyed : (group : Group) → IsSayableGroup names group → All IsNamedKey (group_keys group)
   group-keyed group h =
@@ -292,7 +263,7 @@ module _ (tables : Tables) (said : HasNoCause tables) where
   option-characters (Some store) f = no-others store.elements (f store refl)
 
   pub no_cause_written_out : IsPlayable tables → CanBeWrittenOut tables
-  unfolding table_keys named_stores table_values table_systems
+  unfolding table_keys named_stores table_values
   no_cause_written_out can =
       let both = zipped (IsSayableGroup (names_for tables)) (IsPlayableGroup (length tables.stores) (length tables.groups)) tables.groups said.groups can.groups in
       let among = all-among (tab_options tables) in
@@ -305,7 +276,6 @@ module _ (tables : Tables) (said : HasNoCause tables) where
         option_elements = All-weaker (Among (tab_options tables)) (IsCharacters tables)
             (λ n a. option-characters (slice_get tables.stores n) (λ store at. (option-facts n store a at).2)) (tab_options tables) among;
         values = joined (SaidGroup tables) (IsCharacters tables) group_values (group-valued tables) tables.groups both;
-        systems = none (flat_map group_systems tables.groups) (joined (IsSayableGroup (names_for tables)) Never group_systems (group-systemless tables) tables.groups said.groups);
       }
 
 -- the same where besides nothing is too large

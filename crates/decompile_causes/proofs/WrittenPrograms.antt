@@ -22,7 +22,7 @@ use Rattle.rule_model.specs.declared.program.RuleKind.{RuleKind}
 use Rattle.rule_model.specs.declared.program.RuleKind.TheVariants.{Plain, OnMatch, OnNoMatch}
 use Rattle.rule_model.specs.declared.program.GroupDef.{GroupDef}
 use Rattle.rule_model.specs.declared.program.Program.{Program}
-use Rattle.kmn_items.specs.declared.syntax.Fault.{Fault}
+use Rattle.kmn_items.specs.declared.syntax.TokenRefusal.{TokenRefusal}
 use Rattle.kmn_items.specs.declared.syntax.Slot.TheVariants as slot
 use Rattle.kmn_items.specs.declared.syntax.Where.TheVariants as section
 use Rattle.kmn_items.specs.TokenTexts.{LineToken, fault, text_at, begins_open, with_texts}
@@ -62,15 +62,15 @@ IsWrittenStatement (statement.Group group) = group.rules ≡ []
 IsWrittenStatement (statement.Rule rule) = IsWrittenRule rule
 IsWrittenStatement other = Unit {0}
 
-abbrev StatementWritten : Result Statement Fault → Type 0
+abbrev StatementWritten : Result Statement TokenRefusal → Type 0
 StatementWritten (Ok stated) = IsWrittenStatement stated
 StatementWritten (Err found) = Unit {0}
 
-checked-written : (found : Option Fault) (read : Result Statement Fault) → (found ≡ None → StatementWritten read) → StatementWritten (checked found read)
+checked-written : (found : Option TokenRefusal) (read : Result Statement TokenRefusal) → (found ≡ None → StatementWritten read) → StatementWritten (checked found read)
 checked-written None read h = h refl
 checked-written (Some found) read h = tt
 
-then-written : (items : Result (List SrcItem) Fault) (next : List SrcItem → Result Statement Fault) → AllWritten items
+then-written : (items : Result (List SrcItem) TokenRefusal) (next : List SrcItem → Result Statement TokenRefusal) → AllWritten items
     → ((xs : List SrcItem) → All IsWrittenItem xs → StatementWritten (next xs)) → StatementWritten (and_then items next)
 then-written (Ok items) next h more = more items h
 then-written (Err found) next h more = tt
@@ -123,25 +123,25 @@ match-line kind group line last tokens ok =
     (items_written section.Output unseen last 0 2 (drop 2 tokens) (All-drop IsWholeToken 2 tokens ok))
     (λ output h. record { items = h; context = no-context }))
 
-abbrev OneKeyWritten : Result (Option SrcItem) Fault → Type 0
+abbrev OneKeyWritten : Result (Option SrcItem) TokenRefusal → Type 0
 OneKeyWritten (Ok key) = All IsWrittenItem (option_to_list key)
 OneKeyWritten (Err found) = Unit {0}
 
-some-key : (read : Result SrcItem Fault) → KeyWritten read → OneKeyWritten (and_then read (λ key. Ok (Some key)))
+some-key : (read : Result SrcItem TokenRefusal) → KeyWritten read → OneKeyWritten (and_then read (λ key. Ok (Some key)))
 some-key (Ok item) h = All-cons IsWrittenItem item [] h (All-nil IsWrittenItem)
 some-key (Err found) h = tt
 
-key-if : (using_keys plus : Bool) (read : Result SrcItem Fault) (wrong : Fault) → KeyWritten read
+key-if : (using_keys plus : Bool) (read : Result SrcItem TokenRefusal) (wrong : TokenRefusal) → KeyWritten read
     → OneKeyWritten (if not plus then Ok None else (if using_keys then and_then read (λ key. Ok (Some key)) else Err wrong))
 key-if using_keys false read wrong h = All-nil IsWrittenItem
 key-if false true read wrong h = tt
 key-if true true read wrong h = some-key read h
 
-abbrev BodyWritten : Result RuleDef Fault → Type 0
+abbrev BodyWritten : Result RuleDef TokenRefusal → Type 0
 BodyWritten (Ok rule) = IsWrittenRule rule
 BodyWritten (Err found) = Unit {0}
 
-body-of : (line : ℕ) (contexts : Result (List SrcItem) Fault) (keys : Result (Option SrcItem) Fault) (outputs : Result (List SrcItem) Fault)
+body-of : (line : ℕ) (contexts : Result (List SrcItem) TokenRefusal) (keys : Result (Option SrcItem) TokenRefusal) (outputs : Result (List SrcItem) TokenRefusal)
     → AllWritten contexts → ContextWritten contexts → OneKeyWritten keys → AllWritten outputs
     → BodyWritten (and_then contexts (λ context. and_then keys (λ key. and_then outputs (λ output. Ok (record { line = line; kind = Plain; context = context; key = key; output = output })))))
 body-of line (Err found) keys outputs c o k h = tt
@@ -163,7 +163,7 @@ body-written group line last arrow plus tokens ok =
     (key_written last (plus + 1) key_tokens (All-drop IsWholeToken (plus + 1) (take arrow tokens) (All-take IsWholeToken arrow tokens ok))))
     (items_written section.Output unseen last 0 (arrow + 1) (drop (arrow + 1) tokens) (All-drop IsWholeToken (arrow + 1) tokens ok))
 
-earliest-written : (head : Option Code) (body : Result RuleDef Fault) → BodyWritten body → StatementWritten (earliest head body)
+earliest-written : (head : Option Code) (body : Result RuleDef TokenRefusal) → BodyWritten body → StatementWritten (earliest head body)
 earliest-written None (Ok rule) h = h
 earliest-written None (Err found) h = tt
 earliest-written (Some head) (Ok rule) h = tt
@@ -180,7 +180,7 @@ rule-line group line last tokens ok =
 
 tokens-written : (group : LastGroup) (line last : ℕ) (tokens : List LineToken) → All IsWholeToken tokens → StatementWritten (read_tokens group line last tokens)
 tokens-written group line last tokens ok =
-    let P : Result Statement Fault → Type 0 = StatementWritten in
+    let P : Result Statement TokenRefusal → Type 0 = StatementWritten in
     cond_both (begins_word (codes "store") tokens) _ _ P (λ e. store-line line last tokens ok)
     (λ e. cond_both (begins_word (codes "begin") tokens) _ _ P (λ f. begin-line line last tokens)
     (λ f. cond_both (begins_word (codes "group") tokens) _ _ P (λ g. group-line line last tokens)
@@ -229,7 +229,7 @@ abbrev LineWritten : Result Statement Refusal → Type 0
 LineWritten (Ok stated) = IsWrittenStatement stated
 LineWritten (Err found) = Unit {0}
 
-at-line : (line : ℕ) (read : Result Statement Fault) → StatementWritten read → LineWritten (at_line line read)
+at-line : (line : ℕ) (read : Result Statement TokenRefusal) → StatementWritten read → LineWritten (at_line line read)
 at-line line (Ok stated) h = h
 at-line line (Err found) h = tt
 

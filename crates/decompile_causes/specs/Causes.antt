@@ -63,12 +63,9 @@ is_unspelled_value elements =
 abbrev pub has_unspelled_value : Names → List ℕ → Bool
 has_unspelled_value names numbers = list_any (λ n. is_unspelled_value (elements_of names.elements n)) numbers
 
--- an item of a context or an output: a far deadkey, a condition on a system option or a set of one, a named system store, a
--- value without a spelling
+-- an item of a context or an output: a far deadkey, a named system store, a value without a spelling
 abbrev pub is_far_pattern : Pat → Bool
 is_far_pattern (pattern.Mark mark) = is_far_mark mark
-is_far_pattern (pattern.SystemEqual id value) = true
-is_far_pattern (pattern.SystemUnequal id value) = true
 is_far_pattern other = false
 
 abbrev pub is_unspelled_pattern : Names → Pat → Bool
@@ -77,7 +74,6 @@ is_unspelled_pattern names item =
 
 abbrev pub is_far_output : Out → Bool
 is_far_output (output.Mark mark) = is_far_mark mark
-is_far_output (output.SetSystem id value) = true
 is_far_output other = false
 
 abbrev pub is_unspelled_output : Names → Out → Bool

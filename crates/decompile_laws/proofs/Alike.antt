@@ -1,5 +1,5 @@
 -- Keyboards that do the same, whatever their stores and groups are called and wherever they stand.
-use Rattle.std.specs.Prelude.{◌≡◌, List, Option, Some, None}
+use Rattle.std.specs.Prelude.{◌≡◌, List, [], Option, Some, None}
 use Rattle.std.specs.List.{AllZip}
 use Rattle.kmn_base.specs.declared.items.Element.{Element}
 use Rattle.kmn_base.specs.declared.keys.RuleKey.{RuleKey}
@@ -55,6 +55,8 @@ SameIfAny a b groups (Some x) (Some y) = SameGroup a b groups x y
 pub record Alike (a b : Keyboard) (groups : Ref → Ref → Type 0) : Type 0 where
   pub first : first_state a ≡ first_state b
   pub dictionary : a.dictionary ≡ b.dictionary
+  pub first_cased : a.cased ≡ []
+  pub second_cased : b.cased ≡ []
   pub choice : b.choice ≡ First
   pub start : groups a.start b.start
   pub each : (g h : Ref) → groups g h → SameIfAny a b groups (group_at a.groups g) (group_at b.groups h)

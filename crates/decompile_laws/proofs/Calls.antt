@@ -2,7 +2,7 @@
 use Rattle.std.proofs.Common.{◌≡◌, ℕ, zero, suc, ◌+◌, ◌≤◌, true, false, not, List, [], ◌∷◌, ◌++◌, length, drop, map, Option, None, Some, refl, sym, ◌∙◌, ap, arith, length-drop, if◌then◌else◌}
 use Rattle.std.specs.Prelude.{slice_get, nat_eq, flat_map}
 use Rattle.std.specs.List.{list_any, AllByRecursion}
-use Rattle.std.proofs.lemmas.Bool.{eqb-true, false_from_ne_true, not-true, and_parts, not-false, cond_both}
+use Rattle.std.proofs.lemmas.Bool.{eqb-true, false_from_ne_true, not-true, and_parts, not-false, cond_both, cond-false}
 use Rattle.std.proofs.lemmas.Option.{none-some, same_Some}
 use Rattle.kmn_base.specs.declared.items.Element.{Element}
 use Rattle.kmn_base.specs.declared.items.Element.TheVariants as element
@@ -124,11 +124,13 @@ elements-are-alone : (names : SourceNames) (called : Names) (es : List Element) 
 elements-are-alone names called [] = tt
 elements-are-alone names called (e ∷ es) = (element-alone names called e, elements-are-alone names called es)
 
-no-system : (named : List ℕ) (n : ℕ) (store : Store) → is_written named n store ≡ true → nat_eq store.system 0xFFFF ≡ false
-no-system named n store w =
-    false_from_ne_true (nat_eq store.system 0xFFFF)
-    (λ e. let same : store.system ≡ 0xFFFF = eqb-true store.system 0xFFFF e in
-    clash (is_written named n store) w (λ i. if nat_eq (same i) 0 then list_any (nat_eq n) named else list_any (nat_eq (same i)) written_ids))
+-- a store that is written is none of a system store that isn't
+pub no-system : (named : List ℕ) (n id : ℕ) (store : Store) → nat_eq id 0 ≡ false → list_any (nat_eq id) written_ids ≡ false → is_written named n store ≡ true → nat_eq store.system id ≡ false
+no-system named n id store some other w =
+    false_from_ne_true (nat_eq store.system id)
+    (λ e. let same : store.system ≡ id = eqb-true store.system id e in
+    clash (is_written named n store) w
+    ((λ i. if nat_eq (same i) 0 then list_any (nat_eq n) named else list_any (nat_eq (same i)) written_ids) ∙ (cond-false (nat_eq id 0) _ _ some ∙ other)))
 
 pub back-simple : (names : SourceNames) (called : Names) (named : List ℕ) (line j : ℕ) (calls : List (Option (List ℕ))) (stores : List Store) → AreCalls named j calls stores
     → AllByRecursion (IsSimple names) (back_stores called line calls stores)
@@ -136,6 +138,6 @@ back-simple names called named line j [] stores c = tt
 back-simple names called named line j (call ∷ calls) [] c = tt
 back-simple names called named line j (None ∷ calls) (s ∷ stores) c = back-simple names called named line (j + 1) calls stores c.1
 back-simple names called named line j (Some name ∷ calls) (s ∷ stores) c = (
-  (no-system named j s c.0, λ before i. record { system = s.system; name = name; elements = elements-alone names before (map (back_element called) s.elements) (elements-are-alone names called s.elements) i }),
+  (no-system named j 0xFFFF s refl refl c.0, λ before i. record { system = s.system; name = name; elements = elements-alone names before (map (back_element called) s.elements) (elements-are-alone names called s.elements) i }),
   back-simple names called named (line + 1) (j + 1) calls stores c.2,
 )

@@ -1,5 +1,5 @@
 -- What is known of the items of tables that can be written out.
-use Rattle.std.proofs.Common.{◌≡◌, ℕ, ◌<◌, ◌≤◌, Bool, true, false, ◌||◌, List, [], ◌∷◌, length, refl, sym, ap, subst, arith}
+use Rattle.std.proofs.Common.{◌≡◌, ℕ, ◌<◌, ◌≤◌, Bool, true, false, ◌||◌, List, [], ◌∷◌, length, refl, ap, arith}
 use Rattle.std.specs.Prelude.{nat_eq, flat_map, fold, max}
 use Rattle.std.specs.List.{AllByRecursion, list_any}
 use Rattle.std.proofs.Math.Nat.{le-max_left, le-max_right}
@@ -25,7 +25,7 @@ use Rattle.kmx_format.specs.Writable.{groups_of_output, IsWritableRule, IsWritab
 use Rattle.kmx_format.specs.Playable.{IsPlayableStore, IsPlayableGroup, IsPlayable}
 use Rattle.decompile_laws.specs.Names.{named_by_pattern, named_by_output, named_by_group, named_stores}
 use Rattle.decompile_laws.specs.Marks.{element_marks, pattern_marks, output_marks, group_marks, store_marks, table_marks, greatest_mark}
-use Rattle.decompile_laws.specs.WrittenOut.{has_falling_contexts, element_keys, key_codes_of, store_keys, rule_keys, group_keys, table_keys, pattern_values, output_values, group_values, table_values, pattern_systems, output_systems, group_systems, table_systems, has_key_name, has_characters, CanBeWrittenOut}
+use Rattle.decompile_laws.specs.WrittenOut.{has_falling_contexts, element_keys, key_codes_of, store_keys, rule_keys, group_keys, table_keys, pattern_values, output_values, group_values, table_values, has_key_name, has_characters, CanBeWrittenOut}
 use Rattle.decompile_laws.proofs.Choosing.{all_parts, all_split, all_both, all_weaker}
 use Rattle.decompile_laws.proofs.Parts.{Each, groups-each}
 
@@ -38,10 +38,6 @@ IsOption t n = list_any (nat_eq n) (tab_options t) ≡ true
 
 abbrev pub IsValue : Tables → ℕ → Type 0
 IsValue t n = has_characters t n ≡ true
-
--- none of them is there
-abbrev pub Never : ℕ → Type 0
-Never id = ⊥
 
 abbrev pub IsMark : Tables → ℕ → Type 0
 IsMark t m = (0 < m) × (m ≤ greatest_mark t)
@@ -57,14 +53,12 @@ pub record GoodPattern (t : Tables) (x : Pat) : Type 0 where
   pub options : AllByRecursion (IsOption t) (pattern_options x)
   pub values : AllByRecursion (IsValue t) (pattern_values x)
   pub marks : AllByRecursion (IsMark t) (pattern_marks x)
-  pub systems : AllByRecursion Never (pattern_systems x)
 
 pub record GoodOutput (t : Tables) (x : Out) : Type 0 where
   pub named : AllByRecursion (IsNamed t) (named_by_output x)
   pub options : AllByRecursion (IsOption t) (output_options x)
   pub values : AllByRecursion (IsValue t) (output_values x)
   pub marks : AllByRecursion (IsMark t) (output_marks x)
-  pub systems : AllByRecursion Never (output_systems x)
   pub groups : AllByRecursion (IsGroup t) (groups_of_output x)
 
 pub record GoodElement (t : Tables) (e : Element) : Type 0 where
@@ -118,21 +112,21 @@ module _ (t : Tables) where
   AtMost m = m ≤ greatest_mark t
 
   good-patterns : (xs : List Pat) → AllByRecursion (λ x. AllByRecursion (IsNamed t) (named_by_pattern x)) xs → AllByRecursion (λ x. AllByRecursion (IsOption t) (pattern_options x)) xs
-      → AllByRecursion (λ x. AllByRecursion (IsValue t) (pattern_values x)) xs → AllByRecursion (λ x. AllByRecursion AtMost (pattern_marks x)) xs → AllByRecursion (λ x. AllByRecursion Never (pattern_systems x)) xs
+      → AllByRecursion (λ x. AllByRecursion (IsValue t) (pattern_values x)) xs → AllByRecursion (λ x. AllByRecursion AtMost (pattern_marks x)) xs
       → AllByRecursion (λ x. IsSpellable (unit_item_of_pattern x)) xs → AllByRecursion (GoodPattern t) xs
-  good-patterns [] n o v m y s = tt
-  good-patterns (x ∷ xs) n o v m y s = (
-    record { named = n.0; options = o.0; values = v.0; marks = all_both (λ m. 0 < m) AtMost (pattern_marks x) (some-pattern x s.0) m.0; systems = y.0 },
-    good-patterns xs n.1 o.1 v.1 m.1 y.1 s.1,
+  good-patterns [] n o v m s = tt
+  good-patterns (x ∷ xs) n o v m s = (
+    record { named = n.0; options = o.0; values = v.0; marks = all_both (λ m. 0 < m) AtMost (pattern_marks x) (some-pattern x s.0) m.0 },
+    good-patterns xs n.1 o.1 v.1 m.1 s.1,
   )
 
   good-outputs : (xs : List Out) → AllByRecursion (λ x. AllByRecursion (IsNamed t) (named_by_output x)) xs → AllByRecursion (λ x. AllByRecursion (IsOption t) (output_options x)) xs
-      → AllByRecursion (λ x. AllByRecursion (IsValue t) (output_values x)) xs → AllByRecursion (λ x. AllByRecursion AtMost (output_marks x)) xs → AllByRecursion (λ x. AllByRecursion Never (output_systems x)) xs
+      → AllByRecursion (λ x. AllByRecursion (IsValue t) (output_values x)) xs → AllByRecursion (λ x. AllByRecursion AtMost (output_marks x)) xs
       → AllByRecursion (λ x. IsSpellable (unit_item_of_output x)) xs → AllByRecursion (λ x. AllByRecursion (IsGroup t) (groups_of_output x)) xs → AllByRecursion (GoodOutput t) xs
-  good-outputs [] n o v m y s g = tt
-  good-outputs (x ∷ xs) n o v m y s g = (
-    record { named = n.0; options = o.0; values = v.0; marks = all_both (λ m. 0 < m) AtMost (output_marks x) (some-output x s.0) m.0; systems = y.0; groups = g.0 },
-    good-outputs xs n.1 o.1 v.1 m.1 y.1 s.1 g.1,
+  good-outputs [] n o v m s g = tt
+  good-outputs (x ∷ xs) n o v m s g = (
+    record { named = n.0; options = o.0; values = v.0; marks = all_both (λ m. 0 < m) AtMost (output_marks x) (some-output x s.0) m.0; groups = g.0 },
+    good-outputs xs n.1 o.1 v.1 m.1 s.1 g.1,
   )
 
   no-key : (using : Bool) (k : RuleKey) → IsWritableKey using k → using ≡ false → k ≡ key.Any
@@ -150,43 +144,41 @@ module _ (t : Tables) where
       → AllByRecursion (λ (r : Rule). AllByRecursion (λ x. AllByRecursion (IsValue t) (output_values x)) r.output) rules
       → AllByRecursion (λ (r : Rule). AllByRecursion (λ x. AllByRecursion AtMost (pattern_marks x)) r.context) rules
       → AllByRecursion (λ (r : Rule). AllByRecursion (λ x. AllByRecursion AtMost (output_marks x)) r.output) rules
-      → AllByRecursion (λ (r : Rule). AllByRecursion (λ x. AllByRecursion Never (pattern_systems x)) r.context) rules
-      → AllByRecursion (λ (r : Rule). AllByRecursion (λ x. AllByRecursion Never (output_systems x)) r.output) rules
       → AllByRecursion (λ (r : Rule). AllByRecursion (IsKey t) (key_codes_of r.key)) rules
       → AllByRecursion (IsWritableRule (length t.stores) (length t.groups) using) rules
       → AllByRecursion (GoodRule t using) rules
-  good-rules using [] np nq op oq vp vq mp mq yp yq k w = tt
-  good-rules using (r ∷ rules) np nq op oq vp vq mp mq yp yq k w = (
+  good-rules using [] np nq op oq vp vq mp mq k w = tt
+  good-rules using (r ∷ rules) np nq op oq vp vq mp mq k w = (
     record {
-      context = good-patterns r.context np.0 op.0 vp.0 mp.0 yp.0 (recursion_from_All (λ x. IsSpellable (unit_item_of_pattern x)) r.context w.0.context.items);
-      output = good-outputs r.output nq.0 oq.0 vq.0 mq.0 yq.0 (recursion_from_All (λ x. IsSpellable (unit_item_of_output x)) r.output w.0.output.items)
+      context = good-patterns r.context np.0 op.0 vp.0 mp.0 (recursion_from_All (λ x. IsSpellable (unit_item_of_pattern x)) r.context w.0.context.items);
+      output = good-outputs r.output nq.0 oq.0 vq.0 mq.0 (recursion_from_All (λ x. IsSpellable (unit_item_of_output x)) r.output w.0.output.items)
           (all_split (IsGroup t) groups_of_output r.output (recursion_from_All (IsGroup t) (flat_map groups_of_output r.output) w.0.output.groups));
       keys = k.0;
       none = no-key using r.key w.0.key;
     },
-    good-rules using rules np.1 nq.1 op.1 oq.1 vp.1 vq.1 mp.1 mq.1 yp.1 yq.1 k.1 w.1,
+    good-rules using rules np.1 nq.1 op.1 oq.1 vp.1 vq.1 mp.1 mq.1 k.1 w.1,
   )
 
   good-group : (g : Group) → Each (IsNamed t) named_by_pattern named_by_output g → Each (IsOption t) pattern_options output_options g → Each (IsValue t) pattern_values output_values g
-      → Each AtMost pattern_marks output_marks g → Each Never pattern_systems output_systems g → AllByRecursion (λ (r : Rule). AllByRecursion (IsKey t) (key_codes_of r.key)) g.rules
+      → Each AtMost pattern_marks output_marks g → AllByRecursion (λ (r : Rule). AllByRecursion (IsKey t) (key_codes_of r.key)) g.rules
       → IsPlayableGroup (length t.stores) (length t.groups) g → has_falling_contexts g.rules ≡ true → GoodGroup t g
-  good-group g n o v m y k p order = record {
-    rules = good-rules g.using_keys g.rules n.contexts n.outputs o.contexts o.outputs v.contexts v.outputs m.contexts m.outputs y.contexts y.outputs k
+  good-group g n o v m k p order = record {
+    rules = good-rules g.using_keys g.rules n.contexts n.outputs o.contexts o.outputs v.contexts v.outputs m.contexts m.outputs k
         (recursion_from_All (IsWritableRule (length t.stores) (length t.groups) g.using_keys) g.rules p.rules);
-    on_match = good-outputs g.on_match n.on_match o.on_match v.on_match m.on_match y.on_match (recursion_from_All (λ x. IsSpellable (unit_item_of_output x)) g.on_match p.on_match.itself.items)
+    on_match = good-outputs g.on_match n.on_match o.on_match v.on_match m.on_match (recursion_from_All (λ x. IsSpellable (unit_item_of_output x)) g.on_match p.on_match.itself.items)
         (all_split (IsGroup t) groups_of_output g.on_match (recursion_from_All (IsGroup t) (flat_map groups_of_output g.on_match) p.on_match.itself.groups));
-    on_nomatch = good-outputs g.on_nomatch n.on_nomatch o.on_nomatch v.on_nomatch m.on_nomatch y.on_nomatch (recursion_from_All (λ x. IsSpellable (unit_item_of_output x)) g.on_nomatch p.on_nomatch.itself.items)
+    on_nomatch = good-outputs g.on_nomatch n.on_nomatch o.on_nomatch v.on_nomatch m.on_nomatch (recursion_from_All (λ x. IsSpellable (unit_item_of_output x)) g.on_nomatch p.on_nomatch.itself.items)
         (all_split (IsGroup t) groups_of_output g.on_nomatch (recursion_from_All (IsGroup t) (flat_map groups_of_output g.on_nomatch) p.on_nomatch.itself.groups));
     order = order;
   }
 
   good-groups : (groups : List Group) → AllByRecursion (Each (IsNamed t) named_by_pattern named_by_output) groups → AllByRecursion (Each (IsOption t) pattern_options output_options) groups
-      → AllByRecursion (Each (IsValue t) pattern_values output_values) groups → AllByRecursion (Each AtMost pattern_marks output_marks) groups → AllByRecursion (Each Never pattern_systems output_systems) groups
+      → AllByRecursion (Each (IsValue t) pattern_values output_values) groups → AllByRecursion (Each AtMost pattern_marks output_marks) groups
       → AllByRecursion (λ (g : Group). AllByRecursion (IsKey t) (group_keys g)) groups → AllByRecursion (IsPlayableGroup (length t.stores) (length t.groups)) groups
       → AllByRecursion (λ (g : Group). has_falling_contexts g.rules ≡ true) groups → AllByRecursion (GoodGroup t) groups
-  good-groups [] n o v m y k p order = tt
-  good-groups (g ∷ groups) n o v m y k p order =
-      (good-group g n.0 o.0 v.0 m.0 y.0 (all_split (IsKey t) rule_keys g.rules k.0) p.0 order.0, good-groups groups n.1 o.1 v.1 m.1 y.1 k.1 p.1 order.1)
+  good-groups [] n o v m k p order = tt
+  good-groups (g ∷ groups) n o v m k p order =
+      (good-group g n.0 o.0 v.0 m.0 (all_split (IsKey t) rule_keys g.rules k.0) p.0 order.0, good-groups groups n.1 o.1 v.1 m.1 k.1 p.1 order.1)
 
   good-elements : (es : List Element) → AllByRecursion (λ e. AllByRecursion AtMost (element_marks e)) es → AllByRecursion (λ e. AllByRecursion (IsKey t) (element_keys e)) es
       → AllByRecursion (λ e. IsSpellable (unit_item_of_element e)) es → AllByRecursion (GoodElement t) es
@@ -218,10 +210,6 @@ module _ (t : Tables) where
   unfolding table_values
   values-all c = recursion_from_All (IsValue t) (table_values t) c.values
 
-  no-systems : CanBeWrittenOut t → AllByRecursion Never (flat_map group_systems t.groups)
-  unfolding table_systems
-  no-systems c = subst (AllByRecursion Never) (sym c.systems) tt
-
   keys-all : CanBeWrittenOut t → AllByRecursion (IsKey t) (flat_map store_keys t.stores) × AllByRecursion (IsKey t) (flat_map group_keys t.groups)
   unfolding table_keys
   keys-all c = all_parts (IsKey t) (flat_map store_keys t.stores) (flat_map group_keys t.groups) (recursion_from_All (IsKey t) (table_keys t) c.keys)
@@ -237,7 +225,6 @@ module _ (t : Tables) where
       (groups-each (IsOption t) pattern_options output_options t.groups option-members)
       (groups-each (IsValue t) pattern_values output_values t.groups (values-all c))
       (groups-each AtMost pattern_marks output_marks t.groups marks-all.1)
-      (groups-each Never pattern_systems output_systems t.groups (no-systems c))
       (all_split (IsKey t) group_keys t.groups (keys-all c).1)
       (recursion_from_All (IsPlayableGroup (length t.stores) (length t.groups)) t.groups p.groups)
       (recursion_from_All (λ (g : Group). has_falling_contexts g.rules ≡ true) t.groups c.order)

@@ -20,6 +20,7 @@ pub mod SameTraces
 pub mod SmallMarks
 pub mod Stores
 pub mod Thin
+pub mod Uncased
 pub mod Uses
 pub mod Whole
 pub mod WorkedTables

@@ -29,6 +29,7 @@ use Rattle.rule_model.specs.Keyboard.{Ref, Named, Numbered, IsAny, IsNotAny, IsI
 use Rattle.rule_model.specs.Content.{content, option_number, elements_at, store_number}
 use Rattle.rule_model.specs.Match.{Content, is_item, place_of, place_caught, matches, element_at, is_element, same_value}
 use Rattle.rule_model.specs.Act.{act, act_one, put_item, put_element, place_for_index, set_current, save_current, reset_current}
+use Rattle.rule_model.specs.System.{is_equal, system_ref}
 use Rattle.rule_model.specs.Naming.{names_of, mark_number, key_number}
 use Rattle.rule_model.specs.Src.{src, src_key, src_pattern, src_output, src_rule, value_elements}
 use Rattle.rule_model.specs.Tab.{tab, tab_pattern, tab_output, tab_rule, elements_of}
@@ -92,6 +93,8 @@ pub record Renamed (p : Program) (t : Tables) (names : Names) : Type 0 where
   pub same_content : (n : ℕ) → IsNamed t n → IsOption t n → (values : List (List Element)) → content (src p).stores values (Named (store_called names n)) ≡ content (tab t).stores values (Numbered n)
   pub same_option : (n : ℕ) → IsNamed t n → option_number (src p).stores (Named (store_called names n)) ≡ option_number (tab t).stores (Numbered n)
   pub same_elements : (n : ℕ) → IsNamed t n → IsOption t n → elements_at (src p).stores (store_number (src p).stores (Named (store_called names n))) ≡ elements_at (tab t).stores (store_number (tab t).stores (Numbered n))
+  pub same_system : (id : ℕ) (values : List (List Element)) → content (src p).stores values (system_ref id) ≡ content (tab t).stores values (system_ref id)
+  pub same_system_option : (id : ℕ) → option_number (src p).stores (system_ref id) ≡ option_number (tab t).stores (system_ref id)
   pub same_value : (n : ℕ) → IsValue t n → value_elements (value_called names n) ≡ elements_of t.stores n
   pub same_mark : (m : ℕ) → IsMark t m → mark_number (names_of p) (decimal m) ≡ m
   pub same_key : (flags code : ℕ) → IsKey t code → key_number (names_of p) (key_called names flags code) ≡ code
@@ -120,6 +123,14 @@ module _ (ca cb : Content) (name : List ℕ) (n : ℕ) (e : ca (Named name) ≡ 
 
   unequal-same : (v w : List Element) → v ≡ w → SamePattern ca cb (IfUnequal (Named name) v) (IfUnequal (Numbered n) w)
   unequal-same v w f = record { takes = refl; fits = λ seen x. refl; place = λ x. refl; holds = λ i. not (same_value (e i) (f i)); start = refl }
+
+-- conditions on a system option
+module _ (ca cb : Content) (ref : Ref) (e : ca ref ≡ cb ref) where
+  system_equal-same : (v w : List Element) → v ≡ w → SamePattern ca cb (IfEqual ref v) (IfEqual ref w)
+  system_equal-same v w f = record { takes = refl; fits = λ seen x. refl; place = λ x. refl; holds = λ i. is_equal ref (e i) (f i); start = refl }
+
+  system_unequal-same : (v w : List Element) → v ≡ w → SamePattern ca cb (IfUnequal ref v) (IfUnequal ref w)
+  system_unequal-same v w f = record { takes = refl; fits = λ seen x. refl; place = λ x. refl; holds = λ i. not (is_equal ref (e i) (f i)); start = refl }
 
 -- a key as a text spells it
 abbrev spelled_key : RuleKey → RuleKey
@@ -158,8 +169,8 @@ module _ (p : Program) (t : Tables) (names : Names) (r : Renamed p t names) wher
   pattern-same values (pattern.Index s offset) ok = index-same _ _ _ _ (r.like_content s ok.named.0 values) offset
   pattern-same values (pattern.Equal s v) ok = equal-same _ _ _ _ (r.same_content s ok.named.0 ok.options.0 values) _ _ (r.same_value v ok.values.0)
   pattern-same values (pattern.Unequal s v) ok = unequal-same _ _ _ _ (r.same_content s ok.named.0 ok.options.0 values) _ _ (r.same_value v ok.values.0)
-  pattern-same values (pattern.SystemEqual id v) ok = absurd ok.systems.0
-  pattern-same values (pattern.SystemUnequal id v) ok = absurd ok.systems.0
+  pattern-same values (pattern.SystemEqual id v) ok = system_equal-same _ _ (system_ref id) (r.same_system id values) _ _ (r.same_value v ok.values.0)
+  pattern-same values (pattern.SystemUnequal id v) ok = system_unequal-same _ _ (system_ref id) (r.same_system id values) _ _ (r.same_value v ok.values.0)
   pattern-same values x ok = record { takes = refl; fits = λ seen x. refl; place = λ x. refl; holds = refl; start = refl }
 
   patterns-same : (values : List (List Element)) (xs : List Pat) → AllByRecursion (GoodPattern t) xs → SameContext (content (src p).stores values) (content (tab t).stores values) (map (src_pattern (names_of p)) (map (back_pattern names) xs)) (map (tab_pattern t.stores) xs)
@@ -172,7 +183,7 @@ module _ (p : Program) (t : Tables) (names : Names) (r : Renamed p t names) wher
     one-same (output.Index store offset) ok s = put-like _ _ (r.like_content store ok.named.0 s.current) (place_for_index c offset) s
     one-same (output.Enter g) ok s = λ i. if nat_le EVENT_ENTRIES s.entered then record s { stopped = true } else same (Named (group_called names g)) (Numbered g) (g, ok.groups.0, refl, refl) s i
     one-same (output.Set store v) ok s = λ i. set_current (r.same_option store ok.named.0 i) (r.same_value v ok.values.0 i) s
-    one-same (output.SetSystem id v) ok s = absurd ok.systems.0
+    one-same (output.SetSystem id v) ok s = λ i. set_current (r.same_system_option id i) (r.same_value v ok.values.0 i) s
     one-same (output.Save store) ok s = λ i. save_current (r.same_option store ok.named.0 i) s
     one-same (output.Reset store) ok s = λ i. reset_current (r.same_option store ok.named.0 i) (r.same_elements store ok.named.0 ok.options.0 i) s
     one-same x ok s = refl

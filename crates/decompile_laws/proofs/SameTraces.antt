@@ -13,7 +13,7 @@ use Rattle.rule_model.specs.declared.event_state.EventState.{EventState}
 use Rattle.rule_model.specs.declared.event_state.Caught.{Caught}
 use Rattle.rule_model.specs.Keyboard.{Ref, Output, RuleMeaning, GroupMeaning, Keyboard, First}
 use Rattle.rule_model.specs.Content.{content, group_at}
-use Rattle.rule_model.specs.Hold.{holds, caught_by, fitting_place}
+use Rattle.rule_model.specs.Hold.{holds, holds_with, caught_by, fitting_place}
 use Rattle.rule_model.specs.Act.{act, items_caught}
 use Rattle.rule_model.specs.Choose.{Chosen, first, first_with, best, best_with, goes_before, choose}
 use Rattle.rule_model.specs.Enter.{by_default, default_of, nothing, act_if_any, do_unmatched, do_group, in_group, enter_group}
@@ -33,12 +33,12 @@ module _ (a b : Keyboard) (groups : Ref → Ref → Type 0) where
   holds-same : (values : List (List Element)) (left : List Item) (press : KeyPress) (x y : RuleMeaning) → SameRule a b groups x y
       → holds (content a.stores values) left press x ≡ holds (content b.stores values) left press y
   holds-same values left press x y same =
-      holds-parts (content a.stores values) left press x
+      holds-parts [] (content a.stores values) left press x
       ∙ ap (λ c. caught_by c (fitting_place (content a.stores values) press x.key)) (context_caught-same (content a.stores values) (content b.stores values) x.context y.context (same.context values) left)
       ∙ ap (λ k. caught_by (context_caught (content b.stores values) left y.context) (fitting_place (content a.stores values) press k)) same.first_key
       ∙ ap (λ k. caught_by (context_caught (content b.stores values) left y.context) (if k then Some None else None)) (same.fits press)
       ∙ ap (λ k. caught_by (context_caught (content b.stores values) left y.context) (fitting_place (content b.stores values) press k)) (sym same.second_key)
-      ∙ sym (holds-parts (content b.stores values) left press y)
+      ∙ sym (holds-parts [] (content b.stores values) left press y)
 
   -- what is chosen is the same
   SameChosen : Option Chosen → Option Chosen → Type 0
@@ -87,20 +87,22 @@ module _ (a b : Keyboard) (groups : Ref → Ref → Type 0) where
         (rule.output e f entry c.1 (record s { left = without_last (length (items_caught c.1)) s.left })
         ∙ ap (λ k. act b f k d.0.output (record s { left = without_last (length (items_caught k)) s.left })) caught)
 
-    in-same : b.choice ≡ First → (x y : Option GroupMeaning) → SameIfAny a b groups x y → (s : EventState) → in_group a e press x s ≡ in_group b f press y s
-    in-same cb None None same s = refl
-    in-same cb None (Some y) same s = absurd same
-    in-same cb (Some x) None same s = absurd same
-    in-same cb (Some x) (Some y) same s =
-        ap (λ c. do_group a e press x c s) (same.chosen (holds (content a.stores s.current) s.left press))
+    -- a rule of either is held as one of a file is
+    in-same : a.cased ≡ [] → b.cased ≡ [] → b.choice ≡ First → (x y : Option GroupMeaning) → SameIfAny a b groups x y → (s : EventState) → in_group a e press x s ≡ in_group b f press y s
+    in-same ac bc cb None None same s = refl
+    in-same ac bc cb None (Some y) same s = absurd same
+    in-same ac bc cb (Some x) None same s = absurd same
+    in-same ac bc cb (Some x) (Some y) same s =
+        ap (λ cased. do_group a e press x (choose a.choice (holds_with cased (content a.stores s.current) s.left press) x.rules) s) ac
+        ∙ ap (λ c. do_group a e press x c s) (same.chosen (holds (content a.stores s.current) s.left press))
         ∙ do-same x y _ _ same (first-same s.current s.left press x.rules y.rules same.rules) s
-        ∙ sym (ap (λ k. do_group b f press y (choose k (holds (content b.stores s.current) s.left press) y.rules) s) cb)
+        ∙ sym (λ i. do_group b f press y (choose (cb i) (holds_with (bc i) (content b.stores s.current) s.left press) y.rules) s)
 
   module _ (alike : Alike a b groups) where
     level-same : (n : ℕ) (press : KeyPress) → SameEntry groups (enter_group n a press) (enter_group n b press)
     level-same zero press g h same s = refl
     level-same (suc n) press g h same s =
-        in-same (enter_group n a press) (enter_group n b press) (level-same n press) press alike.dictionary alike.choice
+        in-same (enter_group n a press) (enter_group n b press) (level-same n press) press alike.dictionary alike.first_cased alike.second_cased alike.choice
         (group_at a.groups g) (group_at b.groups h) (alike.each g h same) (record s { entered = s.entered + 1 })
 
     key-same : (press : KeyPress) (s : EventState) → after_key a press s ≡ after_key b press s

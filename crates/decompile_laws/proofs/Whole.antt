@@ -1,5 +1,5 @@
 -- The program that tables are written out as means what they mean.
-use Rattle.std.proofs.Common.{◌≡◌, ℕ, zero, suc, ◌+◌, ◌^◌, ◌<◌, ◌≤◌, true, false, List, [], ◌∷◌, ◌++◌, length, map, Option, Some, is_some, refl, sym, ◌∙◌, ap, subst, arith}
+use Rattle.std.proofs.Common.{◌≡◌, ℕ, zero, suc, ◌+◌, ◌^◌, ◌<◌, ◌≤◌, true, false, List, [], ◌∷◌, ◌++◌, length, map, Option, Some, is_some, refl, sym, ◌∙◌, ap, subst, arith, append-nil, append_assoc, if◌then◌else◌}
 use Rattle.std.specs.Prelude.{slice_get, option_map, option_and_then, unwrap_or, codes, nat_eq}
 use Rattle.std.specs.List.{list_all, list_any, filter_map}
 use Rattle.std.proofs.lemmas.List.{length-map}
@@ -12,10 +12,12 @@ use Rattle.rule_model.specs.Content.{content, option_number, elements_at, store_
 use Rattle.rule_model.specs.Event.{State}
 use Rattle.rule_model.specs.Naming.{names_of}
 use Rattle.rule_model.specs.Src.{src, src_group, value_elements}
-use Rattle.rule_model.specs.System.{system_options}
+use Rattle.rule_model.specs.System.{system_options, system_ref}
+use Rattle.rule_model.specs.Plain.{option_names}
+use Rattle.rule_model.proofs.SystemOptions.{system_option_is, content_by_option}
 use Rattle.rule_model.specs.Tab.{tab, tab_group, tab_options, elements_of, element_char}
 use Rattle.rule_model.specs.Trace.{first_state, options_of, none_saved}
-use Rattle.compile_laws.proofs.Keyboards.{src_start, src_groups, src_dictionary, tab_start, tab_groups, tab_names, tab_choice, tab_stores}
+use Rattle.compile_laws.proofs.Keyboards.{src_start, src_groups, src_dictionary, tab_start, tab_groups, tab_names, tab_choice, tab_stores, src_cased, tab_cased}
 use Rattle.kmx_format.specs.Playable.{IsPlayable}
 use Rattle.decompile_laws.specs.Names.{free_names}
 use Rattle.decompile_laws.specs.Items.{group_called}
@@ -32,6 +34,7 @@ use Rattle.decompile_laws.proofs.Numbering.{keys-are, mark-number, key-number}
 use Rattle.decompile_laws.proofs.Renamed.{plain, Renamed, Called}
 use Rattle.decompile_laws.proofs.Groups.{group_name, groups_apart, group_count, names_taken, found-group, back-at, good-at, group_same}
 use Rattle.decompile_laws.proofs.Stores.{spelled, ready, meanings-are, own_meanings, front_meanings, front-plain, keeps, stands-there}
+use Rattle.decompile_laws.proofs.Uncased.{uncased}
 
 spelled-plain : (e : Element) → plain (spelled e) ≡ plain e
 spelled-plain (element.Char c) = refl
@@ -70,6 +73,33 @@ module _ (t : Tables) (p : IsPlayable t) (c : CanBeWrittenOut t) where
       option-flag (tab_options t) 0 n t.stores store (ap (λ (ss : List StoreMeaning). slice_get ss n) (sym (tab_stores t)) ∙ at)
       ((let e : 0 + n ≡ n = omega arith in ap (λ (k : ℕ). list_any (nat_eq k) (tab_options t)) e) ∙ option)
 
+  -- the numbers of the system options are the same, since the options before them are
+  abbrev text_stores : List StoreMeaning
+  text_stores = front_meanings t p c ++ thin spelled (names_for t).stores (own_meanings t p c)
+
+  text-stores : (src (back t)).stores ≡ text_stores ++ system_options
+  text-stores = meanings-are t p c ∙ sym (append_assoc (front_meanings t p c) (thin spelled (names_for t).stores (own_meanings t p c)) system_options)
+
+  text-options : options_of text_stores ≡ options_of (own_meanings t p c)
+  text-options =
+      let kept = thin spelled (names_for t).stores (own_meanings t p c) in
+      options-behind (front_meanings t p c) kept (front-plain t p c)
+      ∙ (ap options_of (sym (append-nil kept))
+      ∙ (options-same spelled (names_for t).stores (own_meanings t p c) [] (keeps t p c) ∙ ap options_of (append-nil (own_meanings t p c))))
+
+  system-option : (id : ℕ) → option_number (src (back t)).stores (system_ref id) ≡ option_number (tab t).stores (system_ref id)
+  system-option id =
+      (λ i. option_number (text-stores i) (system_ref id))
+      ∙ (system_option_is text_stores id
+      ∙ (ap (λ (options : List StoreMeaning). Some (length (map (λ (store : StoreMeaning). store.name) options) + (if nat_eq id 31 then 1 else 0))) text-options
+      ∙ (sym (system_option_is (own_meanings t p c) id) ∙ (λ i. option_number (sym (tab_stores t) i) (system_ref id)))))
+
+  system-content : (id : ℕ) (values : List (List Element)) → content (src (back t)).stores values (system_ref id) ≡ content (tab t).stores values (system_ref id)
+  system-content id values =
+      let number : ℕ = length (option_names (own_meanings t p c)) + (if nat_eq id 31 then 1 else 0) in
+      let known : option_number (tab t).stores (system_ref id) ≡ Some number = (λ i. option_number (tab_stores t i) (system_ref id)) ∙ system_option_is (own_meanings t p c) id in
+      content_by_option (src (back t)).stores values (system_ref id) number (system-option id ∙ known) ∙ sym (content_by_option (tab t).stores values (system_ref id) number known)
+
   pub renamed_stores : Renamed (back t) t (names_for t)
   renamed_stores = record {
     like_content = λ n named values.
@@ -92,6 +122,8 @@ module _ (t : Tables) (p : IsPlayable t) (c : CanBeWrittenOut t) where
         let s = stands-there t p c n r in
         ap (λ (x : List ℕ). elements_at (src (back t)).stores (store_number (src (back t)).stores (Named x))) r.called
         ∙ same_elements spelled r.name n (src (back t)).stores (tab t).stores s (option-there n s.store option s.old);
+    same_system = system-content;
+    same_system_option = system-option;
     same_value = λ n value. value-again (elements_of t.stores n) value;
     same_mark = λ m mark. mark-number t p c m mark;
     same_key = λ flags code key. key-number t p c flags code key;
@@ -172,6 +204,8 @@ module _ (t : Tables) (p : IsPlayable t) (c : CanBeWrittenOut t) where
   alike = record {
     first = first-same;
     dictionary = src_dictionary (back t) ∙ (keys-are t p c ∙ sym (tab_names t));
+    first_cased = src_cased (back t) ∙ uncased t p c;
+    second_cased = tab_cased t;
     choice = tab_choice t;
     start = (t.start_unicode, p.start_unicode, start-is, tab_start t);
     each = each;

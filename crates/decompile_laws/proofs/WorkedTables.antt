@@ -40,7 +40,7 @@ small_text : program_text (back small_tables)
 unfolding small_tables back free_names named_stores table_marks tab_dictionary same_name program_text system_stores encode token_size in_word token_kind token_fault begins_forbidden
 small_text = refl
 
--- an option, a store that is left away, one whose name isn't kept, a dictionary, a value, a system store, deadkeys
+-- an option, a store that is left away, one whose name isn't kept, a dictionary, a value, a system store, deadkeys, the layer
 mixed_tables : Tables
 mixed_tables = record {
   version = 0x0900;
@@ -61,7 +61,7 @@ mixed_tables = record {
         on_match = output.Enter 1 ∷ [];
         on_nomatch = output.Beep ∷ [];
         rules =
-            record { line = 30; place = 0; key = key.Virtual 0x4021 256; context = pattern.Equal 0 5 ∷ pattern.Nul ∷ pattern.Any 2 ∷ []; output = output.Index 2 3 ∷ output.Mark 1 ∷ [] }
+            record { line = 30; place = 0; key = key.Virtual 0x4021 256; context = pattern.Equal 0 5 ∷ pattern.SystemUnequal 33 5 ∷ pattern.Nul ∷ pattern.Any 2 ∷ []; output = output.Index 2 3 ∷ output.Mark 1 ∷ [] }
             ∷ record { line = 20; place = 0; key = key.Char 97; context = []; output = [] }
             ∷ [];
       }
@@ -70,7 +70,7 @@ mixed_tables = record {
         using_keys = false;
         on_match = [];
         on_nomatch = [];
-        rules = record { line = 40; place = 0; key = key.Any; context = pattern.Mark 1 ∷ []; output = output.Set 0 5 ∷ output.Context ∷ [] } ∷ [];
+        rules = record { line = 40; place = 0; key = key.Any; context = pattern.Mark 1 ∷ []; output = output.Set 0 5 ∷ output.SetSystem 33 5 ∷ output.Context ∷ [] } ∷ [];
       }
       ∷ [];
 }
@@ -78,7 +78,7 @@ mixed_tables = record {
 mixed_text : program_text (back mixed_tables)
     ≡ rows (codes "store(&version) \"9.0\"" ∷ codes "store(s2) dk(1) dk(2)" ∷ codes "store(s3) [T_x]" ∷ codes "store(S1) U+0031" ∷ codes "store(s4) U+0061 dk(2) [SHIFT K_A] [T_x]" ∷ codes "store(&copyright) U+0063"
     ∷ codes "begin Unicode > use(main)" ∷ codes "begin ANSI > use(g1)"
-    ∷ codes "group(main) using keys" ∷ codes "if(S1 = '\"') nul any(s4) + [LCTRL CTRL T_x] > index(s4,3) dk(1)" ∷ codes "+ U+0061 > nul" ∷ codes "match > use(g1)" ∷ codes "nomatch > beep"
-    ∷ codes "group(g1)" ∷ codes "dk(1) > set(S1 = '\"') context" ∷ [])
+    ∷ codes "group(main) using keys" ∷ codes "if(S1 = '\"') if(&layer != '\"') nul any(s4) + [LCTRL CTRL T_x] > index(s4,3) dk(1)" ∷ codes "+ U+0061 > nul" ∷ codes "match > use(g1)" ∷ codes "nomatch > beep"
+    ∷ codes "group(g1)" ∷ codes "dk(1) > set(S1 = '\"') set(&layer = '\"') context" ∷ [])
 unfolding mixed_tables back free_names named_stores table_marks tab_dictionary same_name program_text system_stores encode token_size in_word token_kind token_fault begins_forbidden key_codes shift_flags digits
 mixed_text = refl

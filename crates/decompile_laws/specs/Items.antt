@@ -50,7 +50,6 @@ back_element names (element.Char c) = source.Char c
 back_element names (element.Mark m) = source.Dead (decimal m)
 back_element names (element.Key flags code) = source.Key (key_called names flags code)
 
--- a condition on a system option has no words, and stands as `nul`
 abbrev pub back_pattern : Names → Pat → SrcItem
 back_pattern names (pattern.Char c) = source.Char c
 back_pattern names (pattern.Mark m) = source.Dead (decimal m)
@@ -60,11 +59,10 @@ back_pattern names (pattern.Index s offset) = source.Index (store_called names s
 back_pattern names (pattern.ContextAt offset) = source.ContextAt offset
 back_pattern names (pattern.Equal s value) = source.Equal (store_called names s) (value_called names value)
 back_pattern names (pattern.Unequal s value) = source.Unequal (store_called names s) (value_called names value)
-back_pattern names (pattern.SystemEqual id value) = source.Nul
-back_pattern names (pattern.SystemUnequal id value) = source.Nul
+back_pattern names (pattern.SystemEqual id value) = source.SystemEqual id (value_called names value)
+back_pattern names (pattern.SystemUnequal id value) = source.SystemUnequal id (value_called names value)
 back_pattern names pattern.Nul = source.Nul
 
--- nor has a set of one
 abbrev pub back_output : Names → Out → SrcItem
 back_output names (output.Char c) = source.Char c
 back_output names (output.Mark m) = source.Dead (decimal m)
@@ -73,7 +71,7 @@ back_output names output.Context = source.Context
 back_output names (output.ContextAt offset) = source.ContextAt offset
 back_output names (output.Enter g) = source.Enter (group_called names g)
 back_output names (output.Set s value) = source.Set (store_called names s) (value_called names value)
-back_output names (output.SetSystem id value) = source.Nul
+back_output names (output.SetSystem id value) = source.SetSystem id (value_called names value)
 back_output names (output.Save s) = source.Save (store_called names s)
 back_output names (output.Reset s) = source.Reset (store_called names s)
 back_output names output.Nul = source.Nul

@@ -55,10 +55,13 @@ table_keys tables = flat_map store_keys tables.stores ++ flat_map group_keys tab
 abbrev pub pattern_values : Pat → List ℕ
 pattern_values (pattern.Equal s value) = value ∷ []
 pattern_values (pattern.Unequal s value) = value ∷ []
+pattern_values (pattern.SystemEqual id value) = value ∷ []
+pattern_values (pattern.SystemUnequal id value) = value ∷ []
 pattern_values p = []
 
 abbrev pub output_values : Out → List ℕ
 output_values (output.Set s value) = value ∷ []
+output_values (output.SetSystem id value) = value ∷ []
 output_values o = []
 
 abbrev pub rule_values : Rule → List ℕ
@@ -69,25 +72,6 @@ group_values group = flat_map rule_values group.rules ++ (flat_map output_values
 
 unfoldable pub table_values : Tables → List ℕ
 table_values tables = flat_map group_values tables.groups
-
--- the ids of the system options that an item asks for or sets, which no text has
-abbrev pub pattern_systems : Pat → List ℕ
-pattern_systems (pattern.SystemEqual id value) = id ∷ []
-pattern_systems (pattern.SystemUnequal id value) = id ∷ []
-pattern_systems p = []
-
-abbrev pub output_systems : Out → List ℕ
-output_systems (output.SetSystem id value) = id ∷ []
-output_systems o = []
-
-abbrev pub rule_systems : Rule → List ℕ
-rule_systems rule = flat_map pattern_systems rule.context ++ flat_map output_systems rule.output
-
-abbrev pub group_systems : Group → List ℕ
-group_systems group = flat_map rule_systems group.rules ++ (flat_map output_systems group.on_match ++ flat_map output_systems group.on_nomatch)
-
-unfoldable pub table_systems : Tables → List ℕ
-table_systems tables = flat_map group_systems tables.groups
 
 -- a code is that of a key in the table, or of a name in the dictionary
 abbrev pub has_key_name : List (List ℕ) → ℕ → Bool
@@ -107,7 +91,7 @@ abbrev pub KeepsName : Tables → ℕ → Type 0
 KeepsName tables n = (store : Store) → slice_get tables.stores n ≡ Some store → store_called (names_for tables) n ≡ store.name
 
 -- tables that can be written out: records stand by falling length, keys have names, what items name otherwise than as a
--- value is no system store, options keep their names, options and values are characters, and no item is on a system option
+-- value is no system store, options keep their names, and options and values are characters
 pub record CanBeWrittenOut (tables : Tables) : Type 0 where
   pub order : All (λ (group : Group). has_falling_contexts group.rules ≡ true) tables.groups
   pub keys : All (λ code. has_key_name (tab_dictionary tables.stores) code ≡ true) (table_keys tables)
@@ -115,4 +99,3 @@ pub record CanBeWrittenOut (tables : Tables) : Type 0 where
   pub options : All (KeepsName tables) (tab_options tables)
   pub option_elements : All (λ n. has_characters tables n ≡ true) (tab_options tables)
   pub values : All (λ n. has_characters tables n ≡ true) (table_values tables)
-  pub systems : table_systems tables ≡ []

@@ -10,7 +10,7 @@ use indexed_tables::IndexedTables;
 use kmn_base::{Element, Text};
 use rule_model::Store;
 use std::marker::Model;
-use virtual_keys::name_of;
+use virtual_keys::{FIRST_OWN_CODE, name_of};
 
 /// The names of a text: of each store, None where it is left away, of each group, and of the keyboard's own keys.
 #[derive(Drop)]
@@ -106,7 +106,7 @@ impl<'a> Called<'a> {
     pub fn key(&self, code: u16) -> Option<&[u8]>
         ensures { option_copied result ≡ (if nat_lt code 256 then key_name code else name_in self.now.keys code) }
     {
-        if code < 256 {
+        if code < FIRST_OWN_CODE {
             name_of(code)
         } else {
             self.tables.own_key(code)

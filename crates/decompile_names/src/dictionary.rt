@@ -8,9 +8,7 @@ use indexed_tables::IndexedTables;
 use kmn_base::limits::KEY_NAMES;
 use kmn_base::{Memory, Text};
 use std::alloc::Global;
-
-/// The code of the first name.
-const FIRST_CODE: u16 = 256;
+use virtual_keys::FIRST_OWN_CODE;
 
 /// The names of tables' own keys, of which there are no more than codes.
 #[tactic(auto, using(crate::proofs::OwnNames::next_name, crate::proofs::OwnNames::all_names, crate::proofs::OwnNames::names_ended))]
@@ -20,7 +18,7 @@ pub fn own_keys(alloc: Global, tables: &IndexedTables<'_>) -> Result<Vec<Text>, 
 {
     let mut keys = Vec::new(alloc);
     for place in 0..KEY_NAMES {
-        let Some(name) = tables.own_key(FIRST_CODE + place as u16) else {
+        let Some(name) = tables.own_key(FIRST_OWN_CODE + place as u16) else {
             return Ok(keys);
         };
         keys.push(Text::from_slice(alloc, name)?)?;

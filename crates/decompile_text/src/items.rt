@@ -9,6 +9,7 @@ ghost use Rattle.decompile_text.specs.Texts.{call_text, index_text, compared_tex
 
 use crate::characters::{put_character, put_quoted};
 use crate::page::Page;
+use crate::system::option_name;
 use decompile_names::Called;
 use kmn_base::{Element, Memory, RuleKey};
 use rule_model::{Out, Pat};
@@ -180,8 +181,13 @@ pub(crate) fn put_pattern(page: &mut Page, names: &Called<'_>, pattern: &Pat) ->
         Pat::Unequal(store, value) => {
             put_compared(page, b"if", names.store(*store), b"!=", names.value(*value))
         }
-        // A condition on a system option has no words: a file that has one is refused before.
-        Pat::SystemEqual(_, _) | Pat::SystemUnequal(_, _) | Pat::Nul => page.put(b"nul"),
+        Pat::SystemEqual(id, value) => {
+            put_compared(page, b"if", option_name(*id), b"=", names.value(*value))
+        }
+        Pat::SystemUnequal(id, value) => {
+            put_compared(page, b"if", option_name(*id), b"!=", names.value(*value))
+        }
+        Pat::Nul => page.put(b"nul"),
     }
 }
 
@@ -202,8 +208,10 @@ pub(crate) fn put_output(page: &mut Page, names: &Called<'_>, output: &Out) -> R
         }
         Out::Save(store) => put_call(page, b"save", names.store(*store)),
         Out::Reset(store) => put_call(page, b"reset", names.store(*store)),
-        // Nor has a set of one.
-        Out::SetSystem(_, _) | Out::Nul => page.put(b"nul"),
+        Out::SetSystem(id, value) => {
+            put_compared(page, b"set", option_name(*id), b"=", names.value(*value))
+        }
+        Out::Nul => page.put(b"nul"),
         Out::Beep => page.put(b"beep"),
         Out::Stop => page.put(b"return"),
     }

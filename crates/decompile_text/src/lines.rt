@@ -11,6 +11,7 @@ use crate::page::Page;
 use crate::system::system_name;
 use decompile_names::Called;
 use kmn_base::{Element, Memory};
+use rule_model::system::NO_GROUP;
 use rule_model::{Group, Out, Pat, Rule, Store};
 
 /// Puts elements, each with a blank before it.
@@ -206,9 +207,6 @@ fn put_begin(page: &mut Page, kind: &[u8], name: &[u8]) -> Result<(), Memory>
     put_call(page, b"use", name)?;
     page.put(b"\n")
 }
-
-/// The start group that a file has where there is none.
-const NO_GROUP: u32 = 0xFFFF_FFFF;
 
 /// Whether the number of a start group says that there is none.
 fn is_no_group(group: u32) -> bool

@@ -1,8 +1,11 @@
 //! Names and numbers that a text has for those of a file.
 
 ghost use Rattle.std.specs.Prelude.{◌≡◌};
+ghost use Rattle.kmn_text.specs.Items.{option_name};
 ghost use Rattle.kmn_text.specs.Statements.{system_name};
 ghost use Rattle.decompile_laws.specs.Back.{version_text};
+
+use rule_model::system::{CASED_KEYS, DROPPED, LEFT_OUT, PLATFORM};
 
 /// The name of a system store by its id: the first that a source can state for it.
 #[tactic(auto, unfolding(kmn_parser::specs::Line::system_stores))]
@@ -21,9 +24,21 @@ pub(crate) fn system_name(system: u32) -> &'static [u8]
         35 => b"&layoutfile",
         36 => b"&keyboardversion",
         38 => b"&targets",
-        0xFFFE => b"&casedkeys",
-        0xFFFF => b"&ethnologuecode",
+        CASED_KEYS => b"&casedkeys",
+        LEFT_OUT => b"&includecodes",
+        DROPPED => b"&ethnologuecode",
         _ => b"&",
+    }
+}
+
+/// The name of a system option by its id, with its `&`.
+pub(crate) fn option_name(id: u32) -> &'static [u8]
+    ensures { result.now ≡ option_name id }
+{
+    if id == PLATFORM {
+        b"&platform"
+    } else {
+        b"&layer"
     }
 }
 

@@ -1,10 +1,10 @@
 //! The records that can hold for a press and a last item, one after the other, what is looked up of a file, the stores that
 //! have items and the first places there, which stores are alike, and of which a platform has each word.
 
-use kmx_parts::{ContextItem, FileTables};
 use kmn_base::Item::{Char, Mark};
 use kmn_base::limits::{RECORDS, STORE_ELEMENTS, STORES};
 use kmn_base::{Element, Item, KeyPress, Memory};
+use kmx_parts::{ContextItem, FileTables};
 use rule_index::{Holding, IndexedKeyboard, RuleIndex, wanted_classes};
 use std::alloc::Global;
 use std::test::Fail;

@@ -1,8 +1,8 @@
 //! The tables of a file, read where they lie.
 
 use crate::fixtures::{ON_LAYER, ONE_RULE, SETS_LAYER};
-use kmx_parts::{ContextItem, FileGroup, FileRule, FileStore, FileTables};
 use kmn_base::{Element, Memory, RuleKey};
+use kmx_parts::{ContextItem, FileGroup, FileRule, FileStore, FileTables};
 use rule_model::{Out, Pat};
 use std::alloc::Global;
 use std::test::Fail;

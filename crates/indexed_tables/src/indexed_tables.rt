@@ -10,12 +10,14 @@ ghost use Rattle.rule_model.specs.Tab.{elements_of, tab, tab_options, with_optio
 
 use crate::options::option_numbers;
 use crate::own_keys::own_keys;
-use crate::system::{LAYER, PLATFORM, system_elements, system_number};
+use crate::system::{system_elements, system_number};
 use kmn_base::names::same_name;
 use kmn_base::{Element, Memory, Text};
+use rule_model::system::{LAYER, PLATFORM};
 use rule_model::{Group, Store, Tables};
 use std::alloc::Global;
 use std::marker::Model;
+use virtual_keys::FIRST_OWN_CODE;
 
 /// Tables with what events look up: the option number of each store, and the names of the key dictionary.
 #[derive(Drop)]
@@ -155,10 +157,14 @@ impl<'a> IndexedTables<'a> {
     pub fn own_key(&self, code: u16) -> Option<&[u8]>
         ensures { option_copied result ≡ name_in (tab self.now).dictionary code }
     {
-        if code < 256 {
+        if code < FIRST_OWN_CODE {
             return None;
         }
-        match self.names.as_slice().get(code as usize - 256) {
+        match self
+            .names
+            .as_slice()
+            .get(code as usize - FIRST_OWN_CODE as usize)
+        {
             Some(name) => Some(name.as_slice()),
             None => None,
         }

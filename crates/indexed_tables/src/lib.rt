@@ -20,4 +20,4 @@ pub use flags::{flag_numbers, mark};
 pub use indexed_tables::IndexedTables;
 pub use own_keys::first_word;
 pub use platform::has_words;
-pub use system::{LAYER, PLATFORM, system_elements};
+pub use system::system_elements;

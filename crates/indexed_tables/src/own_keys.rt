@@ -11,17 +11,15 @@ ghost use Rattle.indexed_tables.specs.Words.{words_behind, bytes_behind};
 use indexmap::IndexSet;
 use kmn_base::{Element, Memory, Seq, Text};
 use rule_model::Store;
+use rule_model::system::KEY_DICTIONARY;
 use std::alloc::Global;
-
-/// The id of the store that has the key dictionary.
-const DICTIONARY: u32 = 34;
 
 /// The elements of the store that has the key dictionary.
 fn dictionary_elements(stores: &[Store]) -> &[Element]
     ensures { result.now ≡ store_elements (find is_dictionary stores.now) }
 {
     for store in stores {
-        if store.system == DICTIONARY {
+        if store.system == KEY_DICTIONARY {
             return store.elements.as_slice();
         }
     }

@@ -6,12 +6,7 @@ ghost use Rattle.rule_model.specs.Content.{elements_at};
 ghost use Rattle.rule_model.specs.System.{system_options};
 
 use kmn_base::Element;
-
-/// The id of the system option that has the platform.
-pub const PLATFORM: u32 = 31;
-
-/// The id of the system option that has the layer.
-pub const LAYER: u32 = 33;
+use rule_model::system::PLATFORM;
 
 /// The layer that a keyboard begins with: `default`.
 static FIRST_LAYER: [Element; 7] = [

@@ -1,4 +1,6 @@
 pub mod FirstItems
+pub mod FoundKeys
 pub mod Options
+pub mod OtherOutputs
 pub mod SummaryTests
 pub mod Summed

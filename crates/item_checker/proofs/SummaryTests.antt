@@ -16,8 +16,8 @@ use Rattle.compile_laws.specs.Numbers.{file_versions}
 use Rattle.item_checker.specs.declared.summaries.Summary.{Summary}
 use Rattle.item_checker.specs.declared.summaries.Summaries.{Summaries}
 use Rattle.store_table.specs.Known.{Known, statement_elements}
-use Rattle.item_checker.specs.Items.{are_unfit_keys, is_key_element, is_layout_text, is_no_character, is_other_text, is_system_text, is_unfit_key, is_unfit_store, is_version_text, puts_key}
-use Rattle.item_checker.specs.Summaries.{AreFacts, element_characters, found_lacks_characters, found_summary, front_of, has_key, is_far_element, is_layout_front, is_mark_element, is_nothing, is_system_front, is_unfit_summary, is_version_front, lacks_characters, summary, with_items}
+use Rattle.item_checker.specs.Items.{are_unfit_keys, is_key_element, is_layout_text, is_no_character, is_no_plain_key, is_other_text, is_system_text, is_unfit_key, is_unfit_store, is_version_text, puts_key}
+use Rattle.item_checker.specs.Summaries.{AreFacts, are_found_keys, element_characters, found_lacks_characters, found_summary, front_of, has_key, has_other, is_far_element, is_layout_front, is_mark_element, is_nothing, is_system_front, is_unfit_summary, is_version_front, lacks_characters, summary, with_items}
 use Rattle.item_checker.proofs.Summed.{found_is, items_are}
 
 either_way : (a b c d : Bool) → ((a || b) || (c || d)) ≡ ((a || c) || (b || d))
@@ -64,6 +64,11 @@ no_characters_found : (store : Option Store) → found_lacks_characters (option_
 no_characters_found None = refl
 no_characters_found (Some store) = no_characters store.elements
 
+other_found : (store : Option Store) → has_other (option_map (λ (s : Store). summary s.elements) store) ≡ list_any is_no_plain_key (store_elements store)
+unfolding summary
+other_found None = refl
+other_found (Some store) = refl
+
 -- the tests of the store of a name
 pub unfit_named : (known : Known) (found : Summaries) (options : List (List ℕ)) (name : List ℕ) → AreFacts known found options
     → is_unfit_summary (found_summary found name) ≡ is_unfit_store known name
@@ -74,6 +79,11 @@ pub key_named : (known : Known) (found : Summaries) (options : List (List ℕ)) 
     → has_key (found_summary found name) ≡ puts_key known name
 key_named known found options name are =
     ap has_key (found_is found known.stores name are.stores) ∙ key_found (find (λ (s : Store). same_name s.name name) known.stores)
+
+pub other_named : (known : Known) (found : Summaries) (options : List (List ℕ)) (name : List ℕ) → AreFacts known found options
+    → has_other (found_summary found name) ≡ list_any is_no_plain_key (store_elements (find (λ (s : Store). same_name s.name name) known.stores))
+other_named known found options name are =
+    ap has_other (found_is found known.stores name are.stores) ∙ other_found (find (λ (s : Store). same_name s.name name) known.stores)
 
 -- the elements that the store of a name lacks characters
 pub no_characters_named : (known : Known) (found : Summaries) (options : List (List ℕ)) (name : List ℕ) → AreFacts known found options
@@ -135,11 +145,11 @@ front_is elements = refl
 
 -- another text of a system store, told by the summary of its statement
 pub other_text_is : (known : Known) (found : Summaries) (options : List (List ℕ)) (store : StoreDef) (sum : Summary) → AreFacts known found options
-    → sum ≡ with_items found (summary []) store.items
+    → are_found_keys known.names store.items ≡ true → sum ≡ with_items found (summary []) store.items
     → (not (lacks_characters sum) && not (is_system_front store.system sum.front)) ≡ is_other_text known store
-other_text_is known found options store sum are is =
+other_text_is known found options store sum are keys is =
     let elements = statement_elements known store in
-    let same : sum ≡ summary elements = is ∙ items_are known.names found known.stores are.stores store.items in
+    let same : sum ≡ summary elements = is ∙ items_are known.names found known.stores are.stores store.items keys in
     (λ j. not (lacks_characters (same j)) && not (is_system_front store.system (same j).front))
     ∙ (λ j. not (no_characters elements j) && not (is_system_front store.system (front_is elements j)))
     ∙ sym (other_text store.system elements (list_any is_no_character elements) refl)

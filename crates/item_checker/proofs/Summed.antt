@@ -3,7 +3,8 @@ use Rattle.std.proofs.Common.{◌≡◌, ℕ, zero, suc, ◌<◌, ◌≤◌, Boo
 use Rattle.std.specs.Prelude.{◌||◌, ◌&&◌, flat_map, find, option_map}
 use Rattle.std.proofs.Math.Bool.{and-false, or-false, or-true}
 use Rattle.std.proofs.lemmas.Bool.Decides.{nat_tests}
-use Rattle.std.proofs.lemmas.Bool.{cases_lt}
+use Rattle.std.specs.List.{list_all}
+use Rattle.std.proofs.lemmas.Bool.{cases_lt, and_parts}
 use Rattle.std.proofs.lemmas.List.{length-take-le, take-append-le, take-take, take_all, map-append}
 use Rattle.std.proofs.lemmas.List.Concat.{flat_map-append}
 use Rattle.std.proofs.lemmas.List.Folds.{list_any-append}
@@ -19,12 +20,13 @@ use Rattle.rule_model.specs.declared.tables.Store.{Store}
 use Rattle.rule_model.specs.Tab.{store_elements}
 use Rattle.rule_model.specs.Naming.{SourceNames, names_of, stores_of, stores_onto, store_of, is_dropped, item_elements, all_rules, key_number, mark_number}
 use Rattle.store_table.proofs.Naming.{position_cons, same_either_way}
+use Rattle.item_checker.proofs.FoundKeys.{other_key, stores_found}
 use Rattle.item_checker.specs.declared.summaries.Summary.{Summary}
 use Rattle.item_checker.specs.declared.summaries.Summaries.{Summaries}
 use Rattle.item_checker.specs.declared.summaries.TheConstants.{FRONT_CHARACTERS}
 use Rattle.store_table.specs.Known.{known, rule_options}
-use Rattle.item_checker.specs.Items.{is_key_element}
-use Rattle.item_checker.specs.Summaries.{AreFacts, AreSummaries, element_characters, found_summary, front_of, is_far_element, is_mark_element, is_nothing, joined, joined_found, no_summaries, summary, summary_at, with_character, with_characters, with_item, with_items, with_store, with_stores}
+use Rattle.item_checker.specs.Items.{is_key_element, is_no_plain_key}
+use Rattle.item_checker.specs.Summaries.{AreFacts, AreSummaries, are_found_keys, element_characters, found_summary, front_of, is_far_element, is_found_key, is_mark_element, is_other_key, is_nothing, joined, joined_found, no_summaries, summary, summary_at, with_character, with_characters, with_item, with_items, with_store, with_stores}
 
 -- a front with one character more, where there is room and where there is none
 room : (n : ℕ) (xs : List ℕ) (c : ℕ) → length xs < n → (if nat_lt (length xs) n then xs ++ c ∷ [] else xs) ≡ xs ++ c ∷ []
@@ -72,36 +74,41 @@ joined_is a b =
     let mark = sym (list_any-append is_mark_element a b) in
     let key = sym (list_any-append is_key_element a b) in
     let far = sym (list_any-append is_far_element a b) in
+    let other = sym (list_any-append is_no_plain_key a b) in
     let front = fronts a b in
-    λ j. record { is_empty = empty j; has_mark = mark j; has_key = key j; has_far = far j; front = front j }
+    λ j. record { is_empty = empty j; has_mark = mark j; has_key = key j; has_far = far j; has_other = other j; front = front j }
 
 -- one element
-one_character : (sum : Summary) (c : ℕ) → record sum { is_empty = false; has_far = sum.has_far || nat_lt 0xFFFF c; front = with_character sum.front c } ≡ joined sum (summary (element.Char c ∷ []))
+one_character : (sum : Summary) (c : ℕ) → record sum { is_empty = false; has_far = sum.has_far || nat_lt 0xFFFF c; has_other = true; front = with_character sum.front c } ≡ joined sum (summary (element.Char c ∷ []))
 unfolding summary
 one_character sum c =
     let empty = sym (and-false sum.is_empty) in
     let mark = sym (or-false sum.has_mark) in
     let key = sym (or-false sum.has_key) in
     let far = ap (λ b. sum.has_far || b) (sym (or-false (nat_lt 0xFFFF c))) in
-    λ j. record { is_empty = empty j; has_mark = mark j; has_key = key j; has_far = far j; front = with_character sum.front c }
+    let other = sym (or-true sum.has_other) in
+    λ j. record { is_empty = empty j; has_mark = mark j; has_key = key j; has_far = far j; has_other = other j; front = with_character sum.front c }
 
-one_mark : (sum : Summary) (mark : ℕ) → record sum { is_empty = false; has_mark = true } ≡ joined sum (summary (element.Mark mark ∷ []))
+one_mark : (sum : Summary) (mark : ℕ) → record sum { is_empty = false; has_mark = true; has_other = true } ≡ joined sum (summary (element.Mark mark ∷ []))
 unfolding summary
 one_mark sum mark =
     let empty = sym (and-false sum.is_empty) in
     let marks = sym (or-true sum.has_mark) in
     let key = sym (or-false sum.has_key) in
     let far = sym (or-false sum.has_far) in
-    λ j. record { is_empty = empty j; has_mark = marks j; has_key = key j; has_far = far j; front = sum.front }
+    let other = sym (or-true sum.has_other) in
+    λ j. record { is_empty = empty j; has_mark = marks j; has_key = key j; has_far = far j; has_other = other j; front = sum.front }
 
-one_key : (sum : Summary) (flags code : ℕ) → record sum { is_empty = false; has_key = true } ≡ joined sum (summary (element.Key flags code ∷ []))
+one_key : (sum : Summary) (flags code : ℕ) (is_other : Bool) → is_other ≡ is_no_plain_key (element.Key flags code)
+    → record sum { is_empty = false; has_key = true; has_other = sum.has_other || is_other } ≡ joined sum (summary (element.Key flags code ∷ []))
 unfolding summary
-one_key sum flags code =
+one_key sum flags code is_other is =
     let empty = sym (and-false sum.is_empty) in
     let mark = sym (or-false sum.has_mark) in
     let key = sym (or-true sum.has_key) in
     let far = sym (or-false sum.has_far) in
-    λ j. record { is_empty = empty j; has_mark = mark j; has_key = key j; has_far = far j; front = sum.front }
+    let other = ap (λ b. sum.has_other || b) (is ∙ sym (or-false (is_no_plain_key (element.Key flags code)))) in
+    λ j. record { is_empty = empty j; has_mark = mark j; has_key = key j; has_far = far j; has_other = other j; front = sum.front }
 
 -- the store of a name
 
@@ -133,49 +140,53 @@ joined_store before (Some store) = joined_is before store.elements
 
 -- an item, and items, of a store
 pub item_is : (names : SourceNames) (found : Summaries) (stores : List Store) → AreSummaries found stores → (before : List Element) (item : SrcItem)
-    → with_item found (summary before) item ≡ summary (before ++ item_elements names stores item)
-item_is names found stores are before (source.Char c) = one_character (summary before) c ∙ joined_is before (element.Char c ∷ [])
-item_is names found stores are before (source.Dead name) = one_mark (summary before) (mark_number names name) ∙ joined_is before (element.Mark (mark_number names name) ∷ [])
-item_is names found stores are before (source.Key key) = one_key (summary before) key.flags (key_number names key) ∙ joined_is before (element.Key key.flags (key_number names key) ∷ [])
-item_is names found stores are before (source.Outs name) =
+    → is_found_key names item ≡ true → with_item found (summary before) item ≡ summary (before ++ item_elements names stores item)
+item_is names found stores are before (source.Char c) h = one_character (summary before) c ∙ joined_is before (element.Char c ∷ [])
+item_is names found stores are before (source.Dead name) h = one_mark (summary before) (mark_number names name) ∙ joined_is before (element.Mark (mark_number names name) ∷ [])
+item_is names found stores are before (source.Key key) h =
+    one_key (summary before) key.flags (key_number names key) (is_other_key key) (other_key names key h)
+    ∙ joined_is before (element.Key key.flags (key_number names key) ∷ [])
+item_is names found stores are before (source.Outs name) h =
     ap (joined_found (summary before)) (found_is found stores name are)
     ∙ joined_store before (find (λ (s : Store). same_name s.name name) stores)
-item_is names found stores are before item = ap summary (sym (append-nil before))
+item_is names found stores are before item h = ap summary (sym (append-nil before))
 
 items_behind : (names : SourceNames) (found : Summaries) (stores : List Store) → AreSummaries found stores → (before : List Element) (items : List SrcItem)
-    → with_items found (summary before) items ≡ summary (before ++ flat_map (item_elements names stores) items)
-items_behind names found stores are before [] = ap summary (sym (append-nil before))
-items_behind names found stores are before (item ∷ items) =
-    ap (λ sum. with_items found sum items) (item_is names found stores are before item)
-    ∙ items_behind names found stores are (before ++ item_elements names stores item) items
+    → are_found_keys names items ≡ true → with_items found (summary before) items ≡ summary (before ++ flat_map (item_elements names stores) items)
+items_behind names found stores are before [] h = ap summary (sym (append-nil before))
+items_behind names found stores are before (item ∷ items) h =
+    let parts = and_parts (is_found_key names item) (are_found_keys names items) h in
+    ap (λ sum. with_items found sum items) (item_is names found stores are before item parts.0)
+    ∙ items_behind names found stores are (before ++ item_elements names stores item) items parts.1
     ∙ ap summary (append_assoc before (item_elements names stores item) (flat_map (item_elements names stores) items))
 
 pub items_are : (names : SourceNames) (found : Summaries) (stores : List Store) → AreSummaries found stores → (items : List SrcItem)
-    → with_items found (summary []) items ≡ summary (flat_map (item_elements names stores) items)
-items_are names found stores are items = items_behind names found stores are [] items
+    → are_found_keys names items ≡ true → with_items found (summary []) items ≡ summary (flat_map (item_elements names stores) items)
+items_are names found stores are items h = items_behind names found stores are [] items h
 
 -- the stores of a program
 next_store : (names : SourceNames) (found : Summaries) (before : List Store) (store : StoreDef) → AreSummaries found before
-    → AreSummaries (with_store found store) (if is_dropped store then before else before ++ store_of names before store ∷ [])
-next_store names found before store are = by (is_dropped store)
+    → are_found_keys names store.items ≡ true → AreSummaries (with_store found store) (if is_dropped store then before else before ++ store_of names before store ∷ [])
+next_store names found before store are h = by (is_dropped store)
   where
     by : (dropped : Bool) → AreSummaries (if dropped then found else record { names = found.names ++ store.name ∷ []; summaries = found.summaries ++ with_items found (summary []) store.items ∷ [] })
         (if dropped then before else before ++ store_of names before store ∷ [])
     by true = are
     by false = record {
       names = (λ j. are.names j ++ store.name ∷ []) ∙ sym (map-append (λ (s : Store). s.name) before (store_of names before store ∷ []));
-      summaries = (λ j. are.summaries j ++ items_are names found before are store.items j ∷ []) ∙ sym (map-append (λ (s : Store). summary s.elements) before (store_of names before store ∷ []));
+      summaries = (λ j. are.summaries j ++ items_are names found before are store.items h j ∷ []) ∙ sym (map-append (λ (s : Store). summary s.elements) before (store_of names before store ∷ []));
     }
 
 stores_behind : (names : SourceNames) (found : Summaries) (before : List Store) (stores : List StoreDef) → AreSummaries found before
-    → AreSummaries (with_stores found stores) (stores_onto names before stores)
-stores_behind names found before [] are = are
-stores_behind names found before (store ∷ stores) are =
-    stores_behind names (with_store found store) (if is_dropped store then before else before ++ store_of names before store ∷ []) stores (next_store names found before store are)
+    → list_all (λ (store : StoreDef). are_found_keys names store.items) stores ≡ true → AreSummaries (with_stores found stores) (stores_onto names before stores)
+stores_behind names found before [] are h = are
+stores_behind names found before (store ∷ stores) are h =
+    let parts = and_parts (are_found_keys names store.items) (list_all (λ (s : StoreDef). are_found_keys names s.items) stores) h in
+    stores_behind names (with_store found store) (if is_dropped store then before else before ++ store_of names before store ∷ []) stores (next_store names found before store are parts.0) parts.1
 
 pub stores_are : (program : Program) → AreSummaries (with_stores no_summaries program.stores) (stores_of program)
 unfolding stores_of
-stores_are program = stores_behind (names_of program) no_summaries [] program.stores (record { names = refl; summaries = refl })
+stores_are program = stores_behind (names_of program) no_summaries [] program.stores (record { names = refl; summaries = refl }) (stores_found program)
 
 -- what code keeps of a program
 pub facts_are : (program : Program) (found : Summaries) (options : List (List ℕ)) → found ≡ with_stores no_summaries program.stores

@@ -3,7 +3,7 @@
 use Rattle.std.specs.Prelude.{ℕ, zero, suc, ◌+◌, Bool, true, false, not, ◌&&◌, nat_eq, nat_lt, if◌then◌else◌, List, [], ◌∷◌, ◌++◌, length, slice_get, Option, Some, None, is_some}
 use Rattle.std.specs.List.{list_any}
 use Rattle.kmn_base.specs.declared.codes.Code.{Code}
-use Rattle.kmn_base.specs.declared.codes.Code.TheVariants.{C08, C09, C10, C11, C12, C13, C14}
+use Rattle.kmn_base.specs.declared.codes.Code.TheVariants.{C08, C09, C10, C11, C12, C13, C14, C25}
 use Rattle.kmn_base.specs.declared.items.Element.{Element}
 use Rattle.kmn_base.specs.declared.items.Element.TheVariants as element
 use Rattle.kmn_base.specs.declared.refusals.Refusal.{Refusal}
@@ -134,17 +134,29 @@ wants_characters known store =
 abbrev pub brings_no_character : Known → SrcItem → Bool
 brings_no_character known item = list_any is_no_character (brought known item)
 
+-- C25: an element of `&casedkeys` is no virtual key of the key table without modifiers
+abbrev pub is_no_plain_key : Element → Bool
+is_no_plain_key (element.Key flags code) = not (nat_eq flags 0x4000 && nat_lt code 256)
+is_no_plain_key other = true
+
+abbrev pub wants_plain_keys : StoreDef → Bool
+wants_plain_keys store = nat_eq store.system 39
+
+abbrev pub brings_no_plain_key : Known → SrcItem → Bool
+brings_no_plain_key known item = list_any is_no_plain_key (brought known item)
+
 -- a store statement: what it is or says, then its items
-abbrev pub store_item_code : Known → Bool → SrcItem → Option Code
-store_item_code known characters item =
-    broken ((C13, puts_option known item) ∷ (C14, characters && brings_no_character known item) ∷ [])
+abbrev pub store_item_code : Known → Bool → Bool → SrcItem → Option Code
+store_item_code known characters keys item =
+    broken ((C13, puts_option known item) ∷ (C14, characters && brings_no_character known item)
+    ∷ (C25, keys && brings_no_plain_key known item) ∷ [])
 
 abbrev pub store_head_code : Known → StoreDef → Option Code
 store_head_code known store = broken ((C12, is_left_out store) ∷ (C12, is_other_text known store) ∷ [])
 
 abbrev pub store_code : Known → StoreDef → Option Code
 store_code known store =
-    or_else (store_head_code known store) (first_code (store_item_code known (wants_characters known store)) store.items)
+    or_else (store_head_code known store) (first_code (store_item_code known (wants_characters known store) (wants_plain_keys store)) store.items)
 
 abbrev pub store_refusal : Known → List StoreDef → StoreDef → Option Refusal
 store_refusal known before store = at_line store.line (store_code known store)

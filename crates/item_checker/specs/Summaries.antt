@@ -1,22 +1,23 @@
 -- What is kept of the elements of a store, of which there may be far more than a source has bytes: enough for each test
 -- of them.
-use Rattle.std.specs.Prelude.{◌≡◌, ℕ, Bool, true, false, ◌&&◌, ◌||◌, nat_eq, nat_lt, if◌then◌else◌, List, [], ◌∷◌, ◌++◌, length, map, flat_map, take, slice_get, Option, Some, None}
-use Rattle.std.specs.List.{list_any}
+use Rattle.std.specs.Prelude.{◌≡◌, ℕ, Bool, true, false, not, ◌&&◌, ◌||◌, nat_eq, nat_lt, if◌then◌else◌, List, [], ◌∷◌, ◌++◌, length, map, flat_map, take, slice_get, Option, Some, None, is_some}
+use Rattle.std.specs.List.{list_any, list_all}
 use Rattle.std.specs.Str.{bytes_eq}
 use Rattle.kmn_base.specs.declared.items.Element.{Element}
 use Rattle.kmn_base.specs.declared.items.Element.TheVariants as element
-use Rattle.virtual_keys.specs.Dictionary.{place_in}
+use Rattle.virtual_keys.specs.Dictionary.{place_in, code_in}
+use Rattle.rule_model.specs.declared.program.KeyName.{KeyName}
 use Rattle.rule_model.specs.declared.program.SrcItem.{SrcItem}
 use Rattle.rule_model.specs.declared.program.SrcItem.TheVariants as source
 use Rattle.rule_model.specs.declared.program.StoreDef.{StoreDef}
 use Rattle.rule_model.specs.declared.tables.Store.{Store}
-use Rattle.rule_model.specs.Naming.{is_dropped}
+use Rattle.rule_model.specs.Naming.{SourceNames, is_dropped}
 use Rattle.compile_laws.specs.Numbers.{file_versions}
 use Rattle.item_checker.specs.declared.summaries.Summary.{Summary}
 use Rattle.item_checker.specs.declared.summaries.Summaries.{Summaries}
 use Rattle.item_checker.specs.declared.summaries.TheConstants.{FRONT_CHARACTERS}
 use Rattle.store_table.specs.Known.{Known}
-use Rattle.item_checker.specs.Items.{is_key_element}
+use Rattle.item_checker.specs.Items.{is_key_element, is_no_plain_key}
 
 abbrev pub is_nothing : List Element → Bool
 is_nothing [] = true
@@ -46,6 +47,7 @@ summary elements =
       has_mark = list_any is_mark_element elements;
       has_key = list_any is_key_element elements;
       has_far = list_any is_far_element elements;
+      has_other = list_any is_no_plain_key elements;
       front = front_of elements;
     }
 
@@ -65,6 +67,7 @@ joined one other =
       has_mark = one.has_mark || other.has_mark;
       has_key = one.has_key || other.has_key;
       has_far = one.has_far || other.has_far;
+      has_other = one.has_other || other.has_other;
       front = with_characters one.front other.front;
     }
 
@@ -80,12 +83,24 @@ summary_at summaries (Some place) = slice_get summaries place
 abbrev pub found_summary : Summaries → List ℕ → Option Summary
 found_summary stores name = summary_at stores.summaries (place_in stores.names name)
 
+-- a key of a source is no plain key; the keyboard's own keys have no code in a source, and one from 256 on in a file
+abbrev pub is_other_key : KeyName → Bool
+is_other_key key = not (nat_eq key.flags 0x4000 && (nat_lt 0 key.code && nat_lt key.code 256))
+
+-- keys of the keyboard's own, which items name, are among its names
+abbrev pub is_found_key : SourceNames → SrcItem → Bool
+is_found_key names (source.Key key) = nat_lt 0 key.code || is_some (code_in names.keys key.name)
+is_found_key names item = true
+
+abbrev pub are_found_keys : SourceNames → List SrcItem → Bool
+are_found_keys names items = list_all (is_found_key names) items
+
 -- a summary with the elements that an item of a store stands for
 abbrev pub with_item : Summaries → Summary → SrcItem → Summary
 with_item stores sum (source.Char c) =
-    record sum { is_empty = false; has_far = sum.has_far || nat_lt 0xFFFF c; front = with_character sum.front c }
-with_item stores sum (source.Dead name) = record sum { is_empty = false; has_mark = true }
-with_item stores sum (source.Key key) = record sum { is_empty = false; has_key = true }
+    record sum { is_empty = false; has_far = sum.has_far || nat_lt 0xFFFF c; has_other = true; front = with_character sum.front c }
+with_item stores sum (source.Dead name) = record sum { is_empty = false; has_mark = true; has_other = true }
+with_item stores sum (source.Key key) = record sum { is_empty = false; has_key = true; has_other = sum.has_other || is_other_key key }
 with_item stores sum (source.Outs name) = joined_found sum (found_summary stores name)
 with_item stores sum item = sum
 
@@ -134,6 +149,10 @@ lacks_characters sum = sum.has_mark || sum.has_key
 abbrev pub found_lacks_characters : Option Summary → Bool
 found_lacks_characters None = false
 found_lacks_characters (Some sum) = lacks_characters sum
+
+abbrev pub has_other : Option Summary → Bool
+has_other None = false
+has_other (Some sum) = sum.has_other
 
 -- a front is that of a text that a system store may have
 abbrev pub is_version_front : List ℕ → Bool

@@ -1,25 +1,20 @@
 //! What the items of a program are looked at with.
 
-ghost use Rattle.std.specs.Prelude.{◌≡◌, ◌&&◌, not, ◌++◌, IfOk, OnOk, option_to_list};
+ghost use Rattle.std.specs.Prelude.{◌≡◌, ◌&&◌, not, true, ◌++◌, IfOk, OnOk, option_to_list};
 ghost use Rattle.std.specs.List.{flat_map};
 ghost use Rattle.std.specs.Option.{option_copied};
 ghost use Rattle.rule_model.specs.declared.program.GroupDef.{GroupDef};
 ghost use Rattle.std.specs.Str.{bytes_eq};
 ghost use Rattle.store_table.specs.Known.{known, option_named, rule_options};
-ghost use Rattle.item_checker.specs.Summaries.{found_lacks_characters, has_key, is_layout_front, is_system_front, is_unfit_summary, is_version_front, lacks_characters};
+ghost use Rattle.item_checker.specs.Summaries.{are_found_keys, found_lacks_characters, has_key, has_other, is_layout_front, is_system_front, is_unfit_summary, is_version_front, lacks_characters};
 
 use crate::summaries::{Summaries, Summary, found_summary, items_summary, stores_summaries};
 use kmn_base::Memory;
+use rule_model::system::{MNEMONIC_LAYOUT, VERSION};
 use rule_model::{GroupDef, Program, RuleDef, SrcItem, StoreDef};
 use std::alloc::Global;
 use std::marker::Model;
 use store_table::NameTable;
-
-/// The system id of `&version`.
-const VERSION: u32 = 8;
-
-/// The system id of `&mnemoniclayout`.
-const MNEMONIC_LAYOUT: u32 = 17;
 
 /// The stores of a program, each with a summary of its elements, and the names of its options. Contracts see what the
 /// program's items are looked at with.
@@ -44,7 +39,7 @@ impl<'a> Model for Facts<'a> {
 impl<'a> Facts<'a> {
     ghost use Rattle.std.specs.List.{list_any};
     ghost use Rattle.rule_model.specs.Naming.{elements_named};
-    ghost use Rattle.item_checker.specs.Items.{is_no_character, is_option, is_other_text, is_unfit_store, puts_key};
+    ghost use Rattle.item_checker.specs.Items.{is_no_character, is_no_plain_key, is_option, is_other_text, is_unfit_store, puts_key};
 
     /// What the items of a program are looked at with.
     #[tactic(auto, unfolding(store_table::specs::Known::known))]
@@ -88,8 +83,16 @@ impl<'a> Facts<'a> {
         found_lacks_characters(found_summary(&self.stores, name))
     }
 
+    /// Whether an element of a store is no plain key.
+    pub fn lacks_plain_keys(&self, name: &[u8]) -> bool
+        ensures { result ≡ list_any is_no_plain_key (elements_named self.now.stores name.now) }
+    {
+        has_other(found_summary(&self.stores, name))
+    }
+
     /// Whether a store statement has another text than its system store may have.
     pub fn is_other_text(&self, alloc: Global, store: &StoreDef) -> Result<bool, Memory>
+        requires { are_found_keys self.now.names store.now.items ≡ true }
         ensures { IfOk result (λ other. other ≡ is_other_text self.now store.now) }
     {
         if store.system == VERSION || store.system == MNEMONIC_LAYOUT {
@@ -124,6 +127,16 @@ fn has_key(found: Option<&Summary>) -> bool
 {
     match found {
         Some(sum) => sum.has_key,
+        None => false,
+    }
+}
+
+/// Whether an element of a summary is no plain key.
+fn has_other(found: Option<&Summary>) -> bool
+    ensures { result ≡ has_other (option_copied found.entry) }
+{
+    match found {
+        Some(sum) => sum.has_other,
         None => false,
     }
 }

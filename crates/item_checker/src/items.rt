@@ -1,4 +1,4 @@
-//! The first refusal for items: C08 to C14.
+//! The first refusal for items: C08 to C14, and C25.
 
 ghost use Rattle.std.specs.Prelude.{◌≡◌, IfOk};
 ghost use Rattle.item_checker.specs.Items.{items_refusal};

@@ -1,17 +1,19 @@
 //! Store statements.
 
-ghost use Rattle.std.specs.Prelude.{◌≡◌, [], IfOk};
+ghost use Rattle.std.specs.Prelude.{◌≡◌, true, [], IfOk};
+ghost use Rattle.std.specs.List.{list_all};
 ghost use Rattle.store_table.specs.First.{first_code, first_of};
-ghost use Rattle.item_checker.specs.Items.{brings_no_character, puts_option, store_code, store_head_code, store_item_code, store_refusal, wants_characters};
+ghost use Rattle.rule_model.specs.declared.program.StoreDef.{StoreDef};
+ghost use Rattle.item_checker.specs.Items.{brings_no_character, brings_no_plain_key, puts_option, store_code, store_head_code, store_item_code, store_refusal, wants_characters, wants_plain_keys};
+ghost use Rattle.item_checker.specs.Summaries.{are_found_keys, is_found_key};
 
 use crate::facts::Facts;
+use crate::summaries::is_other_key;
 use kmn_base::{Code, Memory, Refusal};
+use rule_model::system::{BITMAP, CASED_KEYS, LEFT_OUT, MNEMONIC_LAYOUT, VERSION};
 use rule_model::{SrcItem, StoreDef};
 use std::alloc::Global;
 use store_table::{at_line, earlier};
-
-/// The system id of a store statement that is left out.
-const LEFT_OUT: u32 = 0xFFFE;
 
 /// What a store statement breaks by what it is, or by the whole of its text.
 fn store_head_code(
@@ -19,6 +21,7 @@ fn store_head_code(
     facts: &Facts<'_>,
     store: &StoreDef,
 ) -> Result<Option<Code>, Memory>
+    requires { are_found_keys facts.now.names store.now.items ≡ true }
     ensures { IfOk result (λ code. code ≡ store_head_code facts.now store.now) }
 {
     if store.system == LEFT_OUT || facts.is_other_text(alloc, store)? {
@@ -34,9 +37,16 @@ fn wants_characters(facts: &Facts<'_>, store: &StoreDef) -> bool
 {
     match store.system {
         0 => facts.is_option(store.name.as_slice()),
-        1 | 8 | 17 => true,
+        BITMAP | VERSION | MNEMONIC_LAYOUT => true,
         _ => false,
     }
+}
+
+/// Whether all elements of a store must be plain keys.
+fn wants_plain_keys(store: &StoreDef) -> bool
+    ensures { result ≡ wants_plain_keys store.now }
+{
+    store.system == CASED_KEYS
 }
 
 /// Whether an item puts an option store.
@@ -61,25 +71,50 @@ fn brings_no_character(facts: &Facts<'_>, item: &SrcItem) -> bool
     }
 }
 
+/// Whether an item brings an element that is no plain key.
+#[tactic(auto, using(crate::proofs::FoundKeys::other_brought))]
+fn brings_no_plain_key(facts: &Facts<'_>, item: &SrcItem) -> bool
+    requires { is_found_key facts.now.names item.now ≡ true }
+    ensures { result ≡ brings_no_plain_key facts.now item.now }
+{
+    match item {
+        SrcItem::Char(_) => true,
+        SrcItem::Dead(_) => true,
+        SrcItem::Key(key) => is_other_key(key),
+        SrcItem::Outs(store) => facts.lacks_plain_keys(store.as_slice()),
+        _ => false,
+    }
+}
+
 /// What an item of a store breaks.
-fn store_item_code(facts: &Facts<'_>, characters: bool, item: &SrcItem) -> Option<Code>
-    ensures { result ≡ store_item_code facts.now characters item.now }
+fn store_item_code(facts: &Facts<'_>, characters: bool, keys: bool, item: &SrcItem) -> Option<Code>
+    requires { is_found_key facts.now.names item.now ≡ true }
+    ensures { result ≡ store_item_code facts.now characters keys item.now }
 {
     if puts_option(facts, item) {
         Some(Code::C13)
     } else if characters && brings_no_character(facts, item) {
         Some(Code::C14)
+    } else if keys && brings_no_plain_key(facts, item) {
+        Some(Code::C25)
     } else {
         None
     }
 }
 
 /// The first code of the items of a store.
-fn store_items_code(facts: &Facts<'_>, characters: bool, items: &[SrcItem]) -> Option<Code>
-    ensures { result ≡ first_code (store_item_code facts.now characters) items.now }
+#[tactic(auto, using(crate::proofs::FoundKeys::found_item))]
+fn store_items_code(
+    facts: &Facts<'_>,
+    characters: bool,
+    keys: bool,
+    items: &[SrcItem],
+) -> Option<Code>
+    requires { are_found_keys facts.now.names items.now ≡ true }
+    ensures { result ≡ first_code (store_item_code facts.now characters keys) items.now }
 {
     for item in items {
-        match store_item_code(facts, characters, item) {
+        match store_item_code(facts, characters, keys, item) {
             Some(code) => return Some(code),
             None => {}
         }
@@ -89,24 +124,27 @@ fn store_items_code(facts: &Facts<'_>, characters: bool, items: &[SrcItem]) -> O
 
 /// What a store statement breaks.
 fn store_code(alloc: Global, facts: &Facts<'_>, store: &StoreDef) -> Result<Option<Code>, Memory>
+    requires { are_found_keys facts.now.names store.now.items ≡ true }
     ensures { IfOk result (λ code. code ≡ store_code facts.now store.now) }
 {
     match store_head_code(alloc, facts, store)? {
         Some(code) => Ok(Some(code)),
         None => {
             let characters = wants_characters(facts, store);
-            Ok(store_items_code(facts, characters, store.items.as_slice()))
+            let keys = wants_plain_keys(store);
+            Ok(store_items_code(facts, characters, keys, store.items.as_slice()))
         }
     }
 }
 
 /// The first refusal of store statements.
-#[tactic(auto, using(store_table::proofs::Firsts::first_kept))]
+#[tactic(auto, using(store_table::proofs::Firsts::first_kept, crate::proofs::FoundKeys::found_store))]
 pub fn stores_refusal(
     alloc: Global,
     facts: &Facts<'_>,
     stores: &[StoreDef],
 ) -> Result<Option<Refusal>, Memory>
+    requires { list_all (λ (store : StoreDef). are_found_keys facts.now.names store.items) stores.now ≡ true }
     ensures { IfOk result (λ refusal. refusal ≡ first_of (store_refusal facts.now) [] stores.now) }
 {
     let mut first = None;

@@ -1,26 +1,32 @@
 //! What is kept of the elements of each store, which are never built: stores that put one another may come to far more
 //! elements than there is memory.
 
-ghost use Rattle.std.specs.Prelude.{◌≡◌, ◌||◌, ◌&&◌, false, nat_lt, [], IfOk, OnOk};
+ghost use Rattle.std.specs.Prelude.{◌≡◌, ◌||◌, ◌&&◌, true, false, nat_lt, [], IfOk, OnOk};
 ghost use Rattle.std.specs.Option.{option_copied};
-ghost use Rattle.item_checker.specs.Summaries.{found_summary, joined, joined_found, no_summaries, summary, with_character, with_characters, with_item, with_items, with_store, with_stores};
+ghost use Rattle.item_checker.specs.Summaries.{found_summary, is_other_key, joined, joined_found, no_summaries, summary, with_character, with_characters, with_item, with_items, with_store, with_stores};
 
 use kmn_base::{Memory, Seq};
-use rule_model::{SrcItem, StoreDef};
+use rule_model::system::DROPPED;
+use rule_model::{KeyName, SrcItem, StoreDef};
 use std::alloc::Global;
-use store_table::{DROPPED, NameTable};
+use store_table::NameTable;
+use virtual_keys::FIRST_OWN_CODE;
 
 /// How many characters are kept of elements: one more than the longest text that a store is compared with.
 pub const FRONT_CHARACTERS: usize = 5;
 
-/// What is kept of elements: whether there are any, whether a mark, a virtual key or a character past U+FFFF is among
-/// them, and of their characters the first few.
+/// The flags of a virtual key without modifiers.
+const PLAIN_KEY: u16 = 0x4000;
+
+/// What is kept of elements: whether there are any, whether a mark, a virtual key, a character past U+FFFF or anything
+/// but a plain key is among them, and of their characters the first few.
 #[derive(Drop)]
 pub struct Summary {
     pub is_empty: bool,
     pub has_mark: bool,
     pub has_key: bool,
     pub has_far: bool,
+    pub has_other: bool,
     pub front: Seq<char>,
 }
 
@@ -41,6 +47,7 @@ fn empty_summary(alloc: Global) -> Summary
         has_mark: false,
         has_key: false,
         has_far: false,
+        has_other: false,
         front: Seq::new(alloc),
     }
 }
@@ -88,6 +95,7 @@ fn join(sum: &mut Summary, other: &Summary) -> Result<(), Memory>
     sum.has_mark = either(sum.has_mark, other.has_mark);
     sum.has_key = either(sum.has_key, other.has_key);
     sum.has_far = either(sum.has_far, other.has_far);
+    sum.has_other = either(sum.has_other, other.has_other);
     add_characters(&mut sum.front, other.front.as_slice())
 }
 
@@ -103,11 +111,19 @@ fn join_found(sum: &mut Summary, found: Option<&Summary>) -> Result<(), Memory>
 
 /// Adds a character.
 fn add_element_character(sum: &mut Summary, character: char) -> Result<(), Memory>
-    ensures { OnOk result (sum.new ≡ record sum.old { is_empty = false; has_far = sum.old.has_far || nat_lt 0xFFFF character; front = with_character sum.old.front character }) }
+    ensures { OnOk result (sum.new ≡ record sum.old { is_empty = false; has_far = sum.old.has_far || nat_lt 0xFFFF character; has_other = true; front = with_character sum.old.front character }) }
 {
     sum.is_empty = false;
     sum.has_far = either(sum.has_far, character > '\u{FFFF}');
+    sum.has_other = true;
     add_character(&mut sum.front, character)
+}
+
+/// Whether a key is no plain key of the key table.
+pub fn is_other_key(key: &KeyName) -> bool
+    ensures { result ≡ is_other_key key.now }
+{
+    !(key.flags == PLAIN_KEY && (key.code > 0 && key.code < FIRST_OWN_CODE))
 }
 
 /// Adds the elements that an item of a store stands for.
@@ -119,11 +135,13 @@ fn add_item(stores: &Summaries, sum: &mut Summary, item: &SrcItem) -> Result<(),
         SrcItem::Dead(_) => {
             sum.is_empty = false;
             sum.has_mark = true;
+            sum.has_other = true;
             Ok(())
         }
-        SrcItem::Key(_) => {
+        SrcItem::Key(key) => {
             sum.is_empty = false;
             sum.has_key = true;
+            sum.has_other = either(sum.has_other, is_other_key(key));
             Ok(())
         }
         SrcItem::Outs(name) => join_found(sum, found_summary(stores, name.as_slice())),

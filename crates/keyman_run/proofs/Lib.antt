@@ -1,5 +1,4 @@
 pub mod AskedLaws
-pub mod BesideLaws
 pub mod FileRuns
 pub mod Hexadecimal
 pub mod InputLaws
@@ -9,5 +8,6 @@ pub mod MeaningLaws
 pub mod RunLaws
 mod StatedLoads
 mod TextLaws
+pub mod TraceLaws
 pub mod WordsLaws
 pub mod WorkLaws

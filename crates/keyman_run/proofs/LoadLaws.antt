@@ -40,8 +40,8 @@ use Rattle.keyman_run.specs.Loads.{compiled_within, job_of, load_job, load_line,
 use Rattle.keyman_run.specs.declared.status.Status.{Status}
 use Rattle.keyman_run.specs.declared.status.Status.TheVariants as status
 use Rattle.keyman_run.specs.Endings.{Job, load_ending, refused_ending}
-use Rattle.keyman_run.specs.Command.{Request, is_form, request_of}
-use Rattle.keyman_run.specs.Command.Request.{Load}
+use Rattle.keyman_words.specs.Command.{Request, is_form, request_of}
+use Rattle.keyman_words.specs.Command.Request.{Load}
 use Rattle.keyman_run.specs.Orders.{work_of}
 use Rattle.keyman_run.specs.Run.{Does}
 use Rattle.keyman_run.specs.Seen.{FolderView, SinkView}

@@ -65,7 +65,7 @@ reading_checked : (reading : Reading) (program : Program) → program_of reading
 reading_checked (Bytes source) program is = line_read source (checked source) program refl is
 reading_checked (Over size) program is = absurd (cc)
 
-all_checked : (source : List ℕ) → AllGive IsChecked (source_work source)
+pub all_checked : (source : List ℕ) → AllGive IsChecked (source_work source)
 all_checked source = λ reading. all_given IsChecked (program_of reading) (reading_checked reading)
 
 -- of a picture nothing is known
@@ -88,7 +88,7 @@ within_of program picture None pictured h is same =
     subst (IsOf program) e (record { same = refl; compilable = record { source = h.0; is = h.1; within = is } })
 within_of program picture (Some more) pictured h is same = absurd (cc)
 
-all_of : (source : List ℕ) (program : Program) → IsChecked program → AllGive (IsOf program) (pictured_work source program)
+pub all_of : (source : List ℕ) (program : Program) → IsChecked program → AllGive (IsOf program) (pictured_work source program)
 all_of source program h =
     all_behind_all IsPicture (IsOf program) (picture_work source (picture_name program)) (λ picture. given (pictured_within program picture)) (all_pictures source (picture_name program))
     (λ picture any. all_given (IsOf program) (pictured_within program picture) (λ pictured is. within_of program picture (excess (compiled_tables program) picture) pictured h refl is))

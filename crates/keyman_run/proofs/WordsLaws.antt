@@ -3,7 +3,7 @@ use Rattle.std.proofs.Common.{◌≡◌, ℕ, IsTrue, List, Option, Some, None, 
 use Rattle.std.specs.Prelude.{is_some}
 use Rattle.keyman_run.specs.declared.status.Status.{Status}
 use Rattle.keyman_run.specs.declared.status.Status.TheVariants as status
-use Rattle.keyman_run.specs.Command.{Request, request_of}
+use Rattle.keyman_words.specs.Command.{Request, request_of}
 use Rattle.keyman_run.specs.Endings.{Ending, ends, words_ending}
 use Rattle.keyman_run.specs.Orders.{work_of}
 use Rattle.keyman_run.specs.Run.{Does, FileMeans, Leaves}

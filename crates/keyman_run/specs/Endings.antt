@@ -18,6 +18,10 @@ use Rattle.keyman_run.specs.Asked.{Ask, write_of}
 use Rattle.play_transcript.specs.Ends.{play_end}
 use Rattle.play_transcript.specs.declared.playing.PlayEnd.{PlayEnd}
 use Rattle.play_transcript.specs.declared.playing.PlayEnd.TheVariants as ended
+use Rattle.play_trace.specs.TraceEnds.{trace_end}
+use Rattle.play_trace.specs.TraceText.{trace_text}
+use Rattle.play_trace.specs.declared.following.TraceEnd.{TraceEnd}
+use Rattle.play_trace.specs.declared.following.TraceEnd.TheVariants as followed
 use Rattle.keyman_run.specs.Reasons.{reason_line}
 use Rattle.keyman_run.specs.Work.{Work, reads, comes_to}
 
@@ -107,6 +111,18 @@ test_ending name bytes kb entries =
       file = Some (name, bytes);
       printed = transcript kb entries;
     }
+
+-- the status of a run that ends with a trace
+abbrev pub end_of_trace : TraceEnd → Status
+end_of_trace followed.Done = status.Done
+end_of_trace followed.Refused = status.Refused
+
+abbrev pub trace_status : Trace → Status
+trace_status traced = end_of_trace (trace_end traced)
+
+-- a trace prints which lines fire where a keyboard does the script, and which of these never do, and writes no file
+abbrev pub trace_ending : Keyboard → List ℕ → List Entry → Ending
+trace_ending kb lines entries = record { status = trace_status (trace kb (events_of entries)); file = None; printed = trace_text kb lines entries }
 
 -- work that is refused ends with the reason's line
 abbrev pub conclusion : Result Ending Reason → Ending

@@ -1,6 +1,4 @@
 pub mod Asked
-pub mod Beside
-pub mod Command
 pub mod Endings
 pub mod Inputs
 pub mod Loads

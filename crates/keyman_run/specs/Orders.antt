@@ -9,10 +9,11 @@ use Rattle.rule_model.specs.declared.tables.Tables.{Tables}
 use Rattle.compile_laws.specs.Ordered.{compiled_tables}
 use Rattle.kmn_compiler.specs.Picture.{picture_name}
 use Rattle.kmn_compiler.specs.declared.compiling.Compiled.{Compiled}
-use Rattle.keyman_run.specs.Beside.{beside}
-use Rattle.keyman_run.specs.Command.{Request}
-use Rattle.keyman_run.specs.Command.Request.{Compile, Decompile, Layout, Load, Play, Test, Verify}
-use Rattle.keyman_run.specs.Endings.{Ending, Job, compile_ending, decompile_ending, layout_ending, load_ending, play_ending, test_ending, verify_ending, words_ending}
+use Rattle.play_trace.specs.RisingLines.{lines_of_tables}
+use Rattle.keyman_words.specs.Beside.{beside}
+use Rattle.keyman_words.specs.Command.{Request}
+use Rattle.keyman_words.specs.Command.Request.{Compile, Decompile, Layout, Load, Play, Test, Trace, Verify}
+use Rattle.keyman_run.specs.Endings.{Ending, Job, compile_ending, decompile_ending, layout_ending, load_ending, play_ending, test_ending, trace_ending, verify_ending, words_ending}
 use Rattle.keyman_run.specs.Inputs.{Pictured, file_from, keys_of, picture_of, pictured_within, program_of, script_of, bytes_of, tables_of_file, text_of_file}
 use Rattle.keyman_run.specs.Loads.{load_text}
 use Rattle.keyman_run.specs.Work.{Work, given, and_then}
@@ -116,6 +117,14 @@ layout_work source layout = and_then (program_work source) (λ pictured. tables_
 abbrev pub load_work : ℕ → Work Ending
 load_work number = and_then (given (load_text number)) (λ line. Give (load_ending line))
 
+-- `trace SOURCE KEYS`: read and compile the source with its picture, read the script, print which lines of the source fire for
+-- the script
+abbrev pub trace_work : (source keys : List ℕ) → Work Ending
+trace_work source keys =
+    and_then (program_work source) (λ pictured.
+    and_then (script_work (src pictured.program).dictionary keys) (λ entries.
+    Give (trace_ending (src pictured.program) (lines_of_tables (compiled_tables pictured.program)) entries)))
+
 -- the work that words ask for
 abbrev pub work_of : Option Request → Work Ending
 work_of None = Give words_ending
@@ -126,3 +135,4 @@ work_of (Some (Decompile file source)) = decompile_work file source
 work_of (Some (Play file keys)) = play_work file keys
 work_of (Some (Layout source layout)) = layout_work source layout
 work_of (Some (Load number)) = load_work number
+work_of (Some (Trace source keys)) = trace_work source keys

@@ -10,8 +10,8 @@ use Rattle.round_trips.specs.Laws.{TakesStepsOf}
 use Rattle.keyman_run.specs.declared.status.Status.{Status}
 use Rattle.keyman_run.specs.declared.status.Status.TheVariants as status
 use Rattle.keyman_run.specs.Asked.{Ask, write_of, answered, failed, AsksAll, AsksFirst, AsksUntil, HasWritten}
-use Rattle.keyman_run.specs.Command.{Request}
-use Rattle.keyman_run.specs.Command.Request.{Compile, Decompile, Layout, Load, Play, Test, Verify}
+use Rattle.keyman_words.specs.Command.{Request}
+use Rattle.keyman_words.specs.Command.Request.{Compile, Decompile, Layout, Load, Play, Test, Trace, Verify}
 use Rattle.keyman_run.specs.Endings.{Ending, ends, file_asks}
 use Rattle.keyman_run.specs.Inputs.{Pictured}
 use Rattle.keyman_run.specs.Orders.{program_work}
@@ -131,3 +131,4 @@ FileMeans before after (Some (Decompile file source)) = HasWritten before.calls 
 FileMeans before after (Some (Play file keys)) = Unit {0}
 FileMeans before after (Some (Layout source layout)) = Unit {0}
 FileMeans before after (Some (Load number)) = Unit {0}
+FileMeans before after (Some (Trace source keys)) = Unit {0}

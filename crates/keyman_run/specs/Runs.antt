@@ -4,7 +4,7 @@ use Rattle.kmn_outside.specs.Outside.{Rose}
 use Rattle.keyman_run.specs.declared.status.Status.{Status}
 use Rattle.keyman_run.specs.declared.status.Status.TheVariants as status
 use Rattle.keyman_run.specs.Asked.{AsksBy}
-use Rattle.keyman_run.specs.Command.{is_form, request_of}
+use Rattle.keyman_words.specs.Command.{is_form, request_of}
 use Rattle.keyman_run.specs.Endings.{asked, ends}
 use Rattle.keyman_run.specs.Orders.{work_of}
 use Rattle.keyman_run.specs.Run.{FaultCounts, FileMeans, Leaves}

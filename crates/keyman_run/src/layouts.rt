@@ -6,9 +6,9 @@ ghost use Rattle.keyman_run.specs.Orders.{keys_work};
 ghost use Rattle.keyman_run.specs.Reasons.{place_line};
 ghost use Rattle.keyman_run.specs.Steps.{Gives, itself};
 
-use crate::file_name::{FileName, read};
 use crate::preparing::{Stop, read_stop};
 use crate::reason::Reason;
+use keyman_words::{FileName, read};
 use kmn_base::limits::TEXT_BYTES;
 use kmn_base::{Code, Memory, Seq, Text};
 use kmn_outside::Folder;

@@ -1,16 +1,14 @@
-//! A run: one command over a folder and a sink. Seven commands are built: `compile`, `decompile`, `verify`, `play`, `test`,
-//! `layout` and `load`.
+//! A run: one command over a folder and a sink. Eight commands are built: `compile`, `decompile`, `verify`, `play`, `test`,
+//! `layout`, `load` and `trace`.
 //!
-//! It stands on the compiler, the verifier, the decompiler, the check of touch layouts and `play_transcript`, and on
-//! `kmn_outside` for the folder and the sink. `specs/Orders` has the order of work of each command as a value: which file is
-//! read first, how it goes on by what came, and how it ends. `specs/Run` says once what a run of such work asks for, leaves and
-//! answers (`Does`); each command's contract is its row. The layer above calls `run`, whose clauses say the whole by name, and
-//! ends with the number of its `Status`.
+//! It stands on the compiler, the verifier, the decompiler, the check of touch layouts, `play_transcript` and `play_trace`, on
+//! `keyman_words` for the command that words ask for, and on `kmn_outside` for the folder and the sink. `specs/Orders` has the order
+//! of work of each command as a value: which file is read first, how it goes on by what came, and how it ends. `specs/Run` says
+//! once what a run of such work asks for, leaves and answers (`Does`); each command's contract is its row. The layer above calls
+//! `run`, whose clauses say the whole by name, and ends with the number of its `Status`.
 #![tactic(auto)]
 
-mod command;
 mod file_lines;
-mod file_name;
 mod layouts;
 mod lines;
 mod loading;
@@ -19,6 +17,7 @@ mod reason;
 mod running;
 mod status;
 mod texts;
+mod tracing;
 
 pub use running::run;
 pub use status::Status;

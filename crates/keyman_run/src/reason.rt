@@ -1,6 +1,6 @@
+use decompile_causes::NoSpelling;
 use kmn_base::{Code, Refusal};
 use kmx_verifier::Fault;
-use decompile_causes::NoSpelling;
 use touch_layout::LayoutFault;
 
 /// Why a source, a script, a file or a layout is refused before anything is written.

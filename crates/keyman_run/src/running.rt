@@ -14,9 +14,7 @@ ghost use Rattle.keyman_run.specs.Run.{Does, TextMeans};
 ghost use Rattle.keyman_run.specs.Runs.{Runs};
 ghost use Rattle.keyman_run.specs.Steps.{IsCompiled, Tells, TellsFile, TellsLoad, TellsStop, write_status};
 
-use crate::command::{Command, command_of};
 use crate::file_lines::valid_line;
-use crate::file_name::{FileName, write};
 use crate::layouts::{read_keys, sound_line};
 use crate::lines::{compiled_line, reason_line};
 use crate::loading::played_load;
@@ -24,6 +22,8 @@ use crate::preparing::{Prepared, Stop, prepare, read_and_compile, read_file, rea
 use crate::reason::Reason;
 use crate::status::Status;
 use crate::texts::{decompiled_line, read_text};
+use crate::tracing::trace_rules;
+use keyman_words::{Command, FileName, command_of, write};
 use kmn_base::{Memory, Text};
 use kmn_compiler::Compiled;
 use kmn_outside::{Folder, Sink, WriteError};
@@ -49,6 +49,7 @@ pub fn run<F: Folder, S: Sink>(alloc: Global, words: &[Text], folder: &mut F, ou
             check_layout(alloc, &source, &layout, folder, out)
         }
         Some(Command::Load { number }) => load(alloc, number, out),
+        Some(Command::Trace { source, keys }) => trace_rules(alloc, &source, &keys, folder, out),
         None => Status::Words,
     }
 }
@@ -328,7 +329,7 @@ fn tell_session<'a, S: Sink>(
 }
 
 /// Ends a run that stops before it writes: prints the line of a reason, and nothing after a fault.
-fn tell_stop<S: Sink>(alloc: Global, stop: Stop, out: &mut S) -> Status
+pub fn tell_stop<S: Sink>(alloc: Global, stop: Stop, out: &mut S) -> Status
     ensures { TellsStop stop S.Sink out.old out.new result }
 {
     match stop {
@@ -386,7 +387,7 @@ fn end_status(end: PlayEnd) -> Status
 }
 
 /// The status of a run that ends with a write or a put that didn't succeed.
-fn write_status(error: WriteError) -> Status
+pub fn write_status(error: WriteError) -> Status
     ensures { result ≡ write_status error }
 {
     match error {

@@ -7,14 +7,14 @@ ghost use Rattle.keyman_run.specs.Orders.{text_work};
 ghost use Rattle.keyman_run.specs.Reasons.{spelling_line};
 ghost use Rattle.keyman_run.specs.Steps.{Gives, States, itself};
 
-use crate::file_name::FileName;
 use crate::preparing::{Stop, read_file};
 use crate::reason::Reason;
+use decompile_causes::NoSpelling;
+use keyman_words::FileName;
 use kmn_base::{Memory, Seq, Text};
 use kmn_outside::Folder;
 use kmx_decompiler::{DecompileError, decompile};
 use kmx_verifier::verify;
-use decompile_causes::NoSpelling;
 use std::alloc::Global;
 
 /// Reads the compiled file of a name, and gives the text that it goes back to.

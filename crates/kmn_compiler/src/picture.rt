@@ -7,10 +7,8 @@ ghost use Rattle.kmn_compiler.specs.Picture.{picture_name, picture_text};
 use kmn_base::{Element, Memory, Seq, Text};
 use rule_checker::Checked;
 use rule_expand::system_elements;
+use rule_model::system::BITMAP;
 use std::alloc::Global;
-
-/// The id of the system store `&bitmap`.
-const BITMAP: u32 = 1;
 
 /// The text of the first `&bitmap` of a program, which names its picture; None where there is none, or where it is empty.
 #[tactic(auto, unfolding(crate::specs::Picture::picture_name))]

@@ -3,9 +3,9 @@ use Rattle.std.proofs.Common.{◌≡◌, ℕ, zero, suc, ◌+◌, ◌<◌, List,
 use Rattle.std.specs.Prelude.{Result, Ok, Err}
 use Rattle.std.specs.Result.{IsErrAnd}
 use Rattle.rule_model.specs.declared.program.SrcItem.{SrcItem}
-use Rattle.kmn_items.specs.declared.syntax.Fault.{Fault}
-use Rattle.kmn_items.specs.declared.syntax.Trouble.{Trouble}
-use Rattle.kmn_items.specs.declared.syntax.Trouble.TheVariants.{Broken, NoMemory}
+use Rattle.kmn_items.specs.declared.syntax.TokenRefusal.{TokenRefusal}
+use Rattle.kmn_items.specs.declared.syntax.LineError.{LineError}
+use Rattle.kmn_items.specs.declared.syntax.LineError.TheVariants.{Refused, Memory}
 use Rattle.kmn_items.specs.declared.syntax.Where.{Where}
 use Rattle.kmn_items.specs.declared.syntax.Seen.{Seen}
 use Rattle.kmn_items.specs.declared.syntax.Taken.{Taken}
@@ -23,7 +23,7 @@ items_skip place seen last (suc skip) at (token ∷ tokens) =
     let same : (at + 1) + skip ≡ at + suc skip = omega arith in
     items_skip place seen last skip (at + 1) tokens ∙ ap (λ n. read_items place seen last 0 n (drop skip tokens)) same
 
-pub prepend_prepend : (first second : List SrcItem) (rest : Result (List SrcItem) Fault) → prepend first (prepend second rest) ≡ prepend (first ++ second) rest
+pub prepend_prepend : (first second : List SrcItem) (rest : Result (List SrcItem) TokenRefusal) → prepend first (prepend second rest) ≡ prepend (first ++ second) rest
 prepend_prepend first second (Ok items) = ap Ok (sym (append_assoc first second items))
 prepend_prepend first second (Err fault) = refl
 
@@ -43,22 +43,22 @@ items_step place seen last at items (token ∷ tokens) taken some read =
     ∙ ap (prepend (items ++ taken.items)) rest
 
 -- where an item is refused, so are all
-pub items_stop : (place : Where) (seen : Seen) (last at : ℕ) (items : List SrcItem) (tokens : List LineToken) (trouble : Trouble)
-    → 0 < length tokens → Reads (read_item place seen last at tokens) (Err trouble)
-    → Reads (prepend items (read_items place seen last 0 at tokens)) (Err trouble)
-items_stop place seen last at items [] trouble some read = absurd (omega (arith, some))
-items_stop place seen last at items (token ∷ tokens) NoMemory some read = tt
-items_stop place seen last at items (token ∷ tokens) (Broken fault) some read =
+pub items_stop : (place : Where) (seen : Seen) (last at : ℕ) (items : List SrcItem) (tokens : List LineToken) (error : LineError)
+    → 0 < length tokens → Reads (read_item place seen last at tokens) (Err error)
+    → Reads (prepend items (read_items place seen last 0 at tokens)) (Err error)
+items_stop place seen last at items [] error some read = absurd (omega (arith, some))
+items_stop place seen last at items (token ∷ tokens) Memory some read = tt
+items_stop place seen last at items (token ∷ tokens) (Refused fault) some read =
     ap (λ r. prepend items (then_items r (λ (k : Taken). read_items place k.seen last k.more (at + 1) tokens))) read
 
--- what is answered for a trouble is what the trouble says
-pub passed_on : {A : Type 0} (read : Result A Fault) (trouble : Trouble) (answer : Result A Trouble)
-    → IsErrAnd answer (λ given. given ≡ trouble) → Reads read (Err trouble) → Reads read answer
-passed_on read trouble (Ok value) is says = absurd is
-passed_on read trouble (Err given) is says = subst (λ (t : Trouble). Reads read (Err t)) (sym is) says
+-- what is answered for an error is what the error says
+pub passed_on : {A : Type 0} (read : Result A TokenRefusal) (error : LineError) (answer : Result A LineError)
+    → IsErrAnd answer (λ given. given ≡ error) → Reads read (Err error) → Reads read answer
+passed_on read error (Ok value) is says = absurd is
+passed_on read error (Err given) is says = subst (λ (t : LineError). Reads read (Err t)) (sym is) says
 
 -- the item put last
-pub last_item_push : (none : Fault) (items : List SrcItem) (item : SrcItem) → last_item none (items ++ item ∷ []) ≡ Ok item
+pub last_item_push : (none : TokenRefusal) (items : List SrcItem) (item : SrcItem) → last_item none (items ++ item ∷ []) ≡ Ok item
 last_item_push none [] item = refl
 last_item_push none (first ∷ []) item = refl
 last_item_push none (first ∷ second ∷ items) item = last_item_push none (second ∷ items) item

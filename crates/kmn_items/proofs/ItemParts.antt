@@ -5,7 +5,7 @@ use Rattle.kmn_base.specs.declared.codes.Code.{Code}
 use Rattle.kmn_base.specs.declared.codes.Code.TheVariants.{S05}
 use Rattle.rule_model.specs.declared.program.SrcItem.{SrcItem}
 use Rattle.rule_model.specs.declared.program.SrcItem.TheVariants as source
-use Rattle.kmn_items.specs.declared.syntax.Fault.{Fault}
+use Rattle.kmn_items.specs.declared.syntax.TokenRefusal.{TokenRefusal}
 use Rattle.kmn_items.specs.declared.syntax.Where.{Where}
 use Rattle.kmn_items.specs.declared.syntax.Seen.{Seen}
 use Rattle.kmn_items.specs.declared.syntax.Slot.{Slot}
@@ -23,7 +23,7 @@ use Rattle.kmn_items.specs.Brackets.{flags_of, named_key, key_item, modifier_cou
 use Rattle.kmn_items.specs.Item.{formed, read_word, read_quoted, read_bracket, read_form, read_item, prepend, then_items, read_items}
 use Rattle.kmn_items.specs.ItemLaws.{TakesUp, TokensAreTakenUp}
 
-later_none : (at : ℕ) (code : Option Code) (later : Option Fault) → or_fault at code later ≡ None → later ≡ None
+later_none : (at : ℕ) (code : Option Code) (later : Option TokenRefusal) → or_fault at code later ≡ None → later ≡ None
 later_none at None later e = e
 later_none at (Some code) later e = cc
 
@@ -36,21 +36,22 @@ enough last at (wanted ∷ slots) (token ∷ tokens) e =
     omega (arith, rest)
 
 -- an item that is read has fewer tokens behind its first than there are
-abbrev Fits : ℕ → Result Taken Fault → Type 0
+abbrev Fits : ℕ → Result Taken TokenRefusal → Type 0
 Fits n (Ok taken) = taken.more < n
 Fits n (Err found) = Unit {0}
 
-formed_fits : (n : ℕ) (found : Option Fault) (taken : Taken) → (found ≡ None → taken.more < n) → Fits n (formed found taken)
+formed_fits : (n : ℕ) (found : Option TokenRefusal) (taken : Taken) → (found ≡ None → taken.more < n) → Fits n (formed found taken)
 formed_fits n None taken fits = fits refl
 formed_fits n (Some found) taken fits = tt
 
-word_fits : (seen : Seen) (last at : ℕ) (word : ItemWord) (tokens : List LineToken) → 0 < length tokens → Fits (length tokens) (read_word seen last at word tokens)
-word_fits seen last at word tokens some =
+word_fits : (place : Where) (seen : Seen) (last at : ℕ) (word : ItemWord) (tokens : List LineToken) → 0 < length tokens
+    → Fits (length tokens) (read_word place seen last at word tokens)
+word_fits place seen last at word tokens some =
     formed_fits (length tokens) (broken last at (word_slots word) tokens)
-    (record { items = word_item word tokens ∷ []; more = length (word_slots word) - 1; seen = seen_word seen word })
+    (record { items = word_item place word tokens ∷ []; more = length (word_slots word) - 1; seen = seen_word seen word })
     (λ e. let long = enough last at (word_slots word) tokens e in omega (arith, long, some))
 
-either_fits : (n : ℕ) (test : Bool) (found : Fault) (taken : Taken) → taken.more < n → Fits n (if test then Err found else Ok taken)
+either_fits : (n : ℕ) (test : Bool) (found : TokenRefusal) (taken : Taken) → taken.more < n → Fits n (if test then Err found else Ok taken)
 either_fits n true found taken fits = tt
 either_fits n false found taken fits = fits
 
@@ -75,7 +76,7 @@ bracket_fits place seen last at count rest n le =
 form_fits : (place : Where) (seen : Seen) (last at : ℕ) (first : Lead) (tokens : List LineToken) → 0 < length tokens → Fits (length tokens) (read_form place seen last at first tokens)
 form_fits place seen last at lead.Characters tokens some = quoted_fits place seen at (quoted (text_at 0 tokens)) (length tokens) some
 form_fits place seen last at (lead.One c) tokens some = some
-form_fits place seen last at (lead.Named word) tokens some = word_fits seen last at word tokens some
+form_fits place seen last at (lead.Named word) tokens some = word_fits place seen last at word tokens some
 form_fits place seen last at lead.Bracket tokens some =
     let left = length-drop 1 tokens in
     bracket_fits place seen last at (modifier_count (drop 1 tokens)) (drop 1 tokens) (length tokens) (omega (arith, left, some))
@@ -92,11 +93,11 @@ item_fits place seen last at tokens some =
     ]
 
 -- what is read, if anything, is the items that take up the tokens
-abbrev Parts : Where → Seen → ℕ → ℕ → List LineToken → Result (List SrcItem) Fault → Type 0
+abbrev Parts : Where → Seen → ℕ → ℕ → List LineToken → Result (List SrcItem) TokenRefusal → Type 0
 Parts place seen last at tokens (Ok items) = (parts : List Taken) × TakesUp place seen last at parts tokens × (flat_map (λ (taken : Taken). taken.items) parts ≡ items)
 Parts place seen last at tokens (Err found) = Unit {0}
 
-one_more_part : (place : Where) (seen : Seen) (last at : ℕ) (tokens : List LineToken) (taken : Taken) (next : ℕ) (rest : List LineToken) (read : Result (List SrcItem) Fault)
+one_more_part : (place : Where) (seen : Seen) (last at : ℕ) (tokens : List LineToken) (taken : Taken) (next : ℕ) (rest : List LineToken) (read : Result (List SrcItem) TokenRefusal)
     → read_item place seen last at tokens ≡ Ok taken → taken.more < length tokens
     → next ≡ at + (1 + taken.more) → rest ≡ drop (1 + taken.more) tokens
     → Parts place taken.seen last next rest read → Parts place seen last at tokens (prepend taken.items read)

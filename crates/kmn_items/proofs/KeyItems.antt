@@ -5,7 +5,7 @@ use Rattle.std.proofs.lemmas.Bool.Decides.{nat_tests}
 use Rattle.std.proofs.lemmas.List.{length-map}
 use Rattle.rule_model.specs.declared.program.SrcItem.{SrcItem}
 use Rattle.rule_model.specs.declared.program.SrcItem.TheVariants as source
-use Rattle.kmn_items.specs.declared.syntax.Fault.{Fault}
+use Rattle.kmn_items.specs.declared.syntax.TokenRefusal.{TokenRefusal}
 use Rattle.kmn_items.specs.declared.syntax.ItemWord.{ItemWord}
 use Rattle.kmn_items.specs.declared.syntax.ItemWord.TheVariants as word
 use Rattle.kmn_items.specs.declared.syntax.Lead.{Lead}
@@ -23,22 +23,22 @@ abbrev room : Seen → ℕ
 room seen = if seen.pattern then 0 else 1
 
 -- an item, if it is one, fits, and so do those that may come behind it
-abbrev ItemFits : Seen → Result Taken Fault → Type 0
+abbrev ItemFits : Seen → Result Taken TokenRefusal → Type 0
 ItemFits seen (Ok taken) = length taken.items + room taken.seen ≤ room seen
 ItemFits seen (Err fault) = Unit {0}
 
 -- items, if they are such, fit
-abbrev ItemsFit : Seen → Result (List SrcItem) Fault → Type 0
+abbrev ItemsFit : Seen → Result (List SrcItem) TokenRefusal → Type 0
 ItemsFit seen (Ok items) = length items ≤ room seen
 ItemsFit seen (Err fault) = Unit {0}
 
 -- one item takes all the room
-formed_fits : (nul : Bool) (fault : Option Fault) (item : SrcItem) (more : ℕ)
+formed_fits : (nul : Bool) (fault : Option TokenRefusal) (item : SrcItem) (more : ℕ)
     → ItemFits (record { pattern = false; nul = nul }) (formed fault (record { items = item ∷ []; more = more; seen = record { pattern = true; nul = nul } }))
 formed_fits nul None item more = omega arith
 formed_fits nul (Some fault) item more = tt
 
-fits_if : (seen : Seen) (b : Bool) (fault : Fault) (taken : Taken) → (b ≡ false → ItemFits seen (Ok taken)) → ItemFits seen (if b then Err fault else Ok taken)
+fits_if : (seen : Seen) (b : Bool) (fault : TokenRefusal) (taken : Taken) → (b ≡ false → ItemFits seen (Ok taken)) → ItemFits seen (if b then Err fault else Ok taken)
 fits_if seen true fault taken fits = tt
 fits_if seen false fault taken fits = fits refl
 
@@ -92,11 +92,11 @@ item_fits : (seen : Seen) (last at : ℕ) (tokens : List LineToken) → ItemFits
 unfolding read_item
 item_fits seen last at tokens = led_fits seen.pattern seen.nul last at _ tokens
 
-prepend_fits : (seen : Seen) (taken : Taken) (rest : Result (List SrcItem) Fault) → ItemFits seen (Ok taken) → ItemsFit taken.seen rest → ItemsFit seen (prepend taken.items rest)
+prepend_fits : (seen : Seen) (taken : Taken) (rest : Result (List SrcItem) TokenRefusal) → ItemFits seen (Ok taken) → ItemsFit taken.seen rest → ItemsFit seen (prepend taken.items rest)
 prepend_fits seen taken (Ok items) fits rest = omega (arith, length-append taken.items items, fits, rest)
 prepend_fits seen taken (Err fault) fits rest = tt
 
-then_fits : (seen : Seen) (read : Result Taken Fault) (more : Taken → Result (List SrcItem) Fault)
+then_fits : (seen : Seen) (read : Result Taken TokenRefusal) (more : Taken → Result (List SrcItem) TokenRefusal)
     → ItemFits seen read → ((taken : Taken) → ItemsFit taken.seen (more taken)) → ItemsFit seen (then_items read more)
 then_fits seen (Ok taken) more fits rest = prepend_fits seen taken (more taken) fits (rest taken)
 then_fits seen (Err fault) more fits rest = tt
@@ -108,7 +108,7 @@ items_fit seen last zero at (token ∷ tokens) =
     then_fits seen (read_item section.Key seen last at (token ∷ tokens)) _ (item_fits seen last at (token ∷ tokens))
     (λ taken. items_fit taken.seen last taken.more (at + 1) tokens)
 
-one_item : (none : Fault) (read : Result (List SrcItem) Fault) (item : SrcItem) → ItemsFit unseen read
+one_item : (none : TokenRefusal) (read : Result (List SrcItem) TokenRefusal) (item : SrcItem) → ItemsFit unseen read
     → and_then read (last_item none) ≡ Ok item → read ≡ Ok (item ∷ [])
 one_item none (Err fault) item fits is = cc
 one_item none (Ok []) item fits is = cc

@@ -1,13 +1,16 @@
 -- The forms of the items that begin with a word, and what they stand for.
-use Rattle.std.specs.Prelude.{ℕ, Bool, false, if◌then◌else◌, List, [], ◌∷◌, drop, slice_get, unwrap_or, option_map}
+use Rattle.std.specs.Prelude.{ℕ, Bool, false, ◌||◌, nat_eq, if◌then◌else◌, List, [], ◌∷◌, drop, slice_get, unwrap_or, option_map, codes, Option, Some, None}
+use Rattle.kmn_base.specs.Names.{named_in}
 use Rattle.rule_model.specs.declared.program.SrcItem.{SrcItem}
 use Rattle.rule_model.specs.declared.program.SrcItem.TheVariants as source
+use Rattle.kmn_items.specs.declared.syntax.Where.{Where}
+use Rattle.kmn_items.specs.declared.syntax.Where.TheVariants as section
 use Rattle.kmn_items.specs.declared.syntax.ItemWord.{ItemWord}
 use Rattle.kmn_items.specs.declared.syntax.ItemWord.TheVariants as word
 use Rattle.kmn_items.specs.declared.syntax.Slot.{Slot}
 use Rattle.kmn_items.specs.declared.syntax.Slot.TheVariants as slot
 use Rattle.kmn_items.specs.TokenTexts.{LineToken, text_at, is_equal, quoted}
-use Rattle.kmn_items.specs.Words.{is_system_name}
+use Rattle.kmn_items.specs.Words.{is_system_name, bare_name}
 use Rattle.kmn_items.specs.Numbers.{offset_value}
 
 -- the form of the item of each word, its own word first
@@ -32,37 +35,70 @@ word_slots word.Call = slot.Lead ∷ slot.Open ∷ slot.Argument ∷ slot.Close 
 word_slots word.Switch = slot.Lead ∷ slot.Open ∷ slot.Argument ∷ slot.Close ∷ []
 word_slots word.ClearContext = slot.Lead ∷ []
 word_slots word.Fix = slot.Lead ∷ []
-word_slots word.Layer = slot.Lead ∷ slot.Open ∷ slot.Argument ∷ slot.Close ∷ []
-word_slots word.Platform = slot.Lead ∷ slot.Open ∷ slot.Argument ∷ slot.Close ∷ []
+word_slots word.Layer = slot.Lead ∷ slot.Open ∷ slot.Value ∷ slot.Close ∷ []
+word_slots word.Platform = slot.Lead ∷ slot.Open ∷ slot.Value ∷ slot.Close ∷ []
 word_slots word.BaseLayout = slot.Lead ∷ slot.Open ∷ slot.Argument ∷ slot.Close ∷ []
 
 -- whether the token at a place is `=`
 abbrev pub equal_at : ℕ → List LineToken → Bool
 equal_at place tokens = unwrap_or (option_map (λ (token : LineToken). is_equal token.kind) (slice_get tokens place)) false
 
--- a condition on a store, which is left out for system stores
+-- the system options that an item can name, behind `&`, each with its id
+unfoldable pub option_ids : List (List ℕ × ℕ)
+option_ids = (codes "platform", 31) ∷ (codes "layer", 33) ∷ []
+
+-- the id of the system option of a name; None for another system store
+abbrev pub option_id : List ℕ → Option ℕ
+option_id name = named_in option_ids (bare_name name)
+
+-- whether an id is that of a system option
+abbrev pub is_option_id : ℕ → Bool
+is_option_id id = nat_eq id 31 || nat_eq id 33
+
+-- a condition on a system option, which is left out for other system stores
+abbrev pub system_condition : Option ℕ → Bool → List ℕ → SrcItem
+system_condition None equal value = source.OutOfProfile
+system_condition (Some id) equal value = if equal then source.SystemEqual id value else source.SystemUnequal id value
+
+-- a condition on a store or a system option
 abbrev pub condition : List ℕ → Bool → List ℕ → SrcItem
 condition name equal value =
-    if is_system_name name then source.OutOfProfile
+    if is_system_name name then system_condition (option_id name) equal value
     else (if equal then source.Equal name value else source.Unequal name value)
 
--- the item of a word, of tokens in its form; the word has the place 0
-abbrev pub word_item : ItemWord → List LineToken → SrcItem
-word_item word.Dead tokens = source.Dead (text_at 2 tokens)
-word_item word.Any tokens = source.Any (text_at 2 tokens)
-word_item word.NotAny tokens = source.NotAny (text_at 2 tokens)
-word_item word.Index tokens = source.Index (text_at 2 tokens) (offset_value (text_at 4 tokens))
-word_item word.Context tokens = source.Context
-word_item word.ContextAt tokens = source.ContextAt (offset_value (text_at 2 tokens))
-word_item word.If tokens = condition (text_at 2 tokens) (equal_at 3 tokens) (quoted (text_at 4 tokens))
-word_item word.Nul tokens = source.Nul
-word_item word.Outs tokens = source.Outs (text_at 2 tokens)
-word_item word.Dollar tokens = source.Outs (drop 1 (text_at 0 tokens))
-word_item word.Use tokens = source.Enter (text_at 2 tokens)
-word_item word.Set tokens = if is_system_name (text_at 2 tokens) then source.OutOfProfile else source.Set (text_at 2 tokens) (quoted (text_at 4 tokens))
-word_item word.Save tokens = source.Save (text_at 2 tokens)
-word_item word.Reset tokens = source.Reset (text_at 2 tokens)
-word_item word.Beep tokens = source.Beep
-word_item word.Return tokens = source.Stop
-word_item word.Call tokens = source.Call (text_at 2 tokens)
-word_item other tokens = source.OutOfProfile
+-- a set of a system option, which is left out but for the layer
+abbrev pub system_setting : Option ℕ → List ℕ → SrcItem
+system_setting None value = source.OutOfProfile
+system_setting (Some id) value = if nat_eq id 33 then source.SetSystem id value else source.OutOfProfile
+
+-- a set of a store or of the layer
+abbrev pub setting : List ℕ → List ℕ → SrcItem
+setting name value = if is_system_name name then system_setting (option_id name) value else source.Set name value
+
+-- `layer` sets the layer in an output, and asks for it elsewhere
+abbrev pub layer_item : Where → List ℕ → SrcItem
+layer_item section.Output value = source.SetSystem 33 value
+layer_item place value = source.SystemEqual 33 value
+
+-- the item of a word in a section, of tokens in its form; the word has the place 0
+abbrev pub word_item : Where → ItemWord → List LineToken → SrcItem
+word_item place word.Dead tokens = source.Dead (text_at 2 tokens)
+word_item place word.Any tokens = source.Any (text_at 2 tokens)
+word_item place word.NotAny tokens = source.NotAny (text_at 2 tokens)
+word_item place word.Index tokens = source.Index (text_at 2 tokens) (offset_value (text_at 4 tokens))
+word_item place word.Context tokens = source.Context
+word_item place word.ContextAt tokens = source.ContextAt (offset_value (text_at 2 tokens))
+word_item place word.If tokens = condition (text_at 2 tokens) (equal_at 3 tokens) (quoted (text_at 4 tokens))
+word_item place word.Nul tokens = source.Nul
+word_item place word.Outs tokens = source.Outs (text_at 2 tokens)
+word_item place word.Dollar tokens = source.Outs (drop 1 (text_at 0 tokens))
+word_item place word.Use tokens = source.Enter (text_at 2 tokens)
+word_item place word.Set tokens = setting (text_at 2 tokens) (quoted (text_at 4 tokens))
+word_item place word.Save tokens = source.Save (text_at 2 tokens)
+word_item place word.Reset tokens = source.Reset (text_at 2 tokens)
+word_item place word.Beep tokens = source.Beep
+word_item place word.Return tokens = source.Stop
+word_item place word.Call tokens = source.Call (text_at 2 tokens)
+word_item place word.Layer tokens = layer_item place (quoted (text_at 2 tokens))
+word_item place word.Platform tokens = source.SystemEqual 31 (quoted (text_at 2 tokens))
+word_item place other tokens = source.OutOfProfile

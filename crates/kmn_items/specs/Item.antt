@@ -3,7 +3,7 @@ use Rattle.std.specs.Prelude.{ℕ, zero, suc, ◌+◌, ◌-◌, min, Bool, false
 use Rattle.kmn_base.specs.declared.codes.Code.TheVariants.{S05}
 use Rattle.rule_model.specs.declared.program.SrcItem.{SrcItem}
 use Rattle.rule_model.specs.declared.program.SrcItem.TheVariants as source
-use Rattle.kmn_items.specs.declared.syntax.Fault.{Fault}
+use Rattle.kmn_items.specs.declared.syntax.TokenRefusal.{TokenRefusal}
 use Rattle.kmn_items.specs.declared.syntax.Where.{Where}
 use Rattle.kmn_items.specs.declared.syntax.Where.TheVariants as section
 use Rattle.kmn_items.specs.declared.syntax.Seen.{Seen}
@@ -31,18 +31,18 @@ abbrev pub is_item_word : List ℕ → Bool
 is_item_word text = is_number_word text || is_some (item_word text)
 
 -- an item, or the fault of its form
-abbrev pub formed : Option Fault → Taken → Result Taken Fault
+abbrev pub formed : Option TokenRefusal → Taken → Result Taken TokenRefusal
 formed (Some fault) taken = Err fault
 formed None taken = Ok taken
 
--- the item of a word
-abbrev pub read_word : Seen → ℕ → ℕ → ItemWord → List LineToken → Result Taken Fault
-read_word seen last at word tokens =
+-- the item of a word in a section
+abbrev pub read_word : Where → Seen → ℕ → ℕ → ItemWord → List LineToken → Result Taken TokenRefusal
+read_word place seen last at word tokens =
     formed (broken last at (word_slots word) tokens)
-    (record { items = word_item word tokens ∷ []; more = length (word_slots word) - 1; seen = seen_word seen word })
+    (record { items = word_item place word tokens ∷ []; more = length (word_slots word) - 1; seen = seen_word seen word })
 
 -- the characters of a quoted token, each an item
-abbrev pub read_quoted : Where → Seen → ℕ → List ℕ → Result Taken Fault
+abbrev pub read_quoted : Where → Seen → ℕ → List ℕ → Result Taken TokenRefusal
 read_quoted place seen at characters =
     if is_crowded place seen (length characters) then Err (fault at S05)
     else Ok (record { items = map source.Char characters; more = 0; seen = seen_count seen (length characters) })
@@ -52,7 +52,7 @@ abbrev pub one_character : Seen → ℕ → Taken
 one_character seen c = record { items = source.Char c ∷ []; more = 0; seen = seen_count seen 1 }
 
 -- the key in brackets, of the tokens behind the first bracket, with so many modifiers
-abbrev pub read_bracket : Where → Seen → ℕ → ℕ → ℕ → List LineToken → Result Taken Fault
+abbrev pub read_bracket : Where → Seen → ℕ → ℕ → ℕ → List LineToken → Result Taken TokenRefusal
 read_bracket place seen last at count tokens =
     formed (broken last (at + 1 + count) (slot.KeyName ∷ slot.KeyEnd ∷ []) (drop count tokens))
     (record {
@@ -62,16 +62,16 @@ read_bracket place seen last at count tokens =
     })
 
 -- the item that tokens begin with, by what the first says, where it may stand
-abbrev pub read_form : Where → Seen → ℕ → ℕ → Lead → List LineToken → Result Taken Fault
+abbrev pub read_form : Where → Seen → ℕ → ℕ → Lead → List LineToken → Result Taken TokenRefusal
 read_form place seen last at lead.Characters tokens = read_quoted place seen at (quoted (text_at 0 tokens))
 read_form place seen last at (lead.One c) tokens = Ok (one_character seen c)
-read_form place seen last at (lead.Named word) tokens = read_word seen last at word tokens
+read_form place seen last at (lead.Named word) tokens = read_word place seen last at word tokens
 read_form place seen last at lead.Bracket tokens = read_bracket place seen last at (modifier_count (drop 1 tokens)) (drop 1 tokens)
 read_form place seen last at (lead.Wrong code) tokens = Err (fault at code)
 read_form place seen last at lead.Misplaced tokens = Err (fault at (misplaced_code place))
 
 -- the item that tokens begin with, or the rule that the first token breaks by its place
-abbrev pub read_led : Where → Seen → ℕ → ℕ → Lead → List LineToken → Result Taken Fault
+abbrev pub read_led : Where → Seen → ℕ → ℕ → Lead → List LineToken → Result Taken TokenRefusal
 read_led place seen last at lead tokens = elim (standing_code place seen lead) [
   | Some code ↦ Err (fault at code)
   | None ↦ read_form place seen last at lead tokens
@@ -79,21 +79,21 @@ read_led place seen last at lead tokens = elim (standing_code place seen lead) [
 
 -- one item, which tokens begin with: in a section, behind what is seen, from the place `at` of a line with its last
 -- token at `last`
-unfoldable pub read_item : Where → Seen → ℕ → ℕ → List LineToken → Result Taken Fault
+unfoldable pub read_item : Where → Seen → ℕ → ℕ → List LineToken → Result Taken TokenRefusal
 read_item place seen last at tokens = read_led place seen last at (lead_of tokens) tokens
 
 -- items in front of those that are read behind them
-abbrev pub prepend : List SrcItem → Result (List SrcItem) Fault → Result (List SrcItem) Fault
+abbrev pub prepend : List SrcItem → Result (List SrcItem) TokenRefusal → Result (List SrcItem) TokenRefusal
 prepend items (Ok more) = Ok (items ++ more)
 prepend items (Err fault) = Err fault
 
 -- an item, then those behind it
-abbrev pub then_items : Result Taken Fault → (Taken → Result (List SrcItem) Fault) → Result (List SrcItem) Fault
+abbrev pub then_items : Result Taken TokenRefusal → (Taken → Result (List SrcItem) TokenRefusal) → Result (List SrcItem) TokenRefusal
 then_items (Ok taken) more = prepend taken.items (more taken)
 then_items (Err fault) more = Err fault
 
 -- the items of a section from its place `at` on, behind some tokens that an item has taken
-abbrev pub read_items : Where → Seen → ℕ → ℕ → ℕ → List LineToken → Result (List SrcItem) Fault
+abbrev pub read_items : Where → Seen → ℕ → ℕ → ℕ → List LineToken → Result (List SrcItem) TokenRefusal
 read_items place seen last skip at [] = Ok []
 read_items place seen last (suc skip) at (token ∷ tokens) = read_items place seen last skip (at + 1) tokens
 read_items place seen last zero at (token ∷ tokens) =
@@ -101,12 +101,12 @@ read_items place seen last zero at (token ∷ tokens) =
     (λ (taken : Taken). read_items place taken.seen last taken.more (at + 1) tokens)
 
 -- the last item; a key has one
-abbrev pub last_item : Fault → List SrcItem → Result SrcItem Fault
+abbrev pub last_item : TokenRefusal → List SrcItem → Result SrcItem TokenRefusal
 last_item none [] = Err none
 last_item none (item ∷ []) = Ok item
 last_item none (item ∷ next ∷ items) = last_item none (next ∷ items)
 
 -- the one item of a key
-abbrev pub read_key : ℕ → ℕ → List LineToken → Result SrcItem Fault
+abbrev pub read_key : ℕ → ℕ → List LineToken → Result SrcItem TokenRefusal
 read_key last at tokens =
     and_then (read_items section.Key unseen last 0 at tokens) (last_item (fault (min (at + length tokens) last) S05))

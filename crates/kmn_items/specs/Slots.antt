@@ -2,7 +2,7 @@
 use Rattle.std.specs.Prelude.{ℕ, ◌+◌, min, Bool, true, false, not, ◌&&◌, ◌||◌, if◌then◌else◌, List, [], ◌∷◌, drop, Option, Some, None}
 use Rattle.kmn_base.specs.declared.codes.Code.{Code}
 use Rattle.kmn_base.specs.declared.codes.Code.TheVariants.{L04, S02, S11}
-use Rattle.kmn_items.specs.declared.syntax.Fault.{Fault}
+use Rattle.kmn_items.specs.declared.syntax.TokenRefusal.{TokenRefusal}
 use Rattle.kmn_items.specs.declared.syntax.Slot.{Slot}
 use Rattle.kmn_items.specs.declared.syntax.Slot.TheVariants as slot
 use Rattle.kmn_items.specs.TokenTexts.{LineToken, fault, is_quoted, is_word, is_wordy, is_open, is_close, is_bracket_close, is_comma, is_equal, is_unequal}
@@ -41,13 +41,13 @@ cut_code slot.KeyEnd = S11
 cut_code other = S02
 
 -- the fault of one token, else what comes behind it
-abbrev pub or_fault : ℕ → Option Code → Option Fault → Option Fault
+abbrev pub or_fault : ℕ → Option Code → Option TokenRefusal → Option TokenRefusal
 or_fault at (Some code) later = Some (fault at code)
 or_fault at None later = later
 
 -- the first token that breaks a form, from the place `at` on; where the tokens end too soon, this is the token behind
 -- them, or the line's last token, at `last`
-abbrev pub broken : ℕ → ℕ → List Slot → List LineToken → Option Fault
+abbrev pub broken : ℕ → ℕ → List Slot → List LineToken → Option TokenRefusal
 broken last at [] tokens = None
 broken last at (slot ∷ slots) [] = Some (fault (min at last) (cut_code slot))
 broken last at (slot ∷ slots) (token ∷ tokens) = or_fault at (slot_fault slot token) (broken last (at + 1) slots tokens)

@@ -7,9 +7,9 @@ use Rattle.kmn_lines.specs.declared.token.Token.{Token}
 use Rattle.kmn_lines.specs.declared.token.TokenKind.{TokenKind}
 use Rattle.kmn_lines.specs.declared.token.TokenKind.TheVariants as kind
 use Rattle.kmn_items.specs.declared.text.LineTokens.{LineTokens}
-use Rattle.kmn_items.specs.declared.syntax.Fault.{Fault}
-use Rattle.kmn_items.specs.declared.syntax.Trouble.{Trouble}
-use Rattle.kmn_items.specs.declared.syntax.Trouble.TheVariants as trouble
+use Rattle.kmn_items.specs.declared.syntax.TokenRefusal.{TokenRefusal}
+use Rattle.kmn_items.specs.declared.syntax.LineError.{LineError}
+use Rattle.kmn_items.specs.declared.syntax.LineError.TheVariants as error
 
 -- a token with its text
 pub record LineToken : Type 0 where
@@ -90,14 +90,14 @@ abbrev pub quoted : List ℕ → List ℕ
 quoted text = decoded (inside text)
 
 -- a rule broken at a token
-abbrev pub fault : ℕ → Code → Fault
+abbrev pub fault : ℕ → Code → TokenRefusal
 fault at code = record { at = at; code = code }
 
--- the fault that a trouble tells; want of memory tells none
-abbrev pub fault_of : Trouble → Option Fault
-fault_of (trouble.Broken fault) = Some fault
-fault_of trouble.NoMemory = None
+-- the refusal that an error tells; want of memory tells none
+abbrev pub fault_of : LineError → Option TokenRefusal
+fault_of (error.Refused fault) = Some fault
+fault_of error.Memory = None
 
 -- what code answers of a reading: its value or its first fault, exactly, or want of memory at any time
-abbrev pub Reads : {A : Type 0} → Result A Fault → Result A Trouble → Type 0
+abbrev pub Reads : {A : Type 0} → Result A TokenRefusal → Result A LineError → Type 0
 Reads read answer = AnswersBy fault_of read answer

@@ -4,7 +4,7 @@ ghost use Rattle.kmn_items.specs.Slots.{broken};
 ghost use Rattle.kmn_items.specs.Brackets.{flag_of, flags_of, named_key, key_item, is_modifier_token, modifier_count};
 
 use crate::slots::broken;
-use crate::syntax::{Fault, Slot, Where};
+use crate::syntax::{Slot, TokenRefusal, Where};
 use crate::text::{LineTokens, text_in};
 use crate::words::is_modifier;
 use kmn_base::{Memory, Seq};
@@ -103,7 +103,7 @@ pub(crate) fn key_fault(
     at: usize,
     count: usize,
     tokens: LineTokens<'_>,
-) -> Option<Fault>
+) -> Option<TokenRefusal>
     requires room { at + length (texts tokens) < 2 ^ 62 }
     requires most { count ≤ length (texts tokens) }
     ensures { result ≡ broken last (at + count) (Slot.KeyName ∷ Slot.KeyEnd ∷ []) (drop count (texts tokens.entry)) }

@@ -1,15 +1,18 @@
-ghost use Rattle.std.specs.Prelude.{◌≡◌, ◌<◌, ◌≤◌, IfOk, length};
-ghost use Rattle.kmn_items.specs.TokenTexts.{texts};
-ghost use Rattle.kmn_items.specs.Forms.{word_slots, equal_at, word_item};
+ghost use Rattle.std.specs.Prelude.{◌≡◌, ◌<◌, ◌≤◌, IfOk, length, drop};
+ghost use Rattle.kmn_items.specs.TokenTexts.{texts, text_at, quoted};
+ghost use Rattle.kmn_items.specs.Numbers.{offset_value};
+ghost use Rattle.kmn_items.specs.Forms.{word_slots, equal_at, option_id, system_condition, condition, system_setting, setting, layer_item, word_item};
 
 use crate::numbers::offset_value;
-use crate::syntax::{ItemWord, Slot};
+use crate::syntax::{ItemWord, Slot, Where};
 use crate::text::{LineTokens, quoted};
-use crate::words::is_system_name;
+use crate::words::{bare_name, is_system_name};
+use kmn_base::names::named_in;
 use kmn_base::slices::behind;
 use kmn_base::{Memory, Seq};
 use kmn_lines::TokenKind;
 use rule_model::SrcItem;
+use rule_model::system::{LAYER, PLATFORM};
 use std::alloc::Global;
 
 /// The form of an item of one word.
@@ -23,6 +26,9 @@ const NAMED: [Slot; 4] = [Slot::Lead, Slot::Open, Slot::Name, Slot::Close];
 
 /// The form of a word and any one token in parentheses.
 const WITH_ARGUMENT: [Slot; 4] = [Slot::Lead, Slot::Open, Slot::Argument, Slot::Close];
+
+/// The form of a word and a value in parentheses.
+const WITH_VALUE: [Slot; 4] = [Slot::Lead, Slot::Open, Slot::Value, Slot::Close];
 
 /// The form of a word and an offset in parentheses.
 const WITH_OFFSET: [Slot; 4] = [Slot::Lead, Slot::Open, Slot::Offset, Slot::Close];
@@ -57,6 +63,9 @@ const ASSIGNED: [Slot; 6] = [
     Slot::Close,
 ];
 
+/// The system options that an item can name, behind `&`, each with its id.
+static OPTION_IDS: [(&str, u32); 2] = [("platform", PLATFORM), ("layer", LAYER)];
+
 /// The form of the item of a word, its own word first.
 pub(crate) fn word_slots(word: ItemWord) -> &'static [Slot]
     ensures slots { result.now ≡ word_slots word }
@@ -69,11 +78,8 @@ pub(crate) fn word_slots(word: ItemWord) -> &'static [Slot]
         ItemWord::If => &COMPARED,
         ItemWord::Set => &ASSIGNED,
         ItemWord::Dollar => &DOLLAR,
-        ItemWord::Call
-        | ItemWord::Switch
-        | ItemWord::Layer
-        | ItemWord::Platform
-        | ItemWord::BaseLayout => &WITH_ARGUMENT,
+        ItemWord::Layer | ItemWord::Platform => &WITH_VALUE,
+        ItemWord::Call | ItemWord::Switch | ItemWord::BaseLayout => &WITH_ARGUMENT,
         ItemWord::Context
         | ItemWord::Nul
         | ItemWord::Beep
@@ -95,37 +101,78 @@ fn equal_at(place: usize, tokens: LineTokens<'_>) -> bool
     }
 }
 
+/// The id of the system option of a name; None for another system store.
+#[tactic(auto, unfolding(crate::specs::Forms::option_ids))]
+fn option_id(name: &[u8]) -> Option<u32>
+    ensures { result ≡ option_id name.now }
+{
+    named_in(&OPTION_IDS, bare_name(name))
+}
+
+/// A condition on a system option, which is left out for other system stores.
+fn system_condition(id: Option<u32>, equal: bool, value: Seq<char>) -> SrcItem
+    ensures { result ≡ system_condition id equal value }
+{
+    match id {
+        Some(id) if equal => SrcItem::SystemEqual(id, value),
+        Some(id) => SrcItem::SystemUnequal(id, value),
+        None => SrcItem::OutOfProfile,
+    }
+}
+
 /// The condition of tokens in the form of `if`.
 fn condition(alloc: Global, tokens: LineTokens<'_>) -> Result<SrcItem, Memory>
-    ensures { IfOk result (λ item. item ≡ word_item ItemWord.If (texts tokens.entry)) }
+    ensures { IfOk result (λ item. item ≡ condition (text_at 2 (texts tokens.entry)) (equal_at 3 (texts tokens.entry)) (quoted (text_at 4 (texts tokens.entry)))) }
 {
-    if is_system_name(tokens.text(2)) {
-        return Ok(SrcItem::OutOfProfile);
+    let store = tokens.text(2);
+    let equal = equal_at(3, tokens);
+    let value = quoted(alloc, tokens.text(4))?;
+    if is_system_name(store) {
+        return Ok(system_condition(option_id(store), equal, value));
     }
     let name = tokens.name(alloc, 2)?;
-    let value = quoted(alloc, tokens.text(4))?;
-    if equal_at(3, tokens) {
+    if equal {
         Ok(SrcItem::Equal(name, value))
     } else {
         Ok(SrcItem::Unequal(name, value))
     }
 }
 
-/// The assignment of tokens in the form of `set`.
-fn assignment(alloc: Global, tokens: LineTokens<'_>) -> Result<SrcItem, Memory>
-    ensures { IfOk result (λ item. item ≡ word_item ItemWord.Set (texts tokens.entry)) }
+/// A set of a system option, which is left out but for the layer.
+fn system_setting(id: Option<u32>, value: Seq<char>) -> SrcItem
+    ensures { result ≡ system_setting id value }
 {
-    if is_system_name(tokens.text(2)) {
-        return Ok(SrcItem::OutOfProfile);
+    match id {
+        Some(id) if id == LAYER => SrcItem::SetSystem(id, value),
+        _ => SrcItem::OutOfProfile,
     }
-    let name = tokens.name(alloc, 2)?;
+}
+
+/// The set of tokens in the form of `set`.
+fn setting(alloc: Global, tokens: LineTokens<'_>) -> Result<SrcItem, Memory>
+    ensures { IfOk result (λ item. item ≡ setting (text_at 2 (texts tokens.entry)) (quoted (text_at 4 (texts tokens.entry)))) }
+{
+    let store = tokens.text(2);
     let value = quoted(alloc, tokens.text(4))?;
-    Ok(SrcItem::Set(name, value))
+    if is_system_name(store) {
+        return Ok(system_setting(option_id(store), value));
+    }
+    Ok(SrcItem::Set(tokens.name(alloc, 2)?, value))
+}
+
+/// The item of `layer`, which sets the layer in an output and asks for it elsewhere.
+fn layer_item(place: Where, value: Seq<char>) -> SrcItem
+    ensures { result ≡ layer_item place value }
+{
+    match place {
+        Where::Output => SrcItem::SetSystem(LAYER, value),
+        _ => SrcItem::SystemEqual(LAYER, value),
+    }
 }
 
 /// The item of `$` and a name.
 fn dollar_item(alloc: Global, tokens: LineTokens<'_>) -> Result<SrcItem, Memory>
-    ensures { IfOk result (λ item. item ≡ word_item ItemWord.Dollar (texts tokens.entry)) }
+    ensures { IfOk result (λ item. item ≡ SrcItem.Outs (drop 1 (text_at 0 (texts tokens.entry)))) }
 {
     let name = behind(tokens.text(0), 1);
     Ok(SrcItem::Outs(Seq::from_slice(alloc, name)?))
@@ -133,19 +180,20 @@ fn dollar_item(alloc: Global, tokens: LineTokens<'_>) -> Result<SrcItem, Memory>
 
 /// The item of tokens in the form of `index`.
 fn index_item(alloc: Global, tokens: LineTokens<'_>) -> Result<SrcItem, Memory>
-    ensures { IfOk result (λ item. item ≡ word_item ItemWord.Index (texts tokens.entry)) }
+    ensures { IfOk result (λ item. item ≡ SrcItem.Index (text_at 2 (texts tokens.entry)) (offset_value (text_at 4 (texts tokens.entry)))) }
 {
     let offset = offset_value(tokens.text(4));
     Ok(SrcItem::Index(tokens.name(alloc, 2)?, offset))
 }
 
-/// The item of a word, of tokens in its form.
+/// The item of a word in a section, of tokens in its form.
 pub(crate) fn word_item(
     alloc: Global,
+    place: Where,
     word: ItemWord,
     tokens: LineTokens<'_>,
 ) -> Result<SrcItem, Memory>
-    ensures { IfOk result (λ item. item ≡ word_item word (texts tokens.entry)) }
+    ensures { IfOk result (λ item. item ≡ word_item place word (texts tokens.entry)) }
 {
     match word {
         ItemWord::Dead => Ok(SrcItem::Dead(tokens.name(alloc, 2)?)),
@@ -157,7 +205,7 @@ pub(crate) fn word_item(
         ItemWord::Reset => Ok(SrcItem::Reset(tokens.name(alloc, 2)?)),
         ItemWord::Call => Ok(SrcItem::Call(tokens.name(alloc, 2)?)),
         ItemWord::If => condition(alloc, tokens),
-        ItemWord::Set => assignment(alloc, tokens),
+        ItemWord::Set => setting(alloc, tokens),
         ItemWord::Dollar => dollar_item(alloc, tokens),
         ItemWord::Index => index_item(alloc, tokens),
         ItemWord::ContextAt => Ok(SrcItem::ContextAt(offset_value(tokens.text(2)))),
@@ -165,11 +213,13 @@ pub(crate) fn word_item(
         ItemWord::Nul => Ok(SrcItem::Nul),
         ItemWord::Beep => Ok(SrcItem::Beep),
         ItemWord::Return => Ok(SrcItem::Stop),
-        ItemWord::Switch
-        | ItemWord::ClearContext
-        | ItemWord::Fix
-        | ItemWord::Layer
-        | ItemWord::Platform
-        | ItemWord::BaseLayout => Ok(SrcItem::OutOfProfile),
+        ItemWord::Layer => Ok(layer_item(place, quoted(alloc, tokens.text(2))?)),
+        ItemWord::Platform => {
+            let value = quoted(alloc, tokens.text(2))?;
+            Ok(SrcItem::SystemEqual(PLATFORM, value))
+        }
+        ItemWord::Switch | ItemWord::ClearContext | ItemWord::Fix | ItemWord::BaseLayout => {
+            Ok(SrcItem::OutOfProfile)
+        }
     }
 }

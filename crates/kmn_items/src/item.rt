@@ -8,7 +8,7 @@ use crate::forms::{word_item, word_slots};
 use crate::leads::lead_of;
 use crate::slots::broken;
 use crate::standing::{is_crowded, misplaced_code, seen_count, seen_word, standing_code};
-use crate::syntax::{Fault, ItemWord, Lead, Seen, Taken, Trouble, Where};
+use crate::syntax::{ItemWord, Lead, LineError, Seen, Taken, TokenRefusal, Where};
 use crate::text::{LineTokens, quoted};
 use kmn_base::{Code, Memory, Seq};
 use rule_model::SrcItem;
@@ -24,10 +24,10 @@ pub(crate) struct Spot {
 }
 
 /// A rule that the token at a place breaks.
-pub(crate) fn refused(at: usize, code: Code) -> Trouble
-    ensures { result ≡ Trouble.Broken (fault at code) }
+pub(crate) fn refused(at: usize, code: Code) -> LineError
+    ensures { result ≡ LineError.Refused (fault at code) }
 {
-    Trouble::Broken(Fault { at, code })
+    LineError::Refused(TokenRefusal { at, code })
 }
 
 /// A list of one item.
@@ -39,22 +39,22 @@ fn single(alloc: Global, item: SrcItem) -> Result<Seq<SrcItem>, Memory>
     Ok(Seq::from_vec(items))
 }
 
-/// The item of a word, or the fault of its form.
+/// The item of a word in a section, or the fault of its form.
 fn read_word(
     alloc: Global,
     spot: Spot,
     word: ItemWord,
     tokens: LineTokens<'_>,
-) -> Result<Taken, Trouble>
+) -> Result<Taken, LineError>
     requires { spot.at + length (texts tokens) < 2 ^ 62 }
-    ensures read { Reads (read_word spot.seen spot.last spot.at word (texts tokens.entry)) result }
+    ensures read { Reads (read_word spot.place spot.seen spot.last spot.at word (texts tokens.entry)) result }
     ensures few { IfOk result (λ taken. taken.more ≤ length (texts tokens.entry) + 5) }
 {
     let slots = word_slots(word);
     if let Some(fault) = broken(spot.last, spot.at, slots, tokens) {
-        return Err(Trouble::Broken(fault));
+        return Err(LineError::Refused(fault));
     }
-    let item = word_item(alloc, word, tokens)?;
+    let item = word_item(alloc, spot.place, word, tokens)?;
     Ok(Taken {
         items: single(alloc, item)?,
         more: slots.len() - 1,
@@ -74,7 +74,7 @@ fn character_items(alloc: Global, characters: &[char]) -> Result<Seq<SrcItem>, M
 }
 
 /// The characters of a quoted token, each an item.
-fn read_quoted(alloc: Global, spot: Spot, text: &[u8]) -> Result<Taken, Trouble>
+fn read_quoted(alloc: Global, spot: Spot, text: &[u8]) -> Result<Taken, LineError>
     ensures read { Reads (read_quoted spot.place spot.seen spot.at (quoted text.now)) result }
     ensures few { IfOk result (λ taken. taken.more ≡ 0) }
 {
@@ -90,14 +90,14 @@ fn read_quoted(alloc: Global, spot: Spot, text: &[u8]) -> Result<Taken, Trouble>
 }
 
 /// The key in brackets, of the tokens behind the first bracket.
-fn read_bracket(alloc: Global, spot: Spot, tokens: LineTokens<'_>) -> Result<Taken, Trouble>
+fn read_bracket(alloc: Global, spot: Spot, tokens: LineTokens<'_>) -> Result<Taken, LineError>
     requires { spot.at + 1 + length (texts tokens) < 2 ^ 62 }
     ensures read { Reads (read_bracket spot.place spot.seen spot.last spot.at (modifier_count (texts tokens.entry)) (texts tokens.entry)) result }
     ensures few { IfOk result (λ taken. taken.more ≤ length (texts tokens.entry) + 5) }
 {
     let count = modifier_count(tokens);
     if let Some(fault) = key_fault(spot.last, spot.at + 1, count, tokens) {
-        return Err(Trouble::Broken(fault));
+        return Err(LineError::Refused(fault));
     }
     let key = modified_key(alloc, count, tokens)?;
     Ok(Taken {
@@ -124,7 +124,7 @@ fn read_form(
     spot: Spot,
     lead: Lead,
     tokens: LineTokens<'_>,
-) -> Result<Taken, Trouble>
+) -> Result<Taken, LineError>
     requires { spot.at + 1 + length (texts tokens) < 2 ^ 62 }
     ensures read { Reads (read_form spot.place spot.seen spot.last spot.at lead (texts tokens.entry)) result }
     ensures few { IfOk result (λ taken. taken.more ≤ length (texts tokens.entry) + 5) }
@@ -141,7 +141,11 @@ fn read_form(
 
 /// One item, which tokens begin with.
 #[tactic(auto, unfolding(crate::specs::Item::read_item))]
-pub(crate) fn read_item(alloc: Global, spot: Spot, tokens: LineTokens<'_>) -> Result<Taken, Trouble>
+pub(crate) fn read_item(
+    alloc: Global,
+    spot: Spot,
+    tokens: LineTokens<'_>,
+) -> Result<Taken, LineError>
     requires { spot.at + 1 + length (texts tokens) < 2 ^ 62 }
     ensures read { Reads (read_item spot.place spot.seen spot.last spot.at (texts tokens.entry)) result }
     ensures few { IfOk result (λ taken. taken.more ≤ length (texts tokens.entry) + 5) }

@@ -4,7 +4,7 @@ ghost use Rattle.kmn_items.specs.Item.{unseen, is_item_word, read_items, read_ke
 
 use crate::item::{Spot, read_item, refused};
 use crate::numbers::is_number_word;
-use crate::syntax::{Seen, Trouble, Where};
+use crate::syntax::{LineError, Seen, Where};
 use crate::text::LineTokens;
 use crate::words::item_word;
 use kmn_base::{Code, Memory, Seq};
@@ -45,7 +45,7 @@ pub fn read_items(
     last: usize,
     at: usize,
     tokens: LineTokens<'_>,
-) -> Result<Seq<SrcItem>, Trouble>
+) -> Result<Seq<SrcItem>, LineError>
     requires { at + length (texts tokens) < 2 ^ 60 }
     ensures { Reads (read_items place unseen last 0 at (texts tokens.entry)) result }
 {
@@ -76,7 +76,7 @@ pub fn read_key(
     last: usize,
     at: usize,
     tokens: LineTokens<'_>,
-) -> Result<SrcItem, Trouble>
+) -> Result<SrcItem, LineError>
     requires { at + length (texts tokens) < 2 ^ 60 }
     ensures { Reads (read_key last at (texts tokens.entry)) result }
 {

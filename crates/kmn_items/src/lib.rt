@@ -4,8 +4,9 @@
 //! It stands on `kmn_lines` for the kinds of tokens, `virtual_keys` for the names of keys, and `rule_model` for the items.
 //! `specs/Item` says what items tokens stand for, by four questions: what its first token says of an item
 //! (`specs/Leads`), whether that may stand there (`specs/Standing`), which form it has (`specs/Forms`, `specs/Slots`), and
-//! what the form stands for. The layer above calls `read_items` for a section, `read_key` for a key and `broken` for a
-//! form of its own; `laws` says that items take up their tokens.
+//! what the form stands for in its section: `layer` sets the layer in an output and asks for it in a context, and the name
+//! behind `&` of `if` and `set` is looked up among the system options. The layer above calls `read_items` for a section,
+//! `read_key` for a key and `broken` for a form of its own; `laws` says that items take up their tokens.
 #![tactic(auto)]
 
 mod brackets;
@@ -23,6 +24,6 @@ mod words;
 
 pub use items::{is_item_word, read_items, read_key};
 pub use slots::broken;
-pub use syntax::{Fault, ItemWord, Lead, Seen, Slot, Taken, Trouble, Where};
+pub use syntax::{ItemWord, Lead, LineError, Seen, Slot, Taken, TokenRefusal, Where};
 pub use text::{LineTokens, begins_open, text_in};
 pub use words::{bare_name, is_name, is_own_key, is_system_name};

@@ -3,7 +3,7 @@ ghost use Rattle.kmn_items.specs.TokenTexts.{texts, with_text};
 ghost use Rattle.kmn_items.specs.Slots.{unless, offset_fault, slot_fault, cut_code, broken};
 
 use crate::numbers::is_offset;
-use crate::syntax::{Fault, Slot};
+use crate::syntax::{Slot, TokenRefusal};
 use crate::text::{LineTokens, is_wordy, text_in};
 use crate::words::{bare_name, is_key_name, is_name};
 use kmn_base::Code;
@@ -91,18 +91,23 @@ fn cut_code(slot: Slot) -> Code
 
 /// The first token that breaks a form. `at` is the place of the first token in the line and `last` that of the line's
 /// last token, where a form breaks off at the latest.
-pub fn broken(last: usize, at: usize, slots: &[Slot], tokens: LineTokens<'_>) -> Option<Fault>
+pub fn broken(
+    last: usize,
+    at: usize,
+    slots: &[Slot],
+    tokens: LineTokens<'_>,
+) -> Option<TokenRefusal>
     requires { at + length (texts tokens) < 2 ^ 62 }
     ensures { result ≡ broken last at slots.now (texts tokens.entry) }
 {
     match (slots, tokens.tokens) {
         ([], _) => None,
-        ([slot, ..], []) => Some(Fault {
+        ([slot, ..], []) => Some(TokenRefusal {
             at: at.min(last),
             code: cut_code(*slot),
         }),
         ([slot, slots @ ..], [token, ..]) => match slot_fault(tokens.source, *slot, *token) {
-            Some(code) => Some(Fault { at, code }),
+            Some(code) => Some(TokenRefusal { at, code }),
             None => broken(last, at + 1, slots, tokens.behind(1)),
         },
     }

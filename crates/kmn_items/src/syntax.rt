@@ -6,25 +6,25 @@ use rule_model::SrcItem;
 /// The first token of a line that breaks the grammar, and the rule that it breaks. `at` counts the line's tokens
 /// before it.
 #[derive(Clone, Copy, Debug, PartialEq, Eq)]
-pub struct Fault {
+pub struct TokenRefusal {
     pub at: usize,
     pub code: Code,
 }
 
 /// Why a line could not be read.
 #[derive(Clone, Copy, Debug, PartialEq, Eq)]
-pub enum Trouble {
-    Broken(Fault),
-    NoMemory,
+pub enum LineError {
+    Refused(TokenRefusal),
+    Memory,
 }
 
-impl From<Memory> for Trouble {
-    ghost use Rattle.kmn_items.specs.declared.syntax.Trouble.TheVariants as trouble;
+impl From<Memory> for LineError {
+    ghost use Rattle.kmn_items.specs.declared.syntax.LineError.TheVariants as variants;
 
-    ghost from_gives = { λ error given. given ≡ trouble.NoMemory };
+    ghost from_gives = { λ error given. given ≡ variants.Memory };
 
-    fn from(_error: Memory) -> Trouble {
-        Trouble::NoMemory
+    fn from(_error: Memory) -> LineError {
+        LineError::Memory
     }
 }
 

@@ -16,7 +16,7 @@ use Rattle.kmn_lines.specs.Tokens.{has_forbidden}
 use Rattle.rule_model.specs.declared.program.KeyName.{KeyName}
 use Rattle.rule_model.specs.declared.program.SrcItem.{SrcItem}
 use Rattle.rule_model.specs.declared.program.SrcItem.TheVariants as source
-use Rattle.kmn_items.specs.declared.syntax.Fault.{Fault}
+use Rattle.kmn_items.specs.declared.syntax.TokenRefusal.{TokenRefusal}
 use Rattle.kmn_items.specs.declared.syntax.Where.{Where}
 use Rattle.kmn_items.specs.declared.syntax.Where.TheVariants as section
 use Rattle.kmn_items.specs.declared.syntax.Seen.{Seen}
@@ -28,19 +28,19 @@ use Rattle.kmn_items.specs.declared.syntax.ItemWord.TheVariants as word
 use Rattle.kmn_items.specs.declared.syntax.Taken.{Taken}
 use Rattle.kmn_base.specs.Answers.{and_then}
 use Rattle.kmn_items.specs.TokenTexts.{LineToken, fault, text_at, inside, quoted, begins_open, is_word}
-use Rattle.kmn_items.specs.Words.{is_system_name, item_word, is_key_name}
+use Rattle.kmn_items.specs.Words.{is_system_name, bare_name, item_word, is_key_name}
 use Rattle.kmn_items.specs.Numbers.{character_lead, digits_lead, number_base, number_digits}
 use Rattle.kmn_base.specs.Digits.{bounded_value}
 use Rattle.kmn_items.specs.Slots.{unless, or_fault, broken}
 use Rattle.kmn_items.specs.Leads.{named_lead, word_lead, token_lead, lead_of}
 use Rattle.kmn_items.specs.Standing.{standing_code, is_crowded}
-use Rattle.kmn_items.specs.Forms.{word_slots, condition, equal_at, word_item}
+use Rattle.kmn_items.specs.Forms.{word_slots, option_ids, option_id, is_option_id, system_condition, condition, system_setting, setting, layer_item, equal_at, word_item}
 use Rattle.kmn_items.specs.Brackets.{flags_of, named_key, key_item, modifier_count}
 use Rattle.kmn_items.specs.Item.{unseen, formed, read_word, read_quoted, read_bracket, read_led, read_item, prepend, then_items, read_items, last_item, read_key}
 use Rattle.kmn_parser.specs.ProgramLaws.{IsCharacter, IsReadKey, IsReadItem, StandsAsKey}
 use Rattle.kmn_parser.proofs.CleanTexts.{clean-take, clean-drop, clean-characters}
 use Rattle.kmn_parser.proofs.SoundTokens.{IsSoundKind, IsSoundToken}
-use Rattle.kmn_parser.proofs.SoundKeys.{key-read}
+use Rattle.kmn_parser.proofs.SoundKeys.{row-found, key-read}
 
 -- a text in UTF-8 without U+0000 and U+FFFF
 pub record IsClean (text : List ℕ) : Type 0 where
@@ -115,14 +115,14 @@ pub record IsReadIn (place : Where) (item : SrcItem) : Type 0 where
   pub itself : IsReadItem item
   pub stands : StandsIn place item
 
-abbrev ItemsRead : Where → Result Taken Fault → Type 0
+abbrev ItemsRead : Where → Result Taken TokenRefusal → Type 0
 ItemsRead place (Ok taken) = All (IsReadIn place) taken.items
 ItemsRead place (Err found) = Unit {0}
 
 one-item : (place : Where) (item : SrcItem) → IsReadIn place item → All (IsReadIn place) (item ∷ [])
 one-item place item read = All-cons (IsReadIn place) item [] read (All-nil (IsReadIn place))
 
-formed-read : (place : Where) (found : Option Fault) (taken : Taken) → (found ≡ None → All (IsReadIn place) taken.items) → ItemsRead place (formed found taken)
+formed-read : (place : Where) (found : Option TokenRefusal) (taken : Taken) → (found ≡ None → All (IsReadIn place) taken.items) → ItemsRead place (formed found taken)
 formed-read place None taken read = read refl
 formed-read place (Some found) taken read = tt
 
@@ -140,20 +140,48 @@ quoted-read place seen at characters sound =
     cond_both (is_crowded place seen (length characters)) _ _ (ItemsRead place) (λ e. tt)
     (λ e. All-map (IsReadIn place) source.Char characters (λ k d l. character-read place _ (sound k d l)))
 
+-- the id of a system option that a name is found to have
+option-known : (name : List ℕ) (id : ℕ) → option_id name ≡ Some id → is_option_id id ≡ true
+unfolding option_ids
+option-known name id found = row-found is_option_id option_ids (bare_name name) id found refl
+
+system_condition-read : (found : Option ℕ) (equal : Bool) (value : List ℕ) → ((id : ℕ) → found ≡ Some id → is_option_id id ≡ true) → All IsCharacter value
+    → IsReadItem (system_condition found equal value)
+system_condition-read None equal value known sound = tt
+system_condition-read (Some id) equal value known sound =
+    cond_both equal _ _ IsReadItem (λ e. (known id refl, sound)) (λ e. (known id refl, sound))
+
 condition-read : (name : List ℕ) (equal : Bool) (value : List ℕ) → All IsCharacter value → IsReadItem (condition name equal value)
 condition-read name equal value sound =
-    cond_both (is_system_name name) _ _ IsReadItem (λ e. tt) (λ e. cond_both equal _ _ IsReadItem (λ f. sound) (λ f. sound))
+    cond_both (is_system_name name) _ _ IsReadItem
+    (λ e. system_condition-read (option_id name) equal value (option-known name) sound)
+    (λ e. cond_both equal _ _ IsReadItem (λ f. sound) (λ f. sound))
+
+system_setting-read : (found : Option ℕ) (value : List ℕ) → All IsCharacter value → IsReadItem (system_setting found value)
+system_setting-read None value sound = tt
+system_setting-read (Some id) value sound = cond_both (nat_eq id 33) _ _ IsReadItem (λ e. (e, sound)) (λ e. tt)
+
+setting-read : (name value : List ℕ) → All IsCharacter value → IsReadItem (setting name value)
+setting-read name value sound =
+    cond_both (is_system_name name) _ _ IsReadItem (λ e. system_setting-read (option_id name) value sound) (λ e. sound)
+
+layer-read : (place : Where) (value : List ℕ) → All IsCharacter value → IsReadItem (layer_item place value)
+layer-read section.Output value sound = (refl, sound)
+layer-read section.Store value sound = (refl, sound)
+layer-read section.Context value sound = (refl, sound)
+layer-read section.Key value sound = (refl, sound)
 
 value-read : (place : ℕ) (tokens : List LineToken) → All IsSoundToken tokens → All IsCharacter (quoted (text_at place tokens))
 value-read place tokens sound = quoted-characters (text_at place tokens) (text-clean place tokens sound)
 
-word-read : (named : ItemWord) (tokens : List LineToken) → All IsSoundToken tokens → IsReadItem (word_item named tokens)
-word-read word.If tokens sound = condition-read (text_at 2 tokens) (equal_at 3 tokens) (quoted (text_at 4 tokens)) (value-read 4 tokens sound)
-word-read word.Set tokens sound =
-    cond_both (is_system_name (text_at 2 tokens)) _ _ IsReadItem (λ e. tt) (λ e. value-read 4 tokens sound)
-word-read other tokens sound = tt
+word-read : (place : Where) (named : ItemWord) (tokens : List LineToken) → All IsSoundToken tokens → IsReadItem (word_item place named tokens)
+word-read place word.If tokens sound = condition-read (text_at 2 tokens) (equal_at 3 tokens) (quoted (text_at 4 tokens)) (value-read 4 tokens sound)
+word-read place word.Set tokens sound = setting-read (text_at 2 tokens) (quoted (text_at 4 tokens)) (value-read 4 tokens sound)
+word-read place word.Layer tokens sound = layer-read place (quoted (text_at 2 tokens)) (value-read 2 tokens sound)
+word-read place word.Platform tokens sound = (refl, value-read 2 tokens sound)
+word-read place other tokens sound = tt
 
-either-led : (place : Where) (test : Bool) (code other : Option Code) (at : ℕ) (read : Result Taken Fault) → ItemsRead place read
+either-led : (place : Where) (test : Bool) (code other : Option Code) (at : ℕ) (read : Result Taken TokenRefusal) → ItemsRead place read
     → ItemsRead place (elim (if test then code else other) [ Some c ↦ Err (fault at c) | None ↦ read ])
 either-led place true None other at read items = items
 either-led place true (Some c) other at read items = tt
@@ -161,19 +189,19 @@ either-led place false code None at read items = items
 either-led place false code (Some c) at read items = tt
 
 item-of-word : (place : Where) (seen : Seen) (last at : ℕ) (named : ItemWord) (tokens : List LineToken) → All IsSoundToken tokens
-    → StandsIn place (word_item named tokens) → ItemsRead place (read_word seen last at named tokens)
+    → StandsIn place (word_item place named tokens) → ItemsRead place (read_word place seen last at named tokens)
 item-of-word place seen last at named tokens sound stands =
     formed-read place (broken last at (word_slots named) tokens) _
-    (λ e. one-item place (word_item named tokens) (record { itself = word-read named tokens sound; stands = stands }))
+    (λ e. one-item place (word_item place named tokens) (record { itself = word-read place named tokens sound; stands = stands }))
 
 -- of the words, `any` alone stands as a key
 key-of-word : (seen : Seen) (last at : ℕ) (named : ItemWord) (tokens : List LineToken) → All IsSoundToken tokens
     → ItemsRead section.Key (read_led section.Key seen last at (lead.Named named) tokens)
 key-of-word seen last at word.Any tokens sound =
-    either-led section.Key seen.pattern (Some S05) None at (read_word seen last at word.Any tokens) (item-of-word section.Key seen last at word.Any tokens sound tt)
+    either-led section.Key seen.pattern (Some S05) None at (read_word section.Key seen last at word.Any tokens) (item-of-word section.Key seen last at word.Any tokens sound tt)
 key-of-word seen last at other tokens sound = tt
 
-led-if : (place : Where) (code : Option Code) (at : ℕ) (read : Result Taken Fault) → ItemsRead place read
+led-if : (place : Where) (code : Option Code) (at : ℕ) (read : Result Taken TokenRefusal) → ItemsRead place read
     → ItemsRead place (elim code [ Some c ↦ Err (fault at c) | None ↦ read ])
 led-if place None at read items = items
 led-if place (Some c) at read items = tt
@@ -194,7 +222,7 @@ key_item-read section.Store key read = record { itself = read; stands = tt }
 key_item-read section.Context key read = record { itself = read; stands = tt }
 key_item-read section.Output key read = record { itself = tt; stands = tt }
 
-pub no-fault : (at : ℕ) (test : Bool) (code : Code) (later : Option Fault) → or_fault at (unless test code) later ≡ None → test ≡ true
+pub no-fault : (at : ℕ) (test : Bool) (code : Code) (later : Option TokenRefusal) → or_fault at (unless test code) later ≡ None → test ≡ true
 no-fault at true code later e = refl
 no-fault at false code later e = cc
 
@@ -240,15 +268,15 @@ unfolding read_item
 item-read place seen last at tokens sound = led-read place seen last at (lead_of tokens) tokens sound (lead-sound tokens sound)
 
 -- items, if they are such, are read in a section
-abbrev pub AllRead : Where → Result (List SrcItem) Fault → Type 0
+abbrev pub AllRead : Where → Result (List SrcItem) TokenRefusal → Type 0
 AllRead place (Ok items) = All (IsReadIn place) items
 AllRead place (Err found) = Unit {0}
 
-prepend-read : (place : Where) (items : List SrcItem) (rest : Result (List SrcItem) Fault) → All (IsReadIn place) items → AllRead place rest → AllRead place (prepend items rest)
+prepend-read : (place : Where) (items : List SrcItem) (rest : Result (List SrcItem) TokenRefusal) → All (IsReadIn place) items → AllRead place rest → AllRead place (prepend items rest)
 prepend-read place items (Ok more) here read = All-append (IsReadIn place) items more here read
 prepend-read place items (Err found) here read = tt
 
-then-read : (place : Where) (first : Result Taken Fault) (more : Taken → Result (List SrcItem) Fault) → ItemsRead place first
+then-read : (place : Where) (first : Result Taken TokenRefusal) (more : Taken → Result (List SrcItem) TokenRefusal) → ItemsRead place first
     → ((taken : Taken) → AllRead place (more taken)) → AllRead place (then_items first more)
 then-read place (Ok taken) more here rest = prepend-read place taken.items (more taken) here (rest taken)
 then-read place (Err found) more here rest = tt
@@ -264,16 +292,16 @@ items-read place seen last zero at (token ∷ tokens) sound =
     (λ taken. items-read place taken.seen last taken.more (at + 1) tokens (All-tail IsSoundToken token tokens sound))
 
 -- an item, if it is one, stands as a key
-abbrev pub KeyRead : Result SrcItem Fault → Type 0
+abbrev pub KeyRead : Result SrcItem TokenRefusal → Type 0
 KeyRead (Ok item) = IsReadIn section.Key item
 KeyRead (Err found) = Unit {0}
 
-last-read : (none : Fault) (items : List SrcItem) → All (IsReadIn section.Key) items → KeyRead (last_item none items)
+last-read : (none : TokenRefusal) (items : List SrcItem) → All (IsReadIn section.Key) items → KeyRead (last_item none items)
 last-read none [] read = tt
 last-read none (item ∷ []) read = All-head (IsReadIn section.Key) item [] read
 last-read none (item ∷ next ∷ items) read = last-read none (next ∷ items) (All-tail (IsReadIn section.Key) item (next ∷ items) read)
 
-then-key : (none : Fault) (items : Result (List SrcItem) Fault) → AllRead section.Key items → KeyRead (and_then items (last_item none))
+then-key : (none : TokenRefusal) (items : Result (List SrcItem) TokenRefusal) → AllRead section.Key items → KeyRead (and_then items (last_item none))
 then-key none (Ok items) read = last-read none items read
 then-key none (Err found) read = tt
 

@@ -16,7 +16,7 @@ use Rattle.kmn_lines.proofs.TextLines.{tokens_are_text}
 use Rattle.rule_model.specs.declared.program.RuleDef.{RuleDef}
 use Rattle.rule_model.specs.declared.program.GroupDef.{GroupDef}
 use Rattle.rule_model.specs.declared.program.Program.{Program}
-use Rattle.kmn_items.specs.declared.syntax.Fault.{Fault}
+use Rattle.kmn_items.specs.declared.syntax.TokenRefusal.{TokenRefusal}
 use Rattle.kmn_parser.specs.declared.statement.LastGroup.{LastGroup}
 use Rattle.kmn_parser.specs.declared.statement.LastGroup.TheVariants.{Missing}
 use Rattle.kmn_parser.specs.declared.statement.Statement.{Statement}
@@ -132,7 +132,7 @@ abbrev LineRead : LastGroup → Result Statement Refusal → Type 0
 LineRead group (Ok stated) = IsReadStatement group stated
 LineRead group (Err found) = Unit {0}
 
-at_line-read : (group : LastGroup) (line : ℕ) (read : Result Statement Fault) → StatementRead group read → LineRead group (at_line line read)
+at_line-read : (group : LastGroup) (line : ℕ) (read : Result Statement TokenRefusal) → StatementRead group read → LineRead group (at_line line read)
 at_line-read group line (Ok stated) read = read
 at_line-read group line (Err found) read = tt
 

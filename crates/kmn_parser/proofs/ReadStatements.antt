@@ -11,7 +11,7 @@ use Rattle.rule_model.specs.declared.program.SrcItem.{SrcItem}
 use Rattle.rule_model.specs.declared.program.RuleDef.{RuleDef}
 use Rattle.rule_model.specs.declared.program.RuleKind.{RuleKind}
 use Rattle.rule_model.specs.declared.program.RuleKind.TheVariants.{Plain, OnMatch, OnNoMatch}
-use Rattle.kmn_items.specs.declared.syntax.Fault.{Fault}
+use Rattle.kmn_items.specs.declared.syntax.TokenRefusal.{TokenRefusal}
 use Rattle.kmn_items.specs.declared.syntax.Slot.{Slot}
 use Rattle.kmn_items.specs.declared.syntax.Slot.TheVariants as slot
 use Rattle.kmn_items.specs.declared.syntax.Where.{Where}
@@ -81,20 +81,20 @@ IsReadStatement group (statement.Begin start) = IsReadBegin start
 IsReadStatement group (statement.Group opened) = IsLine opened.line × IsName opened.name × (opened.rules ≡ [])
 IsReadStatement group (statement.Rule rule) = (using_keys : Bool) × (group ≡ last_group using_keys) × IsReadRule using_keys rule
 
-abbrev pub StatementRead : LastGroup → Result Statement Fault → Type 0
+abbrev pub StatementRead : LastGroup → Result Statement TokenRefusal → Type 0
 StatementRead group (Ok stated) = IsReadStatement group stated
 StatementRead group (Err found) = Unit {0}
 
-checked-read : (group : LastGroup) (found : Option Fault) (read : Result Statement Fault) → (found ≡ None → StatementRead group read) → StatementRead group (checked found read)
+checked-read : (group : LastGroup) (found : Option TokenRefusal) (read : Result Statement TokenRefusal) → (found ≡ None → StatementRead group read) → StatementRead group (checked found read)
 checked-read group None read whole = whole refl
 checked-read group (Some found) read whole = tt
 
-then-read : (group : LastGroup) (place : Where) (items : Result (List SrcItem) Fault) (next : List SrcItem → Result Statement Fault) → AllRead place items
+then-read : (group : LastGroup) (place : Where) (items : Result (List SrcItem) TokenRefusal) (next : List SrcItem → Result Statement TokenRefusal) → AllRead place items
     → ((xs : List SrcItem) → All IsReadItem xs → StatementRead group (next xs)) → StatementRead group (and_then items next)
 then-read group place (Ok items) next read more = more items (section-read place items read)
 then-read group place (Err found) next read more = tt
 
-pub first-none : (head : Option Code) (later : Option Fault) → first_of head later ≡ None → (head ≡ None) × (later ≡ None)
+pub first-none : (head : Option Code) (later : Option TokenRefusal) → first_of head later ≡ None → (head ≡ None) × (later ≡ None)
 first-none None later e = (refl, e)
 first-none (Some head) later e = cc
 
@@ -229,11 +229,11 @@ match-line kind group line last tokens other placed sound =
     (λ output read. (uses_keys group, opened, bare-rule (uses_keys group) line kind output placed other read)))
 
 -- the key of a rule, which stands there exactly behind a +, and only in a group with keys
-abbrev RuleKeyRead : Bool → Bool → Result (Option SrcItem) Fault → Type 0
+abbrev RuleKeyRead : Bool → Bool → Result (Option SrcItem) TokenRefusal → Type 0
 RuleKeyRead using_keys plus (Ok key) = IfSome key (λ item. StandsAsKey item × IsReadItem item) × (is_some key ≡ plus) × (plus ≡ true → using_keys ≡ true)
 RuleKeyRead using_keys plus (Err found) = Unit {0}
 
-key-if : (using_keys plus : Bool) (read : Result SrcItem Fault) (wrong : Fault) → KeyRead read
+key-if : (using_keys plus : Bool) (read : Result SrcItem TokenRefusal) (wrong : TokenRefusal) → KeyRead read
     → RuleKeyRead using_keys plus (if not plus then Ok None else (if using_keys then and_then read (λ key. Ok (Some key)) else Err wrong))
 key-if using_keys false read wrong known = (tt, refl, λ e. cc)
 key-if false true read wrong known = tt
@@ -250,11 +250,11 @@ record IsPlainRule (using_keys plus : Bool) (line : ℕ) (rule : RuleDef) : Type
   keyed : is_some rule.key ≡ plus
   keys : plus ≡ true → using_keys ≡ true
 
-abbrev BodyRead : Bool → Bool → ℕ → Result RuleDef Fault → Type 0
+abbrev BodyRead : Bool → Bool → ℕ → Result RuleDef TokenRefusal → Type 0
 BodyRead using_keys plus line (Ok rule) = IsPlainRule using_keys plus line rule
 BodyRead using_keys plus line (Err found) = Unit {0}
 
-body-of : (using_keys plus : Bool) (line : ℕ) (contexts : Result (List SrcItem) Fault) (keys : Result (Option SrcItem) Fault) (outputs : Result (List SrcItem) Fault)
+body-of : (using_keys plus : Bool) (line : ℕ) (contexts : Result (List SrcItem) TokenRefusal) (keys : Result (Option SrcItem) TokenRefusal) (outputs : Result (List SrcItem) TokenRefusal)
     → AllRead section.Context contexts → RuleKeyRead using_keys plus keys → AllRead section.Output outputs
     → BodyRead using_keys plus line (and_then contexts (λ context. and_then keys (λ key. and_then outputs (λ output. Ok (record { line = line; kind = Plain; context = context; key = key; output = output })))))
 body-of using_keys plus line (Err found) keys outputs c k o = tt
@@ -301,7 +301,7 @@ rule-of using_keys plus line rule placed needed read = record {
 abbrev IsReadHead : LastGroup → Bool → Type 0
 IsReadHead group plus = (group ≡ last_group (uses_keys group)) × ((not (uses_keys group) || plus) ≡ true)
 
-earliest-read : (group : LastGroup) (plus : Bool) (line : ℕ) (head : Option Code) (body : Result RuleDef Fault) → IsLine line → (head ≡ None → IsReadHead group plus)
+earliest-read : (group : LastGroup) (plus : Bool) (line : ℕ) (head : Option Code) (body : Result RuleDef TokenRefusal) → IsLine line → (head ≡ None → IsReadHead group plus)
     → BodyRead (uses_keys group) plus line body → StatementRead group (earliest head body)
 earliest-read group plus line None (Ok rule) placed opened read =
     let both = opened refl in (uses_keys group, both.0, rule-of (uses_keys group) plus line rule placed both.1 read)
@@ -330,7 +330,7 @@ rule-read group line last tokens placed sound =
 
 tokens-read : (group : LastGroup) (line last : ℕ) (tokens : List LineToken) → IsLine line → All IsSoundToken tokens → StatementRead group (read_tokens group line last tokens)
 tokens-read group line last tokens placed sound =
-    let P : Result Statement Fault → Type 0 = StatementRead group in
+    let P : Result Statement TokenRefusal → Type 0 = StatementRead group in
     cond_both (begins_word (codes "store") tokens) _ _ P (λ e. store-line group line last tokens placed sound)
     (λ e. cond_both (begins_word (codes "begin") tokens) _ _ P (λ f. begin-line group line last tokens placed sound)
     (λ f. cond_both (begins_word (codes "group") tokens) _ _ P (λ g. group-line group line last tokens placed sound)

@@ -21,7 +21,7 @@ use Rattle.rule_model.specs.declared.program.RuleDef.{RuleDef}
 use Rattle.rule_model.specs.declared.program.GroupDef.{GroupDef}
 use Rattle.rule_model.specs.declared.program.Program.{Program}
 use Rattle.rule_model.specs.OwnLines.{have_own_lines}
-use Rattle.kmn_items.specs.declared.syntax.Fault.{Fault}
+use Rattle.kmn_items.specs.declared.syntax.TokenRefusal.{TokenRefusal}
 use Rattle.kmn_parser.specs.declared.statement.LastGroup.{LastGroup}
 use Rattle.kmn_parser.specs.declared.statement.LastGroup.TheVariants.{Missing}
 use Rattle.kmn_parser.specs.declared.statement.Statement.{Statement}
@@ -306,7 +306,7 @@ abbrev pub AnswersAt : ℕ → Result Statement Refusal → Type 0
 AnswersAt n (Ok stated) = StandsAt n stated
 AnswersAt n (Err found) = Unit {0}
 
-pub at_line-at : (n line : ℕ) (read : Result Statement Fault) → ReadsAt n read → AnswersAt n (at_line line read)
+pub at_line-at : (n line : ℕ) (read : Result Statement TokenRefusal) → ReadsAt n read → AnswersAt n (at_line line read)
 at_line-at n line (Ok stated) at = at
 at_line-at n line (Err found) at = tt
 

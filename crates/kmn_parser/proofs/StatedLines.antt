@@ -5,7 +5,7 @@ use Rattle.rule_model.specs.declared.program.SrcItem.{SrcItem}
 use Rattle.rule_model.specs.declared.program.RuleDef.{RuleDef}
 use Rattle.rule_model.specs.declared.program.RuleKind.{RuleKind}
 use Rattle.rule_model.specs.declared.program.RuleKind.TheVariants.{Plain, OnMatch, OnNoMatch}
-use Rattle.kmn_items.specs.declared.syntax.Fault.{Fault}
+use Rattle.kmn_items.specs.declared.syntax.TokenRefusal.{TokenRefusal}
 use Rattle.kmn_items.specs.declared.syntax.Where.TheVariants as section
 use Rattle.kmn_parser.specs.declared.statement.Sign.TheVariants as sign
 use Rattle.kmn_parser.specs.declared.statement.LastGroup.{LastGroup}
@@ -18,31 +18,31 @@ use Rattle.kmn_parser.specs.Line.{place_of, begins_word, behind_close, is_none_l
 use Rattle.kmn_parser.specs.SourceLaws.{StandsAt}
 
 -- what is read, if anything, has a number
-abbrev pub ReadsAt : ℕ → Result Statement Fault → Type 0
+abbrev pub ReadsAt : ℕ → Result Statement TokenRefusal → Type 0
 ReadsAt line (Ok read) = StandsAt line read
 ReadsAt line (Err found) = Unit {0}
 
-abbrev pub RuleAt : ℕ → Result RuleDef Fault → Type 0
+abbrev pub RuleAt : ℕ → Result RuleDef TokenRefusal → Type 0
 RuleAt line (Ok rule) = rule.line ≡ line
 RuleAt line (Err found) = Unit {0}
 
-pub checked-at : (line : ℕ) (found : Option Fault) (read : Result Statement Fault) → ReadsAt line read → ReadsAt line (checked found read)
+pub checked-at : (line : ℕ) (found : Option TokenRefusal) (read : Result Statement TokenRefusal) → ReadsAt line read → ReadsAt line (checked found read)
 checked-at line None read at = at
 checked-at line (Some f) read at = tt
 
-pub then-at : {A : Type 0} (line : ℕ) (first : Result A Fault) (next : A → Result Statement Fault) → ((x : A) → ReadsAt line (next x)) → ReadsAt line (and_then first next)
+pub then-at : {A : Type 0} (line : ℕ) (first : Result A TokenRefusal) (next : A → Result Statement TokenRefusal) → ((x : A) → ReadsAt line (next x)) → ReadsAt line (and_then first next)
 then-at line (Ok x) next at = at x
 then-at line (Err f) next at = tt
 
-pub rule_then-at : {A : Type 0} (line : ℕ) (first : Result A Fault) (next : A → Result RuleDef Fault) → ((x : A) → RuleAt line (next x)) → RuleAt line (and_then first next)
+pub rule_then-at : {A : Type 0} (line : ℕ) (first : Result A TokenRefusal) (next : A → Result RuleDef TokenRefusal) → ((x : A) → RuleAt line (next x)) → RuleAt line (and_then first next)
 rule_then-at line (Ok x) next at = at x
 rule_then-at line (Err f) next at = tt
 
-pub if-at : (line : ℕ) (test : Bool) (a b : Result Statement Fault) → ReadsAt line a → ReadsAt line b → ReadsAt line (if test then a else b)
+pub if-at : (line : ℕ) (test : Bool) (a b : Result Statement TokenRefusal) → ReadsAt line a → ReadsAt line b → ReadsAt line (if test then a else b)
 if-at line true a b x y = x
 if-at line false a b x y = y
 
-abbrev store_items : ℕ → ℕ → List LineToken → Result Statement Fault
+abbrev store_items : ℕ → ℕ → List LineToken → Result Statement TokenRefusal
 store_items line last tokens =
     and_then (read_items section.Store unseen last 0 4 (drop 4 tokens)) (λ items. Ok (statement.Store (store_def line (text_at 2 tokens) items)))
 
@@ -52,7 +52,7 @@ store-at line last tokens =
     checked-at line (store_fault last tokens) (store_items line last tokens)
     (then-at line (read_items section.Store unseen last 0 4 (drop 4 tokens)) (λ items. Ok (statement.Store (store_def line (text_at 2 tokens) items))) (λ items. refl))
 
-abbrev begin_of : ℕ → List LineToken → Result Statement Fault
+abbrev begin_of : ℕ → List LineToken → Result Statement TokenRefusal
 begin_of line tokens =
     Ok (statement.Begin (record { line = line; unicode = begins_word (codes "Unicode") (drop 1 tokens); group = text_at 5 tokens }))
 
@@ -60,7 +60,7 @@ pub begin-at : (line last : ℕ) (tokens : List LineToken) → ReadsAt line (rea
 unfolding read_begin
 begin-at line last tokens = checked-at line (begin_fault last tokens) (begin_of line tokens) refl
 
-abbrev group_of : ℕ → List LineToken → Result Statement Fault
+abbrev group_of : ℕ → List LineToken → Result Statement TokenRefusal
 group_of line tokens =
     Ok (statement.Group (record { line = line; name = text_at 2 tokens; using_keys = is_using_keys (behind_close (drop 2 tokens)); rules = [] }))
 
@@ -68,7 +68,7 @@ pub group-at : (line last : ℕ) (tokens : List LineToken) → ReadsAt line (rea
 unfolding read_group
 group-at line last tokens = checked-at line (group_fault last tokens) (group_of line tokens) (refl, refl)
 
-abbrev match_of : RuleKind → ℕ → List SrcItem → Result Statement Fault
+abbrev match_of : RuleKind → ℕ → List SrcItem → Result Statement TokenRefusal
 match_of kind line output = Ok (statement.Rule (record { line = line; kind = kind; context = []; key = None; output = output }))
 
 pub match-at : (kind : RuleKind) (group : LastGroup) (line last : ℕ) (tokens : List LineToken) → ReadsAt line (read_match kind group line last tokens)
@@ -78,7 +78,7 @@ match-at kind group line last tokens =
     checked-at line (match_fault group (place_of sign.Arrow tokens) tokens) (and_then items (match_of kind line))
     (then-at line items (match_of kind line) (λ output. refl))
 
-abbrev rule_of : ℕ → List SrcItem → Option SrcItem → List SrcItem → Result RuleDef Fault
+abbrev rule_of : ℕ → List SrcItem → Option SrcItem → List SrcItem → Result RuleDef TokenRefusal
 rule_of line context key output = Ok (record { line = line; kind = Plain; context = context; key = key; output = output })
 
 pub body-at : (group : LastGroup) (line last arrow plus : ℕ) (tokens : List LineToken) → RuleAt line (rule_body group line last arrow plus tokens)
@@ -91,7 +91,7 @@ body-at group line last arrow plus tokens =
     rule_then-at line keys (λ key. and_then outputs (rule_of line context key)) (λ key.
     rule_then-at line outputs (rule_of line context key) (λ output. refl)))
 
-pub earliest-at : (line : ℕ) (head : Option Code) (body : Result RuleDef Fault) → RuleAt line body → ReadsAt line (earliest head body)
+pub earliest-at : (line : ℕ) (head : Option Code) (body : Result RuleDef TokenRefusal) → RuleAt line body → ReadsAt line (earliest head body)
 earliest-at line None (Ok rule) at = at
 earliest-at line None (Err f) at = tt
 earliest-at line (Some head) (Ok rule) at = tt

@@ -16,7 +16,7 @@ use Rattle.rule_model.specs.declared.program.StoreDef.{StoreDef}
 use Rattle.rule_model.specs.declared.program.RuleDef.{RuleDef}
 use Rattle.rule_model.specs.declared.program.RuleKind.{RuleKind}
 use Rattle.rule_model.specs.declared.program.RuleKind.TheVariants.{Plain, OnMatch, OnNoMatch}
-use Rattle.kmn_items.specs.declared.syntax.Fault.{Fault}
+use Rattle.kmn_items.specs.declared.syntax.TokenRefusal.{TokenRefusal}
 use Rattle.kmn_items.specs.declared.syntax.Slot.TheVariants as slot
 use Rattle.kmn_items.specs.declared.syntax.Where.TheVariants as section
 use Rattle.kmn_parser.specs.declared.statement.LastGroup.{LastGroup}
@@ -51,12 +51,12 @@ abbrev pub is_none_left : List LineToken → Bool
 is_none_left tokens = length tokens == 0
 
 -- the fault, or what is read where there is none
-abbrev pub checked : {A : Type 0} → Option Fault → Result A Fault → Result A Fault
+abbrev pub checked : {A : Type 0} → Option TokenRefusal → Result A TokenRefusal → Result A TokenRefusal
 checked (Some found) read = Err found
 checked None read = read
 
 -- a code at the line's first token, else a fault behind it
-abbrev pub first_of : Option Code → Option Fault → Option Fault
+abbrev pub first_of : Option Code → Option TokenRefusal → Option TokenRefusal
 first_of (Some head) later = Some (fault 0 head)
 first_of None later = later
 
@@ -69,7 +69,7 @@ unfoldable pub system_stores : List (List ℕ × ℕ)
 system_stores =
     (codes "bitmap", 1) ∷ (codes "copyright", 2) ∷ (codes "hotkey", 3) ∷ (codes "message", 6) ∷ (codes "name", 7) ∷
     (codes "version", 8) ∷ (codes "mnemoniclayout", 17) ∷ (codes "visualkeyboard", 24) ∷ (codes "layoutfile", 35) ∷
-    (codes "keyboardversion", 36) ∷ (codes "targets", 38) ∷ (codes "casedkeys", 0xFFFE) ∷ (codes "includecodes", 0xFFFE) ∷
+    (codes "keyboardversion", 36) ∷ (codes "targets", 38) ∷ (codes "casedkeys", 39) ∷ (codes "includecodes", 0xFFFE) ∷
     (codes "capsalwaysoff", 0xFFFE) ∷ (codes "capsononly", 0xFFFE) ∷ (codes "shiftfreescaps", 0xFFFE) ∷
     (codes "ethnologuecode", 0xFFFF) ∷ (codes "windowslanguages", 0xFFFF) ∷ (codes "language", 0xFFFF) ∷
     (codes "layout", 0xFFFF) ∷ (codes "languagename", 0xFFFF) ∷ (codes "displaymap", 0xFFFF) ∷ (codes "kmw_rtl", 0xFFFF) ∷
@@ -81,14 +81,14 @@ abbrev pub store_system : List ℕ → Option ℕ
 store_system name = if is_system_name name then named_in system_stores (bare_name name) else Some 0
 
 -- store: a known name and ); that the line breaks off at the name goes before that it isn't known
-abbrev pub store_form : ℕ → List LineToken → Option Fault
+abbrev pub store_form : ℕ → List LineToken → Option TokenRefusal
 store_form last tokens =
     or_else (broken last 2 (slot.StoreName ∷ []) (drop 2 tokens))
     (or_else (option_map (fault 2) (unless (is_none_left (drop 3 tokens) || is_some (store_system (text_at 2 tokens))) code.S12))
     (broken last 3 (slot.Close ∷ []) (drop 3 tokens)))
 
 -- store: a ( behind the word, then the form
-unfoldable pub store_fault : ℕ → List LineToken → Option Fault
+unfoldable pub store_fault : ℕ → List LineToken → Option TokenRefusal
 store_fault last tokens = first_of (unless (begins_open (drop 1 tokens)) code.S01) (store_form last tokens)
 
 -- a store of a name, with its items; only an ordinary one keeps the name
@@ -97,7 +97,7 @@ store_def line name items =
     record { line = line; system = unwrap_or (store_system name) 0; name = if is_system_name name then [] else name; items = items }
 
 -- store ( name ) items, store ( &name ) items
-unfoldable pub read_store : ℕ → ℕ → List LineToken → Result Statement Fault
+unfoldable pub read_store : ℕ → ℕ → List LineToken → Result Statement TokenRefusal
 read_store line last tokens =
     checked (store_fault last tokens)
     (and_then (read_items section.Store unseen last 0 4 (drop 4 tokens))
@@ -117,12 +117,12 @@ begin_head arrow tokens =
     or_else (unless (begins_kind (drop 1 tokens) && is_use (drop (if arrow == 2 then 3 else 2) tokens)) code.S01)
     (unless (arrow == 2) code.S04)
 
-unfoldable pub begin_fault : ℕ → List LineToken → Option Fault
+unfoldable pub begin_fault : ℕ → List LineToken → Option TokenRefusal
 begin_fault last tokens =
     first_of (begin_head (place_of sign.Arrow tokens) tokens) (broken last 5 (slot.Name ∷ slot.Close ∷ []) (drop 5 tokens))
 
 -- begin Unicode > use ( name ), begin ANSI > use ( name )
-unfoldable pub read_begin : ℕ → ℕ → List LineToken → Result Statement Fault
+unfoldable pub read_begin : ℕ → ℕ → List LineToken → Result Statement TokenRefusal
 read_begin line last tokens =
     checked (begin_fault last tokens)
     (Ok (statement.Begin (record { line = line; unicode = begins_word (codes "Unicode") (drop 1 tokens); group = text_at 5 tokens })))
@@ -135,12 +135,12 @@ is_using_keys tokens = begins_word (codes "using") tokens && begins_word (codes 
 abbrev pub group_head : List LineToken → List LineToken → Option Code
 group_head tokens tail = unless (begins_open (drop 1 tokens) && (is_none_left tail || is_using_keys tail)) code.S01
 
-unfoldable pub group_fault : ℕ → List LineToken → Option Fault
+unfoldable pub group_fault : ℕ → List LineToken → Option TokenRefusal
 group_fault last tokens =
     first_of (group_head tokens (behind_close (drop 2 tokens))) (broken last 2 (slot.Name ∷ slot.Close ∷ []) (drop 2 tokens))
 
 -- group ( name ), group ( name ) using keys
-unfoldable pub read_group : ℕ → ℕ → List LineToken → Result Statement Fault
+unfoldable pub read_group : ℕ → ℕ → List LineToken → Result Statement TokenRefusal
 read_group line last tokens =
     checked (group_fault last tokens)
     (Ok (statement.Group (record { line = line; name = text_at 2 tokens; using_keys = is_using_keys (behind_close (drop 2 tokens)); rules = [] })))
@@ -163,12 +163,12 @@ abbrev pub no_output : ℕ → List LineToken → Option Code
 no_output arrow tokens = or_else (unless (nat_lt arrow (length tokens)) code.S04) (unless (has_items (drop (arrow + 1) tokens)) code.S06)
 
 -- match: the > stands right behind the word
-unfoldable pub match_fault : LastGroup → ℕ → List LineToken → Option Fault
+unfoldable pub match_fault : LastGroup → ℕ → List LineToken → Option TokenRefusal
 match_fault group arrow tokens =
     first_of (or_else (no_group group) (no_output arrow tokens)) (option_map (fault 1) (unless (arrow == 1) code.S05))
 
 -- match > output, nomatch > output
-unfoldable pub read_match : RuleKind → LastGroup → ℕ → ℕ → List LineToken → Result Statement Fault
+unfoldable pub read_match : RuleKind → LastGroup → ℕ → ℕ → List LineToken → Result Statement TokenRefusal
 read_match kind group line last tokens =
     checked (match_fault group (place_of sign.Arrow tokens) tokens)
     (and_then (read_items section.Output unseen last 0 2 (drop 2 tokens))
@@ -193,7 +193,7 @@ rule_head group arrow plus tokens =
     (or_else (no_output arrow tokens) (unless (not (uses_keys group) || nat_lt plus arrow) code.S08)))
 
 -- the key, which stands between + and >, in a group with keys alone
-unfoldable pub rule_key : LastGroup → ℕ → ℕ → ℕ → List LineToken → Result (Option SrcItem) Fault
+unfoldable pub rule_key : LastGroup → ℕ → ℕ → ℕ → List LineToken → Result (Option SrcItem) TokenRefusal
 rule_key group last arrow plus tokens =
     if not (nat_lt plus arrow) then Ok None
     else (if uses_keys group
@@ -201,7 +201,7 @@ rule_key group last arrow plus tokens =
     else Err (fault plus code.S07))
 
 -- the items of a rule, section by section
-unfoldable pub rule_body : LastGroup → ℕ → ℕ → ℕ → ℕ → List LineToken → Result RuleDef Fault
+unfoldable pub rule_body : LastGroup → ℕ → ℕ → ℕ → ℕ → List LineToken → Result RuleDef TokenRefusal
 rule_body group line last arrow plus tokens =
     and_then (read_items section.Context unseen last 0 0 (take plus tokens)) (λ context.
     and_then (rule_key group last arrow plus tokens) (λ key.
@@ -213,29 +213,29 @@ abbrev pub is_lesser : Code → Code → Bool
 is_lesser code other = is_lt (slice_cmp nat_cmp (code_text code) (code_text other))
 
 -- the earlier of a code at the first token and a fault: at the first token too the lesser code goes first
-abbrev pub earlier : Code → Fault → Fault
+abbrev pub earlier : Code → TokenRefusal → TokenRefusal
 earlier head found = if (found.at == 0) && is_lesser found.code head then found else fault 0 head
 
 -- what is read, unless a code at the first token comes first
-abbrev pub earliest : Option Code → Result RuleDef Fault → Result Statement Fault
+abbrev pub earliest : Option Code → Result RuleDef TokenRefusal → Result Statement TokenRefusal
 earliest None (Ok rule) = Ok (statement.Rule rule)
 earliest None (Err found) = Err found
 earliest (Some head) (Ok rule) = Err (fault 0 head)
 earliest (Some head) (Err found) = Err (earlier head found)
 
 -- a rule with the first > at a place, and the first + before it at another, which is the first where there is none
-abbrev pub rule_at : LastGroup → ℕ → ℕ → ℕ → ℕ → List LineToken → Result Statement Fault
+abbrev pub rule_at : LastGroup → ℕ → ℕ → ℕ → ℕ → List LineToken → Result Statement TokenRefusal
 rule_at group line last arrow plus tokens =
     earliest (rule_head group arrow plus tokens) (rule_body group line last arrow plus tokens)
 
 -- context + key > output, or context > output in a group without keys
-unfoldable pub read_rule : LastGroup → ℕ → ℕ → List LineToken → Result Statement Fault
+unfoldable pub read_rule : LastGroup → ℕ → ℕ → List LineToken → Result Statement TokenRefusal
 read_rule group line last tokens =
     let arrow = place_of sign.Arrow tokens in
     rule_at group line last arrow (place_of sign.Plus (take arrow tokens)) tokens
 
 -- a line's tokens, of which there is one, by the first word
-abbrev pub read_tokens : LastGroup → ℕ → ℕ → List LineToken → Result Statement Fault
+abbrev pub read_tokens : LastGroup → ℕ → ℕ → List LineToken → Result Statement TokenRefusal
 read_tokens group line last tokens =
     if begins_word (codes "store") tokens then read_store line last tokens
     else (if begins_word (codes "begin") tokens then read_begin line last tokens
@@ -245,6 +245,6 @@ read_tokens group line last tokens =
     else read_rule group line last tokens))))
 
 -- the statement of a line's tokens, behind the last group before the line
-abbrev pub read_line : LastGroup → ℕ → List LineToken → Result Statement Fault
+abbrev pub read_line : LastGroup → ℕ → List LineToken → Result Statement TokenRefusal
 read_line group line tokens =
     if is_none_left tokens then Ok statement.Nothing else read_tokens group line (length tokens - 1) tokens

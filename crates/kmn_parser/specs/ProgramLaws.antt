@@ -1,5 +1,5 @@
 -- What holds of each program that is read from a source, statement by statement.
-use Rattle.std.specs.Prelude.{◌≡◌, ◌≢◌, ℕ, ◌^◌, ◌<◌, ◌≤◌, Bool, true, bit_and, List, [], length, None, is_some, IfSome, Ok, IsUtf8, chars, All}
+use Rattle.std.specs.Prelude.{◌≡◌, ◌≢◌, ℕ, ◌^◌, ◌<◌, ◌≤◌, Bool, true, nat_eq, bit_and, List, [], length, None, is_some, IfSome, Ok, IsUtf8, chars, All}
 use lib.Utf8.{scalar}
 use Rattle.kmn_base.specs.declared.keys.TheConstants.{SHIFT_FLAGS}
 use Rattle.kmn_base.specs.declared.limits.TheConstants.{SOURCE_NAME_CHARS}
@@ -14,6 +14,7 @@ use Rattle.rule_model.specs.declared.program.RuleDef.{RuleDef}
 use Rattle.rule_model.specs.declared.program.GroupDef.{GroupDef}
 use Rattle.rule_model.specs.declared.program.Program.{Program}
 use Rattle.kmn_items.specs.Words.{is_own_key}
+use Rattle.kmn_items.specs.Forms.{is_option_id}
 use Rattle.kmn_parser.specs.Source.{parsed}
 
 -- a character of a keyboard: a scalar value other than U+0000 and U+FFFF
@@ -44,13 +45,17 @@ pub record IsReadKey (key : KeyName) : Type 0 where
   pub named : key.code ≡ 0 → IsOwnKey key.name
   pub unnamed : key.code ≢ 0 → key.name ≡ []
 
--- an item: its characters and those of its value are characters of a keyboard, and its key is a virtual key
+-- an item: its characters and those of its value are characters of a keyboard, its key is a virtual key, a condition on a
+-- system option names one, and a set of one the layer
 abbrev pub IsReadItem : SrcItem → Type 0
 IsReadItem (source.Char c) = IsCharacter c
 IsReadItem (source.Key key) = IsReadKey key
 IsReadItem (source.Equal name value) = All IsCharacter value
 IsReadItem (source.Unequal name value) = All IsCharacter value
 IsReadItem (source.Set name value) = All IsCharacter value
+IsReadItem (source.SystemEqual id value) = (is_option_id id ≡ true) × All IsCharacter value
+IsReadItem (source.SystemUnequal id value) = (is_option_id id ≡ true) × All IsCharacter value
+IsReadItem (source.SetSystem id value) = (nat_eq id 33 ≡ true) × All IsCharacter value
 IsReadItem other = Unit {0}
 
 -- what stands as the key of a rule: a character, a virtual key, or `any`

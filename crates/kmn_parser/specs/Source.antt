@@ -10,7 +10,7 @@ use Rattle.kmn_lines.specs.declared.logical.Logical.{Logical}
 use Rattle.rule_model.specs.declared.program.RuleDef.{RuleDef}
 use Rattle.rule_model.specs.declared.program.GroupDef.{GroupDef}
 use Rattle.rule_model.specs.declared.program.Program.{Program}
-use Rattle.kmn_items.specs.declared.syntax.Fault.{Fault}
+use Rattle.kmn_items.specs.declared.syntax.TokenRefusal.{TokenRefusal}
 use Rattle.kmn_parser.specs.declared.statement.LastGroup.{LastGroup}
 use Rattle.kmn_parser.specs.declared.statement.LastGroup.TheVariants.{Missing, UsingKeys, WithoutKeys}
 use Rattle.kmn_parser.specs.declared.statement.Statement.{Statement}
@@ -19,7 +19,7 @@ use Rattle.kmn_items.specs.TokenTexts.{with_texts}
 use Rattle.kmn_parser.specs.Line.{read_line}
 
 -- what is read of a line with this number, a fault as its refusal
-abbrev pub at_line : {A : Type 0} → ℕ → Result A Fault → Result A Refusal
+abbrev pub at_line : {A : Type 0} → ℕ → Result A TokenRefusal → Result A Refusal
 at_line line (Ok read) = Ok read
 at_line line (Err found) = Err (refusal line found.code)
 

@@ -7,7 +7,7 @@ ghost use Rattle.kmn_parser.specs.Line.{begins_kind, is_use, begin_head, begin_f
 use crate::signs::{begins_word, behind_close, place_of};
 use crate::statement::{Line, Sign, Statement};
 use kmn_base::{Code, Seq};
-use kmn_items::{Fault, LineTokens, Slot, Trouble, begins_open, broken};
+use kmn_items::{LineError, LineTokens, Slot, TokenRefusal, begins_open, broken};
 use rule_model::{BeginDef, GroupDef};
 use std::alloc::Global;
 
@@ -40,12 +40,12 @@ fn begin_head(arrow: usize, tokens: LineTokens<'_>) -> Option<Code>
 
 /// The first fault of a begin statement.
 #[tactic(auto, unfolding(crate::specs::Line::begin_fault))]
-fn begin_fault(last: usize, tokens: LineTokens<'_>) -> Option<Fault>
+fn begin_fault(last: usize, tokens: LineTokens<'_>) -> Option<TokenRefusal>
     requires { length (texts tokens) < 2 ^ 59 }
     ensures { result ≡ begin_fault last (texts tokens.entry) }
 {
     match begin_head(place_of(Sign::Arrow, tokens), tokens) {
-        Some(code) => Some(Fault { at: 0, code }),
+        Some(code) => Some(TokenRefusal { at: 0, code }),
         None => {
             let slots = [Slot::Name, Slot::Close];
             broken(last, 5, &slots, tokens.behind(5))
@@ -55,7 +55,7 @@ fn begin_fault(last: usize, tokens: LineTokens<'_>) -> Option<Fault>
 
 /// Reads a begin statement.
 #[tactic(auto, unfolding(crate::specs::Line::read_begin))]
-pub(crate) fn read_begin(alloc: Global, line: Line<'_>) -> Result<Statement, Trouble>
+pub(crate) fn read_begin(alloc: Global, line: Line<'_>) -> Result<Statement, LineError>
     requires { length (texts line.tokens) < 2 ^ 59 }
     ensures { Reads (read_begin line.entry.number line.entry.last (texts line.entry.tokens)) result }
 {
@@ -66,7 +66,7 @@ pub(crate) fn read_begin(alloc: Global, line: Line<'_>) -> Result<Statement, Tro
         ..
     } = line;
     if let Some(fault) = begin_fault(last, tokens) {
-        return Err(Trouble::Broken(fault));
+        return Err(LineError::Refused(fault));
     }
     Ok(Statement::Begin(BeginDef {
         line: number,
@@ -97,20 +97,20 @@ fn group_head(tokens: LineTokens<'_>, tail: LineTokens<'_>) -> Option<Code>
 
 /// The first fault of a group statement.
 #[tactic(auto, unfolding(crate::specs::Line::group_fault))]
-fn group_fault(last: usize, tokens: LineTokens<'_>) -> Option<Fault>
+fn group_fault(last: usize, tokens: LineTokens<'_>) -> Option<TokenRefusal>
     requires { length (texts tokens) < 2 ^ 59 }
     ensures { result ≡ group_fault last (texts tokens.entry) }
 {
     let named = tokens.behind(2);
     match group_head(tokens, behind_close(named)) {
-        Some(code) => Some(Fault { at: 0, code }),
+        Some(code) => Some(TokenRefusal { at: 0, code }),
         None => broken(last, 2, &[Slot::Name, Slot::Close], named),
     }
 }
 
 /// Reads a group statement.
 #[tactic(auto, unfolding(crate::specs::Line::read_group))]
-pub(crate) fn read_group(alloc: Global, line: Line<'_>) -> Result<Statement, Trouble>
+pub(crate) fn read_group(alloc: Global, line: Line<'_>) -> Result<Statement, LineError>
     requires { length (texts line.tokens) < 2 ^ 59 }
     ensures { Reads (read_group line.entry.number line.entry.last (texts line.entry.tokens)) result }
 {
@@ -121,7 +121,7 @@ pub(crate) fn read_group(alloc: Global, line: Line<'_>) -> Result<Statement, Tro
         ..
     } = line;
     if let Some(fault) = group_fault(last, tokens) {
-        return Err(Trouble::Broken(fault));
+        return Err(LineError::Refused(fault));
     }
     Ok(Statement::Group(GroupDef {
         line: number,

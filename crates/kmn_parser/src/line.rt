@@ -9,12 +9,12 @@ use crate::rule_line::{read_match, read_rule};
 use crate::signs::begins_word;
 use crate::statement::{LastGroup, Line, Statement};
 use crate::store_line::read_store;
-use kmn_items::{LineTokens, Trouble};
+use kmn_items::{LineError, LineTokens};
 use rule_model::RuleKind;
 use std::alloc::Global;
 
 /// Reads a line by its first word.
-fn read_tokens(alloc: Global, line: Line<'_>) -> Result<Statement, Trouble>
+fn read_tokens(alloc: Global, line: Line<'_>) -> Result<Statement, LineError>
     requires { length (texts line.tokens) < 2 ^ 59 }
     ensures { Reads (read_tokens line.entry.group line.entry.number line.entry.last (texts line.entry.tokens)) result }
 {
@@ -39,7 +39,7 @@ pub(crate) fn read_line(
     group: LastGroup,
     number: u32,
     tokens: LineTokens<'_>,
-) -> Result<Statement, Trouble>
+) -> Result<Statement, LineError>
     requires { length (texts tokens) < 2 ^ 59 }
     ensures { Reads (read_line group number (texts tokens.entry)) result }
 {

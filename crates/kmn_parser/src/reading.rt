@@ -8,7 +8,7 @@ use crate::line::read_line;
 use crate::statement::{LastGroup, Statement};
 use kmn_base::limits::TEXT_BYTES;
 use kmn_base::{Code, CompileError, Memory, Refusal, Seq};
-use kmn_items::{LineTokens, Trouble};
+use kmn_items::{LineError, LineTokens};
 use kmn_lines::{Logical, Token, lines};
 use kmn_tokens::tokens;
 use rule_model::{GroupDef, Program, RuleDef};
@@ -98,14 +98,14 @@ fn read_on(
             reading.group = group_after(reading.group, &statement);
             add_statement(&mut reading.program, statement)
         }
-        Err(Trouble::Broken(fault)) => {
+        Err(LineError::Refused(fault)) => {
             reading.refused = Some(Refusal {
                 line,
                 code: fault.code,
             });
             Ok(())
         }
-        Err(Trouble::NoMemory) => Err(Memory),
+        Err(LineError::Memory) => Err(Memory),
     }
 }
 

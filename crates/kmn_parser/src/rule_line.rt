@@ -7,7 +7,9 @@ ghost use Rattle.kmn_parser.specs.Line.{no_group, is_empty_quote, has_items, no_
 use crate::signs::place_of;
 use crate::statement::{LastGroup, Line, Sign, Statement};
 use kmn_base::{Code, Seq};
-use kmn_items::{Fault, LineTokens, Trouble, Where, is_item_word, read_items, read_key, text_in};
+use kmn_items::{
+    LineError, LineTokens, TokenRefusal, Where, is_item_word, read_items, read_key, text_in,
+};
 use kmn_lines::{Token, TokenKind};
 use rule_model::{RuleDef, RuleKind, SrcItem};
 use std::alloc::Global;
@@ -67,19 +69,19 @@ fn no_output(arrow: usize, tokens: LineTokens<'_>) -> Option<Code>
 
 /// The first fault of a match or nomatch statement before its output.
 #[tactic(auto, unfolding(crate::specs::Line::match_fault))]
-fn match_fault(group: LastGroup, arrow: usize, tokens: LineTokens<'_>) -> Option<Fault>
+fn match_fault(group: LastGroup, arrow: usize, tokens: LineTokens<'_>) -> Option<TokenRefusal>
     ensures { result ≡ match_fault group arrow (texts tokens.entry) }
 {
     if let Some(code) = no_group(group) {
-        return Some(Fault { at: 0, code });
+        return Some(TokenRefusal { at: 0, code });
     }
     if let Some(code) = no_output(arrow, tokens) {
-        return Some(Fault { at: 0, code });
+        return Some(TokenRefusal { at: 0, code });
     }
     if arrow == 1 {
         None
     } else {
-        Some(Fault {
+        Some(TokenRefusal {
             at: 1,
             code: Code::S05,
         })
@@ -92,7 +94,7 @@ pub(crate) fn read_match(
     alloc: Global,
     kind: RuleKind,
     line: Line<'_>,
-) -> Result<Statement, Trouble>
+) -> Result<Statement, LineError>
     requires { length (texts line.tokens) < 2 ^ 59 }
     ensures { Reads (read_match kind line.entry.group line.entry.number line.entry.last (texts line.entry.tokens)) result }
 {
@@ -104,7 +106,7 @@ pub(crate) fn read_match(
     } = line;
     let arrow = place_of(Sign::Arrow, tokens);
     if let Some(fault) = match_fault(group, arrow, tokens) {
-        return Err(Trouble::Broken(fault));
+        return Err(LineError::Refused(fault));
     }
     Ok(Statement::Rule(RuleDef {
         line: number,
@@ -162,7 +164,7 @@ fn rule_head(group: LastGroup, signs: Signs, tokens: LineTokens<'_>) -> Option<C
 
 /// The key of a rule, which stands between `+` and `>`.
 #[tactic(auto, unfolding(crate::specs::Line::rule_key))]
-fn rule_key(alloc: Global, line: Line<'_>, signs: Signs) -> Result<Option<SrcItem>, Trouble>
+fn rule_key(alloc: Global, line: Line<'_>, signs: Signs) -> Result<Option<SrcItem>, LineError>
     requires few { length (texts line.tokens) < 2 ^ 59 }
     requires within { signs.arrow ≤ length (texts line.tokens) }
     ensures { Reads (rule_key line.entry.group line.entry.last signs.arrow signs.plus (texts line.entry.tokens)) result }
@@ -171,7 +173,7 @@ fn rule_key(alloc: Global, line: Line<'_>, signs: Signs) -> Result<Option<SrcIte
         return Ok(None);
     }
     if !uses_keys(line.group) {
-        return Err(Trouble::Broken(Fault {
+        return Err(LineError::Refused(TokenRefusal {
             at: signs.plus,
             code: Code::S07,
         }));
@@ -182,7 +184,7 @@ fn rule_key(alloc: Global, line: Line<'_>, signs: Signs) -> Result<Option<SrcIte
 
 /// Reads the items of a rule, section by section.
 #[tactic(auto, unfolding(crate::specs::Line::rule_body))]
-fn rule_body(alloc: Global, line: Line<'_>, signs: Signs) -> Result<RuleDef, Trouble>
+fn rule_body(alloc: Global, line: Line<'_>, signs: Signs) -> Result<RuleDef, LineError>
     requires few { length (texts line.tokens) < 2 ^ 59 }
     requires within { signs.arrow ≤ length (texts line.tokens) }
     ensures { Reads (rule_body line.entry.group line.entry.number line.entry.last signs.arrow signs.plus (texts line.entry.tokens)) result }
@@ -211,18 +213,18 @@ fn is_lesser(code: Code, other: Code) -> bool
 }
 
 /// The earlier of a code at the first token and a fault.
-fn earlier(head: Code, found: Fault) -> Fault
+fn earlier(head: Code, found: TokenRefusal) -> TokenRefusal
     ensures { result ≡ earlier head found }
 {
     if found.at == 0 && is_lesser(found.code, head) {
         found
     } else {
-        Fault { at: 0, code: head }
+        TokenRefusal { at: 0, code: head }
     }
 }
 
 /// Reads a rule whose signs stand at their places.
-fn rule_at(alloc: Global, line: Line<'_>, signs: Signs) -> Result<Statement, Trouble>
+fn rule_at(alloc: Global, line: Line<'_>, signs: Signs) -> Result<Statement, LineError>
     requires few { length (texts line.tokens) < 2 ^ 59 }
     requires within { signs.arrow ≤ length (texts line.tokens) }
     ensures { Reads (rule_at line.entry.group line.entry.number line.entry.last signs.arrow signs.plus (texts line.entry.tokens)) result }
@@ -231,19 +233,19 @@ fn rule_at(alloc: Global, line: Line<'_>, signs: Signs) -> Result<Statement, Tro
     match rule_body(alloc, line, signs) {
         Ok(rule) => match head {
             None => Ok(Statement::Rule(rule)),
-            Some(code) => Err(Trouble::Broken(Fault { at: 0, code })),
+            Some(code) => Err(LineError::Refused(TokenRefusal { at: 0, code })),
         },
-        Err(Trouble::Broken(found)) => match head {
-            None => Err(Trouble::Broken(found)),
-            Some(code) => Err(Trouble::Broken(earlier(code, found))),
+        Err(LineError::Refused(found)) => match head {
+            None => Err(LineError::Refused(found)),
+            Some(code) => Err(LineError::Refused(earlier(code, found))),
         },
-        Err(Trouble::NoMemory) => Err(Trouble::NoMemory),
+        Err(LineError::Memory) => Err(LineError::Memory),
     }
 }
 
 /// Reads a rule.
 #[tactic(auto, unfolding(crate::specs::Line::read_rule))]
-pub(crate) fn read_rule(alloc: Global, line: Line<'_>) -> Result<Statement, Trouble>
+pub(crate) fn read_rule(alloc: Global, line: Line<'_>) -> Result<Statement, LineError>
     requires { length (texts line.tokens) < 2 ^ 59 }
     ensures { Reads (read_rule line.entry.group line.entry.number line.entry.last (texts line.entry.tokens)) result }
 {

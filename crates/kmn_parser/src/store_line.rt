@@ -9,13 +9,14 @@ use crate::statement::{Line, Statement};
 use kmn_base::names::named_in;
 use kmn_base::{Code, Memory, Seq};
 use kmn_items::{
-    Fault, LineTokens, Slot, Trouble, Where, bare_name, begins_open, broken, is_system_name,
-    read_items,
+    LineError, LineTokens, Slot, TokenRefusal, Where, bare_name, begins_open, broken,
+    is_system_name, read_items,
 };
+use rule_model::system::{CASED_KEYS, DROPPED, LEFT_OUT};
 use rule_model::{SrcItem, StoreDef};
 use std::alloc::Global;
 
-/// The id in a file of each system store that a source can state: 0xFFFF is read and dropped, 0xFFFE is left out.
+/// The id of each system store that a source can state.
 static SYSTEM_STORES: [(&str, u32); 27] = [
     ("bitmap", 1),
     ("copyright", 2),
@@ -28,22 +29,22 @@ static SYSTEM_STORES: [(&str, u32); 27] = [
     ("layoutfile", 35),
     ("keyboardversion", 36),
     ("targets", 38),
-    ("casedkeys", 0xFFFE),
-    ("includecodes", 0xFFFE),
-    ("capsalwaysoff", 0xFFFE),
-    ("capsononly", 0xFFFE),
-    ("shiftfreescaps", 0xFFFE),
-    ("ethnologuecode", 0xFFFF),
-    ("windowslanguages", 0xFFFF),
-    ("language", 0xFFFF),
-    ("layout", 0xFFFF),
-    ("languagename", 0xFFFF),
-    ("displaymap", 0xFFFF),
-    ("kmw_rtl", 0xFFFF),
-    ("kmw_helpfile", 0xFFFF),
-    ("kmw_helptext", 0xFFFF),
-    ("kmw_embedjs", 0xFFFF),
-    ("kmw_embedcss", 0xFFFF),
+    ("casedkeys", CASED_KEYS),
+    ("includecodes", LEFT_OUT),
+    ("capsalwaysoff", LEFT_OUT),
+    ("capsononly", LEFT_OUT),
+    ("shiftfreescaps", LEFT_OUT),
+    ("ethnologuecode", DROPPED),
+    ("windowslanguages", DROPPED),
+    ("language", DROPPED),
+    ("layout", DROPPED),
+    ("languagename", DROPPED),
+    ("displaymap", DROPPED),
+    ("kmw_rtl", DROPPED),
+    ("kmw_helpfile", DROPPED),
+    ("kmw_helptext", DROPPED),
+    ("kmw_embedjs", DROPPED),
+    ("kmw_embedcss", DROPPED),
 ];
 
 /// The id of a system store by its name without `&`.
@@ -66,7 +67,7 @@ fn store_system(name: &[u8]) -> Option<u32>
 }
 
 /// The fault of a store's name and of what closes it.
-fn store_form(last: usize, tokens: LineTokens<'_>) -> Option<Fault>
+fn store_form(last: usize, tokens: LineTokens<'_>) -> Option<TokenRefusal>
     requires { length (texts tokens) < 2 ^ 59 }
     ensures { result ≡ store_form last (texts tokens.entry) }
 {
@@ -75,7 +76,7 @@ fn store_form(last: usize, tokens: LineTokens<'_>) -> Option<Fault>
     }
     let rest = tokens.behind(3);
     if !rest.is_empty() && store_system(tokens.text(2)).is_none() {
-        return Some(Fault {
+        return Some(TokenRefusal {
             at: 2,
             code: Code::S12,
         });
@@ -85,14 +86,14 @@ fn store_form(last: usize, tokens: LineTokens<'_>) -> Option<Fault>
 
 /// The first fault of a store statement before its items.
 #[tactic(auto, unfolding(crate::specs::Line::store_fault))]
-fn store_fault(last: usize, tokens: LineTokens<'_>) -> Option<Fault>
+fn store_fault(last: usize, tokens: LineTokens<'_>) -> Option<TokenRefusal>
     requires { length (texts tokens) < 2 ^ 59 }
     ensures { result ≡ store_fault last (texts tokens.entry) }
 {
     if begins_open(tokens.behind(1)) {
         store_form(last, tokens)
     } else {
-        Some(Fault {
+        Some(TokenRefusal {
             at: 0,
             code: Code::S01,
         })
@@ -118,7 +119,7 @@ fn store_def(alloc: Global, line: u32, name: &[u8], items: Seq<SrcItem>) -> Resu
 
 /// Reads a store statement.
 #[tactic(auto, unfolding(crate::specs::Line::read_store))]
-pub(crate) fn read_store(alloc: Global, line: Line<'_>) -> Result<Statement, Trouble>
+pub(crate) fn read_store(alloc: Global, line: Line<'_>) -> Result<Statement, LineError>
     requires { length (texts line.tokens) < 2 ^ 59 }
     ensures { Reads (read_store line.entry.number line.entry.last (texts line.entry.tokens)) result }
 {
@@ -129,7 +130,7 @@ pub(crate) fn read_store(alloc: Global, line: Line<'_>) -> Result<Statement, Tro
         ..
     } = line;
     if let Some(fault) = store_fault(last, tokens) {
-        return Err(Trouble::Broken(fault));
+        return Err(LineError::Refused(fault));
     }
     let items = read_items(alloc, Where::Store, last, 4, tokens.behind(4))?;
     Ok(Statement::Store(store_def(alloc, number, tokens.text(2), items)?))

@@ -41,32 +41,41 @@ mixed_program = record {
         items = source.Char 0x61 ∷ source.Key (record { flags = 0x4010; code = 65; name = [] })
             ∷ source.Key (record { flags = 0x4000; code = 0; name = codes "T_x" }) ∷ [];
       }
-      ∷ record { line = 3; system = 1; name = []; items = source.Char 0x61 ∷ [] } ∷ record { line = 4; system = 0; name = codes "U+0041"; items = [] } ∷ [];
-  begins = record { line = 5; unicode = true; group = codes "main" } ∷ record { line = 6; unicode = false; group = codes "other" } ∷ [];
+      ∷ record { line = 3; system = 1; name = []; items = source.Char 0x61 ∷ [] }
+      ∷ record { line = 4; system = 39; name = []; items = source.Key (record { flags = 0x4000; code = 65; name = [] }) ∷ [] }
+      ∷ record { line = 5; system = 0; name = codes "U+0041"; items = [] } ∷ [];
+  begins = record { line = 6; unicode = true; group = codes "main" } ∷ record { line = 7; unicode = false; group = codes "other" } ∷ [];
   groups =
       record {
-        line = 7;
+        line = 8;
         name = codes "main";
         using_keys = true;
         rules =
             record {
-              line = 8;
+              line = 9;
               kind = Plain;
               context = source.Equal (codes "o") (codes "a\"b") ∷ source.Any (codes "k") ∷ [];
               key = Some (source.Key (record { flags = 0x4001; code = 65; name = [] }));
               output = source.Index (codes "k") 1 ∷ source.Dead (codes "3") ∷ [];
             }
-            ∷ record { line = 9; kind = Plain; context = []; key = Some (source.Char 0x1F600); output = source.Nul ∷ [] }
-            ∷ record { line = 10; kind = OnMatch; context = []; key = None; output = source.Enter (codes "other") ∷ [] }
-            ∷ record { line = 11; kind = OnNoMatch; context = []; key = None; output = source.Context ∷ source.Beep ∷ [] } ∷ [];
+            ∷ record { line = 10; kind = Plain; context = []; key = Some (source.Char 0x1F600); output = source.Nul ∷ [] }
+            ∷ record {
+              line = 11;
+              kind = Plain;
+              context = source.SystemEqual 33 (codes "shift") ∷ source.SystemUnequal 31 (codes "ios native") ∷ [];
+              key = Some (source.Char 0x62);
+              output = source.Char 0x42 ∷ source.SetSystem 33 (codes "default") ∷ [];
+            }
+            ∷ record { line = 12; kind = OnMatch; context = []; key = None; output = source.Enter (codes "other") ∷ [] }
+            ∷ record { line = 13; kind = OnNoMatch; context = []; key = None; output = source.Context ∷ source.Beep ∷ [] } ∷ [];
       }
       ∷ record {
-        line = 12;
+        line = 14;
         name = codes "other";
         using_keys = false;
         rules =
             record {
-              line = 13;
+              line = 15;
               kind = Plain;
               context = source.Char 0x61 ∷ source.ContextAt 1 ∷ [];
               key = None;
@@ -76,9 +85,11 @@ mixed_program = record {
 }
 
 mixed_text : program_text mixed_program
-    ≡ rows (codes "store(s1) dk(1) dk(2)" ∷ codes "store(k) U+0061 [SHIFT K_A] [T_x]" ∷ codes "store(&bitmap) U+0061" ∷ codes "store(U+0041)"
+    ≡ rows (codes "store(s1) dk(1) dk(2)" ∷ codes "store(k) U+0061 [SHIFT K_A] [T_x]" ∷ codes "store(&bitmap) U+0061"
+    ∷ codes "store(&casedkeys) [K_A]" ∷ codes "store(U+0041)"
     ∷ codes "begin Unicode > use(main)" ∷ codes "begin ANSI > use(other)"
     ∷ codes "group(main) using keys" ∷ codes "if(o = 'a\"b') any(k) + [LCTRL K_A] > index(k,1) dk(3)" ∷ codes "+ U+1F600 > nul"
+    ∷ codes "if(&layer = \"shift\") if(&platform != \"ios native\") + U+0062 > U+0042 set(&layer = \"default\")"
     ∷ codes "match > use(other)" ∷ codes "nomatch > context beep"
     ∷ codes "group(other)" ∷ codes "U+0061 context(1) > set(o = \"v\") save(o) reset(o) return" ∷ [])
 unfolding mixed_program program_text system_stores shift_flags key_codes encode digits

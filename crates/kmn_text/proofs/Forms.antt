@@ -1,5 +1,5 @@
 -- Names, keys, values and items whose tokens are read as they: what the proofs rest on, by the words of the readings.
-use Rattle.std.specs.Prelude.{◌≡◌, ℕ, true, false, List, [], ◌∷◌, map, None}
+use Rattle.std.specs.Prelude.{◌≡◌, ℕ, nat_eq, true, false, List, [], ◌∷◌, map, None, Some}
 use Rattle.std.specs.Fmt.{decimal}
 use Rattle.std.specs.List.{list_all}
 use Rattle.kmn_lines.specs.declared.token.TokenKind.TheVariants as kind
@@ -9,13 +9,14 @@ use Rattle.rule_model.specs.declared.program.SrcItem.TheVariants as source
 use Rattle.kmn_items.specs.declared.syntax.Where.{Where}
 use Rattle.kmn_items.specs.declared.syntax.Seen.{Seen}
 use Rattle.kmn_items.specs.TokenTexts.{quoted}
-use Rattle.kmn_items.specs.Words.{is_name, is_system_name, is_modifier, is_key_name}
+use Rattle.kmn_items.specs.Words.{is_name, is_system_name, bare_name, is_modifier, is_key_name}
+use Rattle.kmn_items.specs.Forms.{option_id}
 use Rattle.kmn_items.specs.Numbers.{is_offset, offset_value}
 use Rattle.kmn_items.specs.Brackets.{flags_of, named_key, key_item}
 use Rattle.kmn_items.specs.Standing.{standing_code}
 use Rattle.kmn_parser.specs.ProgramLaws.{IsCharacter}
 use Rattle.kmn_text.specs.Texts.{word, name_kind}
-use Rattle.kmn_text.specs.Items.{flag_words, key_text, value_token}
+use Rattle.kmn_text.specs.Items.{flag_words, key_text, value_token, option_name}
 use Rattle.kmn_text.specs.Spelled.{item_lead, seen_lead}
 use Rattle.kmn_text.proofs.LineForms.{is_word_text, is_still_byte, is_alone_c, IsTokenText}
 
@@ -43,6 +44,15 @@ pub record IsPrintedOption (name value : List ℕ) : Type 0 where
   pub read : quoted (value_token value).text ≡ value
   pub sound : IsTokenText kind.Quoted (value_token value).text
 
+-- a system option, whose name is that of a system store, and a value
+pub record IsPrintedSystem (id : ℕ) (value : List ℕ) : Type 0 where
+  pub named : IsPrintedName (option_name id)
+  pub system : is_system_name (option_name id) ≡ true
+  pub bare : is_name (bare_name (option_name id)) ≡ true
+  pub known : option_id (option_name id) ≡ Some id
+  pub read : quoted (value_token value).text ≡ value
+  pub sound : IsTokenText kind.Quoted (value_token value).text
+
 -- a virtual key
 pub record IsPrintedKey (key : KeyName) : Type 0 where
   pub is_word : is_word_text (key_text key) ≡ true
@@ -64,8 +74,11 @@ IsPrinted place (source.Index name offset) = IsPrintedName name × IsPrintedOffs
 IsPrinted place (source.ContextAt offset) = IsPrintedOffset offset
 IsPrinted place (source.Equal name value) = IsPrintedOption name value
 IsPrinted place (source.Unequal name value) = IsPrintedOption name value
+IsPrinted place (source.SystemEqual id value) = IsPrintedSystem id value
+IsPrinted place (source.SystemUnequal id value) = IsPrintedSystem id value
 IsPrinted place (source.Enter name) = IsPrintedName name
 IsPrinted place (source.Set name value) = IsPrintedOption name value
+IsPrinted place (source.SetSystem id value) = (nat_eq id 33 ≡ true) × IsPrintedSystem id value
 IsPrinted place (source.Save name) = IsPrintedName name
 IsPrinted place (source.Reset name) = IsPrintedName name
 IsPrinted place source.Context = Unit {0}

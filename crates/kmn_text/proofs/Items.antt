@@ -24,17 +24,17 @@ use Rattle.kmn_items.specs.Slots.{unless, slot_fault, or_fault, broken}
 use Rattle.kmn_items.specs.Standing.{standing_code, seen_word, seen_count}
 use Rattle.kmn_base.specs.declared.codes.Code.{Code}
 use Rattle.kmn_base.specs.declared.codes.Code.TheVariants.{S02, S11, L04}
-use Rattle.kmn_items.specs.declared.syntax.Fault.{Fault}
+use Rattle.kmn_items.specs.declared.syntax.TokenRefusal.{TokenRefusal}
 use Rattle.kmn_items.specs.declared.syntax.Lead.{Lead}
 use Rattle.kmn_items.specs.declared.syntax.Lead.TheVariants as lead
 use Rattle.kmn_items.specs.declared.syntax.Slot.{Slot}
 use Rattle.kmn_items.specs.declared.syntax.Slot.TheVariants as slot
-use Rattle.kmn_items.specs.Forms.{word_slots, word_item}
+use Rattle.kmn_items.specs.Forms.{word_slots, word_item, condition, setting, system_condition, system_setting}
 use Rattle.kmn_items.specs.Leads.{lead_of, word_lead}
-use Rattle.kmn_text.specs.Items.{flag_words, item_pieces, key_text, spaced_words, value_token}
+use Rattle.kmn_text.specs.Items.{flag_words, item_pieces, key_text, option_name, spaced_words, value_token}
 use Rattle.kmn_text.specs.Spelled.{item_lead, seen_lead}
 use Rattle.kmn_text.specs.Texts.{bracket_closing, bracket_opening, char_token, closing, comma, equal, name_token, opening, unequal, word}
-use Rattle.kmn_text.proofs.Forms.{IsPrinted, IsPrintedName, IsPrintedOffset, IsPrintedOption}
+use Rattle.kmn_text.proofs.Forms.{IsPrinted, IsPrintedName, IsPrintedOffset, IsPrintedOption, IsPrintedSystem}
 use Rattle.kmn_text.proofs.LineForms.{tokens_in}
 use Rattle.kmn_text.proofs.SoundItems.{wordy-name}
 
@@ -43,12 +43,12 @@ abbrev pub ReadsAs : Where → Seen → List LineToken → List SrcItem → Type
 ReadsAs place seen tokens items = (last at : ℕ) → read_items place seen last 0 at tokens ≡ Ok items
 
 named-read : (place : Where) (seen : Seen) (last at : ℕ) (w : ItemWord) (tokens : List LineToken) → lead_of tokens ≡ lead.Named w → standing_code place seen (lead.Named w) ≡ None → broken last at (word_slots w) tokens ≡ None
-    → read_item place seen last at tokens ≡ Ok (record { items = word_item w tokens ∷ []; more = length (word_slots w) - 1; seen = seen_word seen w })
+    → read_item place seen last at tokens ≡ Ok (record { items = word_item place w tokens ∷ []; more = length (word_slots w) - 1; seen = seen_word seen w })
 unfolding read_item
 named-read place seen last at w tokens e f g =
     ap (λ (l : Lead). read_led place seen last at l tokens) e
     ∙ ap (λ (c : Option Code). elim c [ Some code ↦ Err (fault at code) | None ↦ read_form place seen last at (lead.Named w) tokens ]) f
-    ∙ ap (λ (b : Option Fault). formed b (record { items = word_item w tokens ∷ []; more = length (word_slots w) - 1; seen = seen_word seen w })) g
+    ∙ ap (λ (b : Option TokenRefusal). formed b (record { items = word_item place w tokens ∷ []; more = length (word_slots w) - 1; seen = seen_word seen w })) g
 
 -- an item of one word and so many tokens more, then the rest
 then-rest : (place : Where) (seen : Seen) (last at : ℕ) (token : LineToken) (tokens : List LineToken) (taken : Taken) (items : List SrcItem)
@@ -67,6 +67,10 @@ store-name-fits name ok other =
     ap (λ b. unless (b && is_name (bare_name name)) S02) (wordy-name name)
     ∙ ap (λ (n : List ℕ). unless (is_name n) S02) (cond-false (is_system_name name) (drop 1 name) name other) ∙ ap (λ b. unless b S02) ok.fits
 
+-- a system option has one
+system-name-fits : (id : ℕ) (value : List ℕ) → IsPrintedSystem id value → slot_fault slot.StoreName (name_token (option_name id)) ≡ None
+system-name-fits id value ok = ap (λ b. unless (b && is_name (bare_name (option_name id))) S02) (wordy-name (option_name id)) ∙ ap (λ b. unless b S02) ok.bare
+
 -- a name in parentheses
 call-fits : (last at : ℕ) (first : LineToken) (name : List ℕ) (rest : List LineToken) → IsPrintedName name
     → broken last at (slot.Lead ∷ slot.Open ∷ slot.Name ∷ slot.Close ∷ []) (first ∷ opening ∷ name_token name ∷ closing ∷ rest) ≡ None
@@ -76,10 +80,10 @@ call-fits last at first name rest ok = ap (λ f. or_fault (at + 1 + 1) f None) (
 named-then : (place : Where) (seen : Seen) (last at : ℕ) (w : ItemWord) (token : LineToken) (tokens : List LineToken) (items : List SrcItem)
     → lead_of (token ∷ tokens) ≡ lead.Named w → standing_code place seen (lead.Named w) ≡ None → broken last at (word_slots w) (token ∷ tokens) ≡ None
     → read_items place (seen_word seen w) last (length (word_slots w) - 1) (at + 1) tokens ≡ Ok items
-    → read_items place seen last 0 at (token ∷ tokens) ≡ Ok (word_item w (token ∷ tokens) ∷ items)
+    → read_items place seen last 0 at (token ∷ tokens) ≡ Ok (word_item place w (token ∷ tokens) ∷ items)
 named-then place seen last at w token tokens items e f g h =
     then-rest place seen last at token tokens
-    (record { items = word_item w (token ∷ tokens) ∷ []; more = length (word_slots w) - 1; seen = seen_word seen w }) items
+    (record { items = word_item place w (token ∷ tokens) ∷ []; more = length (word_slots w) - 1; seen = seen_word seen w }) items
     (named-read place seen last at w (token ∷ tokens) e f g) h
 
 abbrev in_call : List ℕ → List LineToken → List LineToken
@@ -89,23 +93,36 @@ abbrev in_test : List ℕ → LineToken → List ℕ → List LineToken → List
 in_test name sign value rest = opening ∷ name_token name ∷ sign ∷ value_token value ∷ closing ∷ rest
 
 -- a comparison's or a setting's form
-test-fits : (last at : ℕ) (first : LineToken) (name value : List ℕ) (sign : LineToken) (rest : List LineToken) (s : Slot) → IsPrintedOption name value → slot_fault s sign ≡ None
+test-fits : (last at : ℕ) (first : LineToken) (name value : List ℕ) (sign : LineToken) (rest : List LineToken) (s : Slot)
+    → slot_fault slot.StoreName (name_token name) ≡ None → slot_fault s sign ≡ None
     → broken last at (slot.Lead ∷ slot.Open ∷ slot.StoreName ∷ s ∷ slot.Value ∷ slot.Close ∷ []) (first ∷ in_test name sign value rest) ≡ None
-test-fits last at first name value sign rest s ok fits =
-    ap (λ f. or_fault (at + 1 + 1) f (or_fault (at + 1 + 1 + 1) (slot_fault s sign) None)) (store-name-fits name ok.named ok.ordinary) ∙ ap (λ f. or_fault (at + 1 + 1 + 1) f None) fits
+test-fits last at first name value sign rest s named fits =
+    ap (λ f. or_fault (at + 1 + 1) f (or_fault (at + 1 + 1 + 1) (slot_fault s sign) None)) named ∙ ap (λ f. or_fault (at + 1 + 1 + 1) f None) fits
 
 -- an offset
 offset-fits : (offset : ℕ) → IsPrintedOffset offset → slot_fault slot.Offset (word (decimal offset)) ≡ None
 offset-fits offset ok = ap (λ b. unless b L04) ok.fits
 
-choose-condition : (system equal : Bool) (name value read : List ℕ) → system ≡ false → read ≡ value
-    → (if system then source.OutOfProfile else (if equal then source.Equal name read else source.Unequal name read)) ≡ (if equal then source.Equal name value else source.Unequal name value)
-choose-condition true equal name value read e f = absurd cc
-choose-condition false equal name value read e f = ap (λ (v : List ℕ). if equal then source.Equal name v else source.Unequal name v) f
+option-fits : (name value : List ℕ) → IsPrintedOption name value → slot_fault slot.StoreName (name_token name) ≡ None
+option-fits name value ok = store-name-fits name ok.named ok.ordinary
 
-choose-set : (system : Bool) (name value read : List ℕ) → system ≡ false → read ≡ value → (if system then source.OutOfProfile else source.Set name read) ≡ source.Set name value
-choose-set true name value read e f = absurd cc
-choose-set false name value read e f = ap (source.Set name) f
+-- a condition and a setting stand for these items
+choose-condition : (equal : Bool) (name value read : List ℕ) → is_system_name name ≡ false → read ≡ value → condition name equal read ≡ (if equal then source.Equal name value else source.Unequal name value)
+choose-condition equal name value read e f = cond-false (is_system_name name) _ _ e ∙ ap (λ (v : List ℕ). if equal then source.Equal name v else source.Unequal name v) f
+
+choose-set : (name value read : List ℕ) → is_system_name name ≡ false → read ≡ value → setting name read ≡ source.Set name value
+choose-set name value read e f = cond-false (is_system_name name) _ _ e ∙ ap (source.Set name) f
+
+choose-system : (equal : Bool) (id : ℕ) (value read : List ℕ) → IsPrintedSystem id value → read ≡ value
+    → condition (option_name id) equal read ≡ (if equal then source.SystemEqual id value else source.SystemUnequal id value)
+choose-system equal id value read ok f =
+    cond-true (is_system_name (option_name id)) _ _ ok.system
+    ∙ ap (λ (o : Option ℕ). system_condition o equal read) ok.known ∙ ap (λ (v : List ℕ). system_condition (Some id) equal v) f
+
+choose-layer : (id : ℕ) (value read : List ℕ) → nat_eq id 33 ≡ true → IsPrintedSystem id value → read ≡ value → setting (option_name id) read ≡ source.SetSystem id value
+choose-layer id value read is ok f =
+    cond-true (is_system_name (option_name id)) _ _ ok.system
+    ∙ ap (λ (o : Option ℕ). system_setting o read) ok.known ∙ cond-true (nat_eq id 33) _ _ is ∙ ap (source.SetSystem id) f
 
 -- a virtual key
 abbrev in_bracket : List (List ℕ) → List ℕ → List LineToken → List LineToken
@@ -153,7 +170,7 @@ bracket-read place seen last at texts name rest key all none known flags named s
     ∙ ap (λ (t : List ℕ). named_key (flags_of (map word texts)) t) (text-bracket texts name (bracket_closing ∷ rest))
     ∙ ap (λ (f : ℕ). named_key f name) flags ∙ named) ∙ stays in
     ap (λ (n : ℕ). read_bracket place seen last at n tokens) (modifiers-counted texts name (bracket_closing ∷ rest) all none)
-    ∙ ap (λ (f : Option Fault). formed f (record { items = key_item place (named_key (flags_of (take (length texts) tokens)) (text_at (length texts) tokens)) ∷ []; more = length texts + 2; seen = seen_count seen 1 }))
+    ∙ ap (λ (f : Option TokenRefusal). formed f (record { items = key_item place (named_key (flags_of (take (length texts) tokens)) (text_at (length texts) tokens)) ∷ []; more = length texts + 2; seen = seen_count seen 1 }))
     (ap (λ (ts : List LineToken). broken last (at + 1 + length texts) (slot.KeyName ∷ slot.KeyEnd ∷ []) ts) behind
     ∙ ap (λ (b : Bool). or_fault (at + 1 + length texts) (unless b S11) None) known)
     ∙ ap (λ (i : SrcItem). Ok (record { items = i ∷ []; more = length texts + 2; seen = seen_count seen 1 })) item
@@ -211,20 +228,32 @@ item_reads place seen (source.ContextAt offset) rest items ok stands apart more 
     ∙ ap (λ (n : ℕ). Ok (source.ContextAt n ∷ items)) ok.value
 item_reads place seen (source.Equal name value) rest items ok stands apart more last at =
     named-then place seen last at item.If (word (codes "if")) (in_test name equal value rest) items refl stands
-    (test-fits last at (word (codes "if")) name value equal rest slot.Comparison ok refl) (more last (at + 1 + 1 + 1 + 1 + 1 + 1))
-    ∙ ap (λ (i : SrcItem). Ok (i ∷ items)) (choose-condition (is_system_name name) true name value _ ok.ordinary ok.read)
+    (test-fits last at (word (codes "if")) name value equal rest slot.Comparison (option-fits name value ok) refl) (more last (at + 1 + 1 + 1 + 1 + 1 + 1))
+    ∙ ap (λ (i : SrcItem). Ok (i ∷ items)) (choose-condition true name value _ ok.ordinary ok.read)
 item_reads place seen (source.Unequal name value) rest items ok stands apart more last at =
     named-then place seen last at item.If (word (codes "if")) (in_test name unequal value rest) items refl stands
-    (test-fits last at (word (codes "if")) name value unequal rest slot.Comparison ok refl) (more last (at + 1 + 1 + 1 + 1 + 1 + 1))
-    ∙ ap (λ (i : SrcItem). Ok (i ∷ items)) (choose-condition (is_system_name name) false name value _ ok.ordinary ok.read)
+    (test-fits last at (word (codes "if")) name value unequal rest slot.Comparison (option-fits name value ok) refl) (more last (at + 1 + 1 + 1 + 1 + 1 + 1))
+    ∙ ap (λ (i : SrcItem). Ok (i ∷ items)) (choose-condition false name value _ ok.ordinary ok.read)
+item_reads place seen (source.SystemEqual id value) rest items ok stands apart more last at =
+    named-then place seen last at item.If (word (codes "if")) (in_test (option_name id) equal value rest) items refl stands
+    (test-fits last at (word (codes "if")) (option_name id) value equal rest slot.Comparison (system-name-fits id value ok) refl) (more last (at + 1 + 1 + 1 + 1 + 1 + 1))
+    ∙ ap (λ (i : SrcItem). Ok (i ∷ items)) (choose-system true id value _ ok ok.read)
+item_reads place seen (source.SystemUnequal id value) rest items ok stands apart more last at =
+    named-then place seen last at item.If (word (codes "if")) (in_test (option_name id) unequal value rest) items refl stands
+    (test-fits last at (word (codes "if")) (option_name id) value unequal rest slot.Comparison (system-name-fits id value ok) refl) (more last (at + 1 + 1 + 1 + 1 + 1 + 1))
+    ∙ ap (λ (i : SrcItem). Ok (i ∷ items)) (choose-system false id value _ ok ok.read)
 item_reads place seen source.Nul rest items ok stands apart more last at =
     named-then place seen last at item.Nul (word (codes "nul")) rest items (ap (λ b. word_lead b (codes "nul")) apart) stands refl (more last (at + 1))
 item_reads place seen (source.Enter name) rest items ok stands apart more last at =
     named-then place seen last at item.Use (word (codes "use")) (in_call name rest) items refl stands (call-fits last at (word (codes "use")) name rest ok) (more last (at + 1 + 1 + 1 + 1))
 item_reads place seen (source.Set name value) rest items ok stands apart more last at =
     named-then place seen last at item.Set (word (codes "set")) (in_test name equal value rest) items refl stands
-    (test-fits last at (word (codes "set")) name value equal rest slot.Equal ok refl) (more last (at + 1 + 1 + 1 + 1 + 1 + 1))
-    ∙ ap (λ (i : SrcItem). Ok (i ∷ items)) (choose-set (is_system_name name) name value _ ok.ordinary ok.read)
+    (test-fits last at (word (codes "set")) name value equal rest slot.Equal (option-fits name value ok) refl) (more last (at + 1 + 1 + 1 + 1 + 1 + 1))
+    ∙ ap (λ (i : SrcItem). Ok (i ∷ items)) (choose-set name value _ ok.ordinary ok.read)
+item_reads place seen (source.SetSystem id value) rest items ok stands apart more last at =
+    named-then place seen last at item.Set (word (codes "set")) (in_test (option_name id) equal value rest) items refl stands
+    (test-fits last at (word (codes "set")) (option_name id) value equal rest slot.Equal (system-name-fits id value ok.1) refl) (more last (at + 1 + 1 + 1 + 1 + 1 + 1))
+    ∙ ap (λ (i : SrcItem). Ok (i ∷ items)) (choose-layer id value _ ok.0 ok.1 ok.1.read)
 item_reads place seen (source.Save name) rest items ok stands apart more last at =
     named-then place seen last at item.Save (word (codes "save")) (in_call name rest) items refl stands (call-fits last at (word (codes "save")) name rest ok) (more last (at + 1 + 1 + 1 + 1))
 item_reads place seen (source.Reset name) rest items ok stands apart more last at =

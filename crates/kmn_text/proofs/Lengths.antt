@@ -6,7 +6,7 @@ use Rattle.std.specs.List.{list_all, list_any}
 use Rattle.std.specs.Str.{encode_utf8_all}
 use Rattle.std.proofs.lemmas.List.{append-nil}
 use lib.Utf8.{encodes}
-use Rattle.std.proofs.lemmas.Bool.{and_parts, eqb-true, eqb-false, ltb-true, leb-true}
+use Rattle.std.proofs.lemmas.Bool.{and_parts, cond_both, eqb-true, eqb-false, ltb-true, leb-true}
 use Rattle.std.proofs.lemmas.Fmt.{decimal_nonempty}
 use Rattle.kmn_base.specs.Names.{same_name}
 use Rattle.std.specs.Char.{to_ascii_lowercase}
@@ -22,7 +22,7 @@ use Rattle.kmn_items.specs.TokenTexts.{LineToken}
 use Rattle.kmn_parser.specs.ProgramLaws.{IsCharacter}
 use Rattle.kmn_text.specs.Printed.{printed, sheet}
 use Rattle.kmn_text.specs.Texts.{char_text, word, bracket_closing, equal, unequal}
-use Rattle.kmn_text.specs.Items.{named_call, compared, value_token, flag_words, key_text, spaced_words, key_pieces, item_pieces}
+use Rattle.kmn_text.specs.Items.{named_call, compared, option_name, value_token, flag_words, key_text, spaced_words, key_pieces, item_pieces}
 use Rattle.kmn_text.specs.Spelled.{IsSpelledName, IsSpelledKey, IsSpelledItem}
 use Rattle.kmn_text.proofs.Hex.{char_number}
 use Rattle.kmn_text.proofs.Names.{spelled_name, name-some}
@@ -57,9 +57,12 @@ least_length source.Context = 7
 least_length (source.ContextAt offset) = 10
 least_length (source.Equal name value) = 9 + length (encode_utf8_all value)
 least_length (source.Unequal name value) = 10 + length (encode_utf8_all value)
+least_length (source.SystemEqual id value) = 9 + length (encode_utf8_all value)
+least_length (source.SystemUnequal id value) = 10 + length (encode_utf8_all value)
 least_length source.Nul = 3
 least_length (source.Enter name) = 6
 least_length (source.Set name value) = 10 + length (encode_utf8_all value)
+least_length (source.SetSystem id value) = 10 + length (encode_utf8_all value)
 least_length (source.Save name) = 7
 least_length (source.Reset name) = 8
 least_length source.Beep = 4
@@ -93,8 +96,11 @@ value-long value = quotes (if list_any (λ c. c == 34) value then 39 else 34)
     quotes quote = let a : length (encodes value ++ quote ∷ []) ≡ length (encodes value) + 1 = length-append (encodes value) (quote ∷ []) in omega (arith, a)
 
 -- a comparison or a setting has all bytes of its value besides
-test-least : (lead name : List ℕ) (sign : LineToken) (value : List ℕ) → IsSpelledName name → length lead + length sign.text + 6 + length (encodes value) ≤ length (printed (compared lead name sign value))
-test-least lead name sign value ok = let a = compared-long lead name sign value in let b = value-long value in let some = has-byte name ok in omega (arith, a, b, some)
+test-least : (lead name : List ℕ) (sign : LineToken) (value : List ℕ) → 0 < length name → length lead + length sign.text + 6 + length (encodes value) ≤ length (printed (compared lead name sign value))
+test-least lead name sign value some = let a = compared-long lead name sign value in let b = value-long value in omega (arith, a, b, some)
+
+option-long : (id : ℕ) → 0 < length (option_name id)
+option-long id = cond_both (nat_eq id 31) _ _ (λ text. 0 < length text) (λ e. omega arith) (λ e. omega arith)
 
 keys-long : (texts : List (List ℕ)) (more : List (Option LineToken)) → length (printed more) ≤ length (printed (spaced_words texts more))
 keys-long [] more = omega arith
@@ -185,11 +191,14 @@ item_long place (source.NotAny name) ok = named-least (codes "notany") name ok
 item_long place (source.Index name offset) ok = index-least name offset ok.0 ok.1
 item_long place source.Context ok = omega arith
 item_long place (source.ContextAt offset) ok = at-least offset ok
-item_long place (source.Equal name value) ok = test-least (codes "if") name equal value ok.0.named
-item_long place (source.Unequal name value) ok = test-least (codes "if") name unequal value ok.0.named
+item_long place (source.Equal name value) ok = test-least (codes "if") name equal value (has-byte name ok.0.named)
+item_long place (source.Unequal name value) ok = test-least (codes "if") name unequal value (has-byte name ok.0.named)
+item_long place (source.SystemEqual id value) ok = test-least (codes "if") (option_name id) equal value (option-long id)
+item_long place (source.SystemUnequal id value) ok = test-least (codes "if") (option_name id) unequal value (option-long id)
 item_long place source.Nul ok = omega arith
 item_long place (source.Enter name) ok = named-least (codes "use") name ok
-item_long place (source.Set name value) ok = test-least (codes "set") name equal value ok.0.named
+item_long place (source.Set name value) ok = test-least (codes "set") name equal value (has-byte name ok.0.named)
+item_long place (source.SetSystem id value) ok = test-least (codes "set") (option_name id) equal value (option-long id)
 item_long place (source.Save name) ok = named-least (codes "save") name ok
 item_long place (source.Reset name) ok = named-least (codes "reset") name ok
 item_long place source.Beep ok = omega arith

@@ -25,7 +25,7 @@ use Rattle.kmn_base.specs.Answers.{and_then}
 use Rattle.kmn_items.specs.TokenTexts.{LineToken}
 use Rattle.kmn_items.specs.Item.{unseen, read_items, read_key}
 use Rattle.kmn_parser.specs.Line.{is_sign, place_of, begins_word, begins_rule, has_items, rule_head, rule_key, rule_body, rule_at, earliest, read_rule, read_line}
-use Rattle.kmn_text.specs.Items.{value_token, flag_words, item_pieces, joined_items, key_text, spaced_words}
+use Rattle.kmn_text.specs.Items.{value_token, flag_words, item_pieces, joined_items, key_text, spaced_words, option_name}
 use Rattle.kmn_text.specs.Statements.{plain_pieces}
 use Rattle.kmn_text.specs.Texts.{arrow, bracket_closing, closing, comma, equal, name_token, plus, unequal, word}
 use Rattle.kmn_text.proofs.Forms.{ArePrinted}
@@ -69,8 +69,11 @@ item-arrow (source.Save name) = name-arrow name (closing ∷ []) refl
 item-arrow (source.Reset name) = name-arrow name (closing ∷ []) refl
 item-arrow (source.Index name offset) = name-arrow name (comma ∷ word (decimal offset) ∷ closing ∷ []) refl
 item-arrow (source.Equal name value) = name-arrow name (equal ∷ value_token value ∷ closing ∷ []) refl
+item-arrow (source.SystemEqual id value) = name-arrow (option_name id) (equal ∷ value_token value ∷ closing ∷ []) refl
 item-arrow (source.Unequal name value) = name-arrow name (unequal ∷ value_token value ∷ closing ∷ []) refl
+item-arrow (source.SystemUnequal id value) = name-arrow (option_name id) (unequal ∷ value_token value ∷ closing ∷ []) refl
 item-arrow (source.Set name value) = name-arrow name (equal ∷ value_token value ∷ closing ∷ []) refl
+item-arrow (source.SetSystem id value) = name-arrow (option_name id) (equal ∷ value_token value ∷ closing ∷ []) refl
 item-arrow i = refl
 
 item-plus : (i : SrcItem) → Without sign.Plus (tokens_in (item_pieces i))
@@ -83,8 +86,11 @@ item-plus (source.Save name) = name-plus name (closing ∷ []) refl
 item-plus (source.Reset name) = name-plus name (closing ∷ []) refl
 item-plus (source.Index name offset) = name-plus name (comma ∷ word (decimal offset) ∷ closing ∷ []) refl
 item-plus (source.Equal name value) = name-plus name (equal ∷ value_token value ∷ closing ∷ []) refl
+item-plus (source.SystemEqual id value) = name-plus (option_name id) (equal ∷ value_token value ∷ closing ∷ []) refl
 item-plus (source.Unequal name value) = name-plus name (unequal ∷ value_token value ∷ closing ∷ []) refl
+item-plus (source.SystemUnequal id value) = name-plus (option_name id) (unequal ∷ value_token value ∷ closing ∷ []) refl
 item-plus (source.Set name value) = name-plus name (equal ∷ value_token value ∷ closing ∷ []) refl
+item-plus (source.SetSystem id value) = name-plus (option_name id) (equal ∷ value_token value ∷ closing ∷ []) refl
 item-plus i = refl
 
 pub items-arrow : (items : List SrcItem) → Without sign.Arrow (items_tokens items)

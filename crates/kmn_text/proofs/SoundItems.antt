@@ -14,7 +14,7 @@ use Rattle.kmn_items.specs.declared.syntax.Where.{Where}
 use Rattle.kmn_items.specs.TokenTexts.{LineToken, is_wordy}
 use Rattle.kmn_text.specs.Printed.{printed}
 use Rattle.kmn_text.specs.Texts.{word, name_kind, name_token, bracket_closing, closing, comma, equal, unequal}
-use Rattle.kmn_text.specs.Items.{item_pieces, spaced_words, flag_words, key_text, value_token}
+use Rattle.kmn_text.specs.Items.{item_pieces, spaced_words, flag_words, key_text, value_token, option_name}
 use Rattle.kmn_text.proofs.LineForms.{is_word_text, is_still_byte, is_alone_c, ends_word, ends_clean, IsTokenText, AreSound}
 use Rattle.kmn_text.proofs.Forms.{IsPrinted, IsPrintedName}
 use Rattle.kmn_text.proofs.Hex.{char_number}
@@ -64,6 +64,17 @@ name_sound clean name rest ok ends more = named-kind (name_kind name) clean name
 call-sound : (clean : Bool) (name : List ℕ) (rest : List (Option LineToken)) → IsPrintedName name → AreSound false true rest → AreSound false clean (Some (name_token name) ∷ Some closing ∷ rest)
 call-sound clean name rest ok more = name_sound clean name (Some closing ∷ rest) ok refl (λ c. (refl, tt, more))
 
+-- a name, a sign and a value in the parentheses
+equal-sound : (name value : List ℕ) (rest : List (Option LineToken)) → IsPrintedName name → IsTokenText kind.Quoted (value_token value).text → AreSound false true rest
+    → AreSound false true (Some (name_token name) ∷ None ∷ Some equal ∷ None ∷ Some (value_token value) ∷ Some closing ∷ rest)
+equal-sound name value rest named sound more =
+    name_sound true name (None ∷ Some equal ∷ None ∷ Some (value_token value) ∷ Some closing ∷ rest) named refl (λ c. (refl, tt, (sound, tt, (refl, tt, more))))
+
+unequal-sound : (name value : List ℕ) (rest : List (Option LineToken)) → IsPrintedName name → IsTokenText kind.Quoted (value_token value).text → AreSound false true rest
+    → AreSound false true (Some (name_token name) ∷ None ∷ Some unequal ∷ None ∷ Some (value_token value) ∷ Some closing ∷ rest)
+unequal-sound name value rest named sound more =
+    name_sound true name (None ∷ Some unequal ∷ None ∷ Some (value_token value) ∷ Some closing ∷ rest) named refl (λ c. (refl, tt, (sound, tt, (refl, tt, more))))
+
 -- an item before what ends a word
 pub item_sound : (place : Where) (blank clean : Bool) (i : SrcItem) (rest : List (Option LineToken)) → IsPrinted place i → ends_word (printed rest) ≡ true → AreSound false true rest → AreSound blank clean (item_pieces i ++ rest)
 unfolding begins_forbidden
@@ -85,36 +96,12 @@ item_sound place blank clean (source.Index name offset) rest (ok, k) ends more =
         (λ c. (refl, tt, ((k.is_word, k.still), (refl, λ e. absurd cc), (refl, tt, more)))),
   ),
 )
-item_sound place blank clean (source.Equal name value) rest ok ends more = (
-  (refl, refl),
-  (refl, λ e. refl),
-  (
-    refl,
-    tt,
-    name_sound true name (None ∷ Some equal ∷ None ∷ Some (value_token value) ∷ Some closing ∷ rest) ok.named refl
-        (λ c. (refl, tt, (ok.sound, tt, (refl, tt, more)))),
-  ),
-)
-item_sound place blank clean (source.Unequal name value) rest ok ends more = (
-  (refl, refl),
-  (refl, λ e. refl),
-  (
-    refl,
-    tt,
-    name_sound true name (None ∷ Some unequal ∷ None ∷ Some (value_token value) ∷ Some closing ∷ rest) ok.named refl
-        (λ c. (refl, tt, (ok.sound, tt, (refl, tt, more)))),
-  ),
-)
-item_sound place blank clean (source.Set name value) rest ok ends more = (
-  (refl, refl),
-  (refl, λ e. refl),
-  (
-    refl,
-    tt,
-    name_sound true name (None ∷ Some equal ∷ None ∷ Some (value_token value) ∷ Some closing ∷ rest) ok.named refl
-        (λ c. (refl, tt, (ok.sound, tt, (refl, tt, more)))),
-  ),
-)
+item_sound place blank clean (source.Equal name value) rest ok ends more = ((refl, refl), (refl, λ e. refl), (refl, tt, equal-sound name value rest ok.named ok.sound more))
+item_sound place blank clean (source.SystemEqual id value) rest ok ends more = ((refl, refl), (refl, λ e. refl), (refl, tt, equal-sound (option_name id) value rest ok.named ok.sound more))
+item_sound place blank clean (source.Unequal name value) rest ok ends more = ((refl, refl), (refl, λ e. refl), (refl, tt, unequal-sound name value rest ok.named ok.sound more))
+item_sound place blank clean (source.SystemUnequal id value) rest ok ends more = ((refl, refl), (refl, λ e. refl), (refl, tt, unequal-sound (option_name id) value rest ok.named ok.sound more))
+item_sound place blank clean (source.Set name value) rest ok ends more = ((refl, refl), (refl, λ e. refl), (refl, tt, equal-sound name value rest ok.named ok.sound more))
+item_sound place blank clean (source.SetSystem id value) rest ok ends more = ((refl, refl), (refl, λ e. refl), (refl, tt, equal-sound (option_name id) value rest ok.1.named ok.1.sound more))
 item_sound place blank clean source.Context rest ok ends more = ((refl, refl), (ends, λ e. refl), more)
 item_sound place blank clean source.Nul rest ok ends more = ((refl, refl), (ends, λ e. refl), more)
 item_sound place blank clean source.Beep rest ok ends more = ((refl, refl), (ends, λ e. refl), more)

@@ -1,5 +1,9 @@
 -- Items that a text can say are read as they are written.
-use Rattle.std.proofs.Common.{◌≡◌, ℕ, ◌<◌, true, List, [], ◌∷◌, length, refl, arith}
+use Rattle.std.proofs.Common.{◌≡◌, ℕ, ◌<◌, true, false, ◌||◌, List, [], ◌∷◌, length, refl, sym, subst, arith}
+use Rattle.std.specs.Prelude.{nat_eq}
+use Rattle.std.proofs.lemmas.Bool.{eqb-true, or_right}
+use Rattle.kmn_base.specs.Names.{same_name}
+use Rattle.kmn_lines.specs.Tokens.{begins_forbidden}
 use Rattle.rule_model.specs.declared.program.KeyName.{KeyName}
 use Rattle.rule_model.specs.declared.program.SrcItem.{SrcItem}
 use Rattle.rule_model.specs.declared.program.SrcItem.TheVariants as source
@@ -7,10 +11,11 @@ use Rattle.kmn_items.specs.declared.syntax.Where.{Where}
 use Rattle.kmn_items.specs.declared.syntax.Where.TheVariants as section
 use Rattle.kmn_items.specs.declared.syntax.Seen.{Seen}
 use Rattle.kmn_items.specs.Brackets.{key_item}
+use Rattle.kmn_items.specs.Forms.{option_ids, is_option_id}
 use Rattle.kmn_text.specs.Items.{item_pieces}
 use Rattle.kmn_text.specs.Spelled.{IsStoreName, IsSpelledValue, keeps_keys, IsSpelledItem, item_lead, seen_lead, AreSpelled}
 use Rattle.kmn_text.proofs.LineForms.{tokens_in}
-use Rattle.kmn_text.proofs.Forms.{IsPrintedOption, IsPrinted, ArePrinted}
+use Rattle.kmn_text.proofs.Forms.{IsPrintedOption, IsPrintedSystem, IsPrinted, ArePrinted}
 use Rattle.kmn_text.proofs.Names.{spelled_name}
 use Rattle.kmn_text.proofs.Values.{spelled_value}
 use Rattle.kmn_text.proofs.Offsets.{spelled_offset}
@@ -27,6 +32,21 @@ spelled-option name value ok fits =
     let read = spelled_value value fits in
     record { named = spelled_name name ok.named; ordinary = ok.ordinary; read = read.read; sound = read.sound }
 
+-- what holds of both system options
+option-cases : (P : ℕ → Type 0) (id : ℕ) → is_option_id id ≡ true → P 31 → P 33 → P id
+option-cases P id known platform layer = elim (nat_eq id 31) as (λ b. nat_eq id 31 ≡ b → (b || nat_eq id 33) ≡ true → P id) [
+  | true ↦ λ e f. subst P (sym (eqb-true id 31 e)) platform
+  | false ↦ λ e f. subst P (sym (eqb-true id 33 f)) layer
+] refl known
+
+spelled-system : (id : ℕ) (value : List ℕ) → is_option_id id ≡ true → IsSpelledValue value → IsPrintedSystem id value
+unfolding option_ids same_name begins_forbidden
+spelled-system id value known fits =
+    let read = spelled_value value fits in
+    option-cases (λ n. IsPrintedSystem n value) id known
+    (record { named = record { token = (refl, refl); fits = refl }; system = refl; bare = refl; known = refl; read = read.read; sound = read.sound })
+    (record { named = record { token = (refl, refl); fits = refl }; system = refl; bare = refl; known = refl; read = read.read; sound = read.sound })
+
 pub spelled_item : (place : Where) (i : SrcItem) → IsSpelledItem place i → IsPrinted place i
 spelled_item place (source.Char c) ok = ok
 spelled_item place (source.Dead name) ok = spelled_name name ok
@@ -38,9 +58,12 @@ spelled_item place source.Context ok = tt
 spelled_item place (source.ContextAt offset) ok = spelled_offset offset ok
 spelled_item place (source.Equal name value) ok = spelled-option name value ok.0 ok.1
 spelled_item place (source.Unequal name value) ok = spelled-option name value ok.0 ok.1
+spelled_item place (source.SystemEqual id value) ok = spelled-system id value ok.0 ok.1
+spelled_item place (source.SystemUnequal id value) ok = spelled-system id value ok.0 ok.1
 spelled_item place source.Nul ok = tt
 spelled_item place (source.Enter name) ok = spelled_name name ok
 spelled_item place (source.Set name value) ok = spelled-option name value ok.0 ok.1
+spelled_item place (source.SetSystem id value) ok = (ok.0, spelled-system id value (or_right (nat_eq id 31) _ ok.0) ok.1)
 spelled_item place (source.Save name) ok = spelled_name name ok
 spelled_item place (source.Reset name) ok = spelled_name name ok
 spelled_item place source.Beep ok = tt

@@ -4,7 +4,7 @@ use Rattle.std.specs.Prelude.{codes, nat_eq, nat_lt, bit_and, filter, option_map
 use Rattle.std.specs.Str.{IsAscii, is_utf8}
 use Rattle.std.specs.Fmt.{decimal}
 use Rattle.std.specs.List.{list_all, list_any}
-use Rattle.std.proofs.lemmas.Bool.{and_parts, and_from, ltb-true, eqb-true, eqb-false}
+use Rattle.std.proofs.lemmas.Bool.{and_parts, and_from, cond_both, ltb-true, eqb-true, eqb-false}
 use Rattle.std.proofs.lemmas.Fmt.{IsAscii-decimal}
 use Rattle.std.proofs.lemmas.Str.{IsUtf8-append, IsUtf8-from_ascii, IsUtf8-from_is_utf8, is_utf8-from_IsUtf8}
 use lib.Utf8.{encodes}
@@ -17,7 +17,7 @@ use Rattle.kmn_items.specs.declared.syntax.Seen.{Seen}
 use Rattle.kmn_items.specs.TokenTexts.{LineToken}
 use Rattle.kmn_text.specs.Printed.{printed, rows, sheet}
 use Rattle.kmn_text.specs.Texts.{hex_text, hex_count, char_text, word, bracket_closing, equal, unequal}
-use Rattle.kmn_text.specs.Items.{named_call, compared, flag_words, key_text, spaced_words, value_token, item_pieces, spaced_items, joined_items}
+use Rattle.kmn_text.specs.Items.{named_call, compared, option_name, flag_words, key_text, spaced_words, value_token, item_pieces, spaced_items, joined_items}
 use Rattle.kmn_text.specs.Spelled.{IsSpelledValue, IsSpelledKey, IsSpelledItem, AreSpelled, item_lead, seen_lead}
 use Rattle.kmn_text.proofs.Hex.{is_ascii_byte, digits-ascii, digits-hex}
 use Rattle.kmn_text.proofs.Values.{all-scalars}
@@ -125,6 +125,9 @@ key-texts key ok = (
 char-text : (c : ℕ) → is_utf8 (char_text c) ≡ true
 char-text c = ascii (char_text c) (and_from true _ refl (and_from true _ refl (digits-ascii (hex_text (hex_count c) c) (digits-hex (hex_count c) c))))
 
+option-text : (id : ℕ) → is_utf8 (option_name id) ≡ true
+option-text id = cond_both (nat_eq id 31) _ _ (λ text. is_utf8 text ≡ true) (λ e. ascii (codes "&platform") refl) (λ e. ascii (codes "&layer") refl)
+
 pub item-texts : (place : Where) (i : SrcItem) → IsSpelledItem place i → AreTexts (item_pieces i)
 item-texts place (source.Char c) ok = (char-text c, tt)
 item-texts place (source.Dead name) ok = named-texts (codes "dk") name refl ok.utf8
@@ -138,9 +141,12 @@ item-texts place (source.ContextAt offset) ok =
     (ascii (codes "context") refl, (ascii (40 ∷ []) refl, (decimal-text offset (let small : offset < 10 ^ 9 = ok in omega arith), (ascii (41 ∷ []) refl, tt))))
 item-texts place (source.Equal name value) ok = compared-texts (codes "if") name equal value refl ok.0.named.utf8 (ascii (61 ∷ []) refl) ok.1
 item-texts place (source.Unequal name value) ok = compared-texts (codes "if") name unequal value refl ok.0.named.utf8 (ascii (33 ∷ 61 ∷ []) refl) ok.1
+item-texts place (source.SystemEqual id value) ok = compared-texts (codes "if") (option_name id) equal value refl (option-text id) (ascii (61 ∷ []) refl) ok.1
+item-texts place (source.SystemUnequal id value) ok = compared-texts (codes "if") (option_name id) unequal value refl (option-text id) (ascii (33 ∷ 61 ∷ []) refl) ok.1
 item-texts place source.Nul ok = (ascii (codes "nul") refl, tt)
 item-texts place (source.Enter name) ok = named-texts (codes "use") name refl ok.utf8
 item-texts place (source.Set name value) ok = compared-texts (codes "set") name equal value refl ok.0.named.utf8 (ascii (61 ∷ []) refl) ok.1
+item-texts place (source.SetSystem id value) ok = compared-texts (codes "set") (option_name id) equal value refl (option-text id) (ascii (61 ∷ []) refl) ok.1
 item-texts place (source.Save name) ok = named-texts (codes "save") name refl ok.utf8
 item-texts place (source.Reset name) ok = named-texts (codes "reset") name refl ok.utf8
 item-texts place source.Beep ok = (ascii (codes "beep") refl, tt)

@@ -45,6 +45,10 @@ abbrev pub compared : List ℕ → List ℕ → LineToken → List ℕ → List 
 compared lead name sign value =
     Some (word lead) ∷ Some opening ∷ Some (name_token name) ∷ None ∷ Some sign ∷ None ∷ Some (value_token value) ∷ Some closing ∷ []
 
+-- the name of a system option, with its &
+abbrev pub option_name : ℕ → List ℕ
+option_name id = if nat_eq id 31 then codes "&platform" else codes "&layer"
+
 -- an item; those that no compiled file has are not written
 abbrev pub item_pieces : SrcItem → List (Option LineToken)
 item_pieces (source.Char c) = Some (char_token c) ∷ []
@@ -58,9 +62,12 @@ item_pieces source.Context = Some (word (codes "context")) ∷ []
 item_pieces (source.ContextAt offset) = call (codes "context") (word (decimal offset))
 item_pieces (source.Equal name value) = compared (codes "if") name equal value
 item_pieces (source.Unequal name value) = compared (codes "if") name unequal value
+item_pieces (source.SystemEqual id value) = compared (codes "if") (option_name id) equal value
+item_pieces (source.SystemUnequal id value) = compared (codes "if") (option_name id) unequal value
 item_pieces source.Nul = Some (word (codes "nul")) ∷ []
 item_pieces (source.Enter name) = named_call (codes "use") name
 item_pieces (source.Set name value) = compared (codes "set") name equal value
+item_pieces (source.SetSystem id value) = compared (codes "set") (option_name id) equal value
 item_pieces (source.Save name) = named_call (codes "save") name
 item_pieces (source.Reset name) = named_call (codes "reset") name
 item_pieces source.Beep = Some (word (codes "beep")) ∷ []

@@ -22,6 +22,7 @@ use Rattle.kmn_items.specs.declared.syntax.ItemWord.TheVariants as item
 use Rattle.kmn_items.specs.declared.syntax.Lead.{Lead}
 use Rattle.kmn_items.specs.declared.syntax.Lead.TheVariants as lead
 use Rattle.kmn_items.specs.Words.{is_system_name, is_own_key}
+use Rattle.kmn_items.specs.Forms.{is_option_id}
 use Rattle.kmn_items.specs.Standing.{standing_code, seen_word, seen_count}
 use Rattle.kmn_items.specs.Item.{unseen}
 use Rattle.kmn_parser.specs.Line.{system_stores}
@@ -73,9 +74,12 @@ IsSpelledItem place source.Context = Unit {0}
 IsSpelledItem place (source.ContextAt offset) = IsSpelledOffset offset
 IsSpelledItem place (source.Equal name value) = IsStoreName name × IsSpelledValue value
 IsSpelledItem place (source.Unequal name value) = IsStoreName name × IsSpelledValue value
+IsSpelledItem place (source.SystemEqual id value) = (is_option_id id ≡ true) × IsSpelledValue value
+IsSpelledItem place (source.SystemUnequal id value) = (is_option_id id ≡ true) × IsSpelledValue value
 IsSpelledItem place source.Nul = Unit {0}
 IsSpelledItem place (source.Enter name) = IsSpelledName name
 IsSpelledItem place (source.Set name value) = IsStoreName name × IsSpelledValue value
+IsSpelledItem place (source.SetSystem id value) = (nat_eq id 33 ≡ true) × IsSpelledValue value
 IsSpelledItem place (source.Save name) = IsSpelledName name
 IsSpelledItem place (source.Reset name) = IsSpelledName name
 IsSpelledItem place source.Beep = Unit {0}
@@ -94,9 +98,12 @@ item_lead source.Context = lead.Named item.Context
 item_lead (source.ContextAt offset) = lead.Named item.ContextAt
 item_lead (source.Equal name value) = lead.Named item.If
 item_lead (source.Unequal name value) = lead.Named item.If
+item_lead (source.SystemEqual id value) = lead.Named item.If
+item_lead (source.SystemUnequal id value) = lead.Named item.If
 item_lead source.Nul = lead.Named item.Nul
 item_lead (source.Enter name) = lead.Named item.Use
 item_lead (source.Set name value) = lead.Named item.Set
+item_lead (source.SetSystem id value) = lead.Named item.Set
 item_lead (source.Save name) = lead.Named item.Save
 item_lead (source.Reset name) = lead.Named item.Reset
 item_lead source.Beep = lead.Named item.Beep

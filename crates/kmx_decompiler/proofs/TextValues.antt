@@ -49,10 +49,13 @@ module _ (names : Names) where
   pattern-stated : (p : Pat) → item_values (back_pattern names p) ≡ called (pattern_values p)
   pattern-stated (pattern.Equal s value) = refl
   pattern-stated (pattern.Unequal s value) = refl
+  pattern-stated (pattern.SystemEqual id value) = refl
+  pattern-stated (pattern.SystemUnequal id value) = refl
   pattern-stated p = refl
 
   output-stated : (o : Out) → item_values (back_output names o) ≡ called (output_values o)
   output-stated (output.Set s value) = refl
+  output-stated (output.SetSystem id value) = refl
   output-stated o = refl
 
   context-stated : (ps : List Pat) → stated (map (back_pattern names) ps) ≡ called (flat_map pattern_values ps)

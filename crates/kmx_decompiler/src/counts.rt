@@ -12,13 +12,13 @@ ghost use Rattle.kmx_decompiler.specs.Refusals.{too_many};
 ghost use Rattle.kmx_decompiler.specs.Counting.{capped, none_counted, with_lengths, some_length, called_lengths, spaced_size, joined_length, text_lengths};
 
 use crate::values::{Values, values_of};
+use decompile_causes::NoSpelling;
 use decompile_names::Called;
 use decompile_text::{Front, version_text};
 use kmn_base::limits::{ALL_ELEMENTS, STORES};
 use kmn_base::texts::character_count;
 use kmn_base::{Memory, Text};
 use rule_model::{Store, Tables};
-use decompile_causes::NoSpelling;
 use std::alloc::Global;
 
 /// So many stores, and so many elements of all of them.

@@ -17,6 +17,7 @@ use crate::counts::{count_all, passed};
 use crate::order::disorder;
 use crate::places::least_cause;
 use crate::refusals::DecompileError;
+use decompile_causes::NoSpelling;
 use decompile_names::{Called, called_by, free_stores};
 use decompile_text::{Front, front_count, front_of, page_of};
 use indexed_tables::IndexedTables;
@@ -25,7 +26,6 @@ use kmn_base::limits::TEXT_BYTES;
 use kmn_base::slices::behind;
 use kmx_verifier::Verified;
 use rule_model::Tables;
-use decompile_causes::NoSpelling;
 use std::alloc::Global;
 
 /// The text of tables, unless it or what compiling it gives is too large.

@@ -75,7 +75,6 @@ pub(crate) fn is_far_pattern(pattern: &Pat) -> bool
 {
     match pattern {
         Pat::Mark(mark) => is_far_mark(*mark),
-        Pat::SystemEqual(_, _) | Pat::SystemUnequal(_, _) => true,
         _ => false,
     }
 }
@@ -85,7 +84,10 @@ pub(crate) fn pattern_value(pattern: &Pat) -> Option<u32>
     ensures { option_to_list result ≡ pattern_values pattern.now }
 {
     match pattern {
-        Pat::Equal(_, value) | Pat::Unequal(_, value) => Some(*value),
+        Pat::Equal(_, value)
+        | Pat::Unequal(_, value)
+        | Pat::SystemEqual(_, value)
+        | Pat::SystemUnequal(_, value) => Some(*value),
         _ => None,
     }
 }
@@ -95,7 +97,6 @@ pub(crate) fn is_far_output(output: &Out) -> bool
 {
     match output {
         Out::Mark(mark) => is_far_mark(*mark),
-        Out::SetSystem(_, _) => true,
         _ => false,
     }
 }
@@ -105,7 +106,7 @@ pub(crate) fn output_value(output: &Out) -> Option<u32>
     ensures { option_to_list result ≡ output_values output.now }
 {
     match output {
-        Out::Set(_, value) => Some(*value),
+        Out::Set(_, value) | Out::SetSystem(_, value) => Some(*value),
         _ => None,
     }
 }

@@ -3,8 +3,8 @@
 ghost use Rattle.std.specs.Prelude.{◌≡◌, ◌<◌, ◌^◌, All, length};
 ghost use Rattle.decompile_causes.specs.Unspelled.{longer_behind, first_longer, disorder};
 
-use rule_model::{Group, Rule};
 use decompile_causes::NoSpelling;
+use rule_model::{Group, Rule};
 
 /// The number of the first of records, which count from 1, that has a longer context than the one before it. The length of
 /// the context before them all is given.

@@ -18,11 +18,9 @@ use indexed_tables::IndexedTables;
 use kmn_base::Memory;
 use kmx_format::sizes::{GROUP_BYTES, RULE_BYTES, STORE_BYTES};
 use kmx_view::word_at;
+use rule_model::system::KEY_DICTIONARY;
 use rule_model::{Group, Rule, Store, Tables};
 use std::alloc::Global;
-
-/// The system id of the store that has the key dictionary.
-const DICTIONARY: u32 = 34;
 
 /// The lesser of the least place and another, where a cause stands there.
 fn lesser(least: Option<u32>, place: u32, cause: bool) -> Option<u32>
@@ -110,7 +108,9 @@ fn in_groups(
 fn dictionary_number(stores: &[Store]) -> Option<usize>
     ensures { result ≡ position is_dictionary stores.now }
 {
-    stores.iter().position(|store| store.system == DICTIONARY)
+    stores
+        .iter()
+        .position(|store| store.system == KEY_DICTIONARY)
 }
 
 /// Whether a number is another, if there is one.

@@ -1,5 +1,5 @@
-use kmn_base::Memory;
 use decompile_causes::NoSpelling;
+use kmn_base::Memory;
 use thiserror::Error;
 
 /// Why a file was not decompiled.

@@ -72,7 +72,7 @@ impl<'a> FileRule<'a> {
         word_at(self.bytes, self.place + 4)
     }
 
-    /// The place in the key store of the source: 0, since no file keeps it.
+    /// The place that tells records of one line apart: 0, since no file keeps it.
     pub fn source_place(&self) -> u32
         ensures { result ≡ self.now.place }
     {

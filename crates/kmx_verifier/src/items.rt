@@ -8,12 +8,13 @@ ghost use Rattle.kmx_verifier.specs.FaultOf.{names_outside, item_fault, spelling
 use crate::faults::{Fault, StringKind, Target};
 use kmn_base::{BadKind, Code, UnitItem};
 use kmx_view::word_at;
+use rule_model::system;
 
-/// The platform as a file counts system options, from 1.
-const PLATFORM: u16 = 32;
+/// The platform as an item has it, whose operands count from 1.
+const PLATFORM: u16 = system::PLATFORM as u16 + 1;
 
 /// The layer, likewise.
-const LAYER: u16 = 34;
+const LAYER: u16 = system::LAYER as u16 + 1;
 
 fn stands_in_store(item: UnitItem) -> bool
     ensures { result ≡ stands_in_store item }

@@ -2,8 +2,8 @@
 
 ghost use Rattle.std.specs.Prelude.{◌≡◌, IfOk};
 
-use kmx_parts::{FileGroup, FileRule, FileStore, FileTables};
 use kmn_base::{Memory, Seq};
+use kmx_parts::{FileGroup, FileRule, FileStore, FileTables};
 use rule_model::{Group, Rule, Store, Tables};
 use std::alloc::Global;
 

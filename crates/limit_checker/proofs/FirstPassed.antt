@@ -30,9 +30,10 @@ use Rattle.limit_checker.specs.declared.counting.StoreCounts.{StoreCounts}
 use Rattle.limit_checker.specs.declared.totals.Totals.{Totals}
 use Rattle.limit_checker.specs.declared.walking.Walk.{Walk}
 use Rattle.limit_checker.specs.Limits.{Statement, OfStore, OfRule, in_line_order, line_of, items_of, values_of_statement, statement_size, store_size, record_count, records_of_statement, all_records, names_size, dictionary_size, sizes, have_many_elements, are_many_stores, have_many_marks, have_many_records, limit_code, statement_refusal, output_size}
+use Rattle.limit_checker.specs.Cased.{codes_of_cased}
 use Rattle.limit_checker.specs.Counting.{capped, total, count_of, output_count_of, with_stores, no_counts}
 use Rattle.limit_checker.specs.Walking.{with_names, with_values, with_size, with_store_size, record_count_of, after_store, after_rule, store_count, passes_elements, totals_code, after_statement, walked, no_totals, no_walk}
-use Rattle.limit_checker.proofs.Counted.{AreCounts, named_count, items_count, output_counted, program_counts, one_more, from_zero}
+use Rattle.limit_checker.proofs.Counted.{AreCounts, named_records, virtual_counted, items_count, output_counted, program_counts, one_more}
 use Rattle.limit_checker.proofs.Gathered.{AreSums, Gains, gains_both, names_gain, values_gain, distinct_append, fold_push, any_push}
 
 -- a walk that goes on from what was counted before
@@ -77,9 +78,10 @@ items_push f before statement = ap (flat_map f) (flat_push items_of before state
 more_seen : {X : Type 0} (same : X → X → Bool) (now seen all before here : List X) → now ≡ distinct_onto same seen here → seen ≡ distinct_onto same [] before → all ≡ before ++ here → now ≡ distinct_onto same [] all
 more_seen same now seen all before here a b c = a ∙ ap (λ s. distinct_onto same s here) b ∙ sym (distinct_append same [] before here) ∙ ap (distinct_onto same []) (sym c)
 
-module _ (known : Known) (counted : StoreCounts) (are : AreCounts counted known.stores) where
-  records_of_key : (k : RuleKind) (key : Option SrcItem) → record_count_of counted k key ≡ capped (record_count known.stores k key)
-  records_of_key kind.Plain (Some (source.Any store)) = named_count counted known.stores store are
+module _ (known : Known) (counted : StoreCounts) (are : AreCounts counted known.cased known.stores) where
+  records_of_key : (k : RuleKind) (key : Option SrcItem) → record_count_of counted k key ≡ capped (record_count known k key)
+  records_of_key kind.Plain (Some (source.Key key)) = virtual_counted counted known.cased known.stores key key.code are refl
+  records_of_key kind.Plain (Some (source.Any store)) = named_records counted known.cased known.stores store are
   records_of_key kind.Plain None = refl
   records_of_key kind.Plain (Some item) = refl
   records_of_key kind.OnMatch key = refl
@@ -113,7 +115,7 @@ module _ (known : Known) (counted : StoreCounts) (are : AreCounts counted known.
         stores = gains.stores ∙ told.stores ∙ ap (λ (ns : List ℕ). capped (length ns)) (sym same);
         elements = gains.elements ∙ told.elements ∙ ap (λ (ns : List ℕ). capped (sum ns)) (sym same);
         has_large_store = gains.has_large_store ∙ told.has_large_store ∙ ap (list_any (nat_lt STORE_ELEMENTS)) (sym same);
-        records = (λ j. capped ((gains.records ∙ told.records) j + records_of_key rule.kind rule.key j)) ∙ one_more (all_records known before) (record_count known.stores rule.kind rule.key) ∙ ap capped (sym (records_push before (OfRule rule)));
+        records = (λ j. capped ((gains.records ∙ told.records) j + records_of_key rule.kind rule.key j)) ∙ one_more (all_records known before) (record_count known rule.kind rule.key) ∙ ap capped (sym (records_push before (OfRule rule)));
         sums = same_sums (gains.sums told.sums);
       }
     where
@@ -164,7 +166,7 @@ module _ (known : Known) (counted : StoreCounts) (are : AreCounts counted known.
   totals_store : (before : List Statement) (totals : Totals) (store : StoreDef) → AreTotals known before totals → AreTotals known (before ++ OfStore store ∷ []) (after_store counted totals store)
   totals_store before totals store told =
       let one = sized before totals (total (count_of counted) 0 store.items) (length (statement_elements known store))
-      (items_count known.names counted known.stores are 0 store.items ∙ ap capped (from_zero (length (statement_elements known store)))) told (is_dropped store) in
+      (items_count known.names counted known.cased known.stores are store.items) told (is_dropped store) in
       let first = with_store_size counted totals store in
       let now = after_store counted totals store in
       let gains = names_gain first store.items in
@@ -278,7 +280,7 @@ module _ (known : Known) (counted : StoreCounts) (are : AreCounts counted known.
       let context = nat_lt CONTEXT_ITEMS (length rule.context) in
       let size = output_size known.stores rule.output in
       let long : nat_lt OUTPUT_ITEMS (total (output_count_of counted) 0 rule.output) ≡ nat_lt OUTPUT_ITEMS size =
-      ap (nat_lt OUTPUT_ITEMS) (output_counted counted known.stores are rule.output) ∙ not_capped OUTPUT_ITEMS size (omega arith) in (
+      ap (nat_lt OUTPUT_ITEMS) (output_counted counted known.cased known.stores are rule.output) ∙ not_capped OUTPUT_ITEMS size (omega arith) in (
         next,
         ap (λ output. earlier walk.first (at_line rule.line (totals_code (after_rule counted walk.totals rule) context output))) long
             ∙ ap (λ code. earlier walk.first (at_line rule.line code)) (same_code (before ++ OfRule rule ∷ []) (after_rule counted walk.totals rule) next context (nat_lt OUTPUT_ITEMS size)),
@@ -291,8 +293,8 @@ module _ (known : Known) (counted : StoreCounts) (are : AreCounts counted known.
   walk_finds_first statements = first_walked counted (AreTotals known) (limit_code known) tells [] no_walk statements none_told
 
 -- the walk over a program with the counts of its stores
-pub first_passed : (program : Program) → (walked (with_stores no_counts program.stores) no_walk (in_line_order program.stores (all_rules program))).first
+pub first_passed : (program : Program) → (walked (with_stores (no_counts (codes_of_cased program.stores)) program.stores) no_walk (in_line_order program.stores (all_rules program))).first
     ≡ first_of (statement_refusal (known program)) [] (in_line_order program.stores (all_rules program))
 unfolding known
 first_passed program =
-    walk_finds_first (known program) (with_stores no_counts program.stores) (program_counts program) (in_line_order program.stores (all_rules program))
+    walk_finds_first (known program) (with_stores (no_counts (codes_of_cased program.stores)) program.stores) (program_counts program) (in_line_order program.stores (all_rules program))

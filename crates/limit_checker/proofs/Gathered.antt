@@ -156,7 +156,10 @@ names_gain totals (item ∷ items) =
 value_of_gains : (totals : Totals) (item : SrcItem) → Gains totals (with_value_of totals item) [] [] (item_values item)
 value_of_gains totals (source.Equal store value) = value_gains totals value
 value_of_gains totals (source.Unequal store value) = value_gains totals value
+value_of_gains totals (source.SystemEqual id value) = value_gains totals value
+value_of_gains totals (source.SystemUnequal id value) = value_gains totals value
 value_of_gains totals (source.Set store value) = value_gains totals value
+value_of_gains totals (source.SetSystem id value) = value_gains totals value
 value_of_gains totals item = gains_nothing totals
 
 -- the values of items

@@ -1,3 +1,5 @@
+pub mod Cased
 pub mod Counting
+pub mod KeyCodes
 pub mod Limits
 pub mod Walking

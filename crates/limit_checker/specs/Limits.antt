@@ -1,5 +1,5 @@
 -- What of a program passes a limit, at the statement which first passes it.
-use Rattle.std.specs.Prelude.{ℕ, ◌+◌, Bool, false, ◌||◌, if◌then◌else◌, nat_lt, List, [], ◌∷◌, ◌++◌, length, map, flat_map, sum, Option, Some}
+use Rattle.std.specs.Prelude.{ℕ, ◌+◌, Bool, false, ◌&&◌, ◌||◌, if◌then◌else◌, nat_lt, List, [], ◌∷◌, ◌++◌, length, map, flat_map, filter, sum, Option, Some}
 use Rattle.std.specs.List.{list_any}
 use Rattle.std.specs.Str.{bytes_eq, chars}
 use Rattle.kmn_base.specs.declared.codes.Code.{Code}
@@ -7,6 +7,8 @@ use Rattle.kmn_base.specs.declared.codes.Code.TheVariants.{C16, C17, C18, C19, C
 use Rattle.kmn_base.specs.declared.limits.TheConstants.{CONTEXT_ITEMS, OUTPUT_ITEMS, STORE_ELEMENTS, ALL_ELEMENTS, STORES, GROUPS, RECORDS, DEADKEYS}
 use Rattle.kmn_base.specs.declared.refusals.Refusal.{Refusal}
 use Rattle.kmn_base.specs.Names.{same_name}
+use Rattle.kmn_base.specs.declared.items.Element.{Element}
+use Rattle.kmn_base.specs.declared.items.Element.TheVariants as element
 use Rattle.rule_model.specs.declared.program.SrcItem.{SrcItem}
 use Rattle.rule_model.specs.declared.program.SrcItem.TheVariants as source
 use Rattle.rule_model.specs.declared.program.StoreDef.{StoreDef}
@@ -18,6 +20,7 @@ use Rattle.rule_model.specs.declared.program.Program.{Program}
 use Rattle.rule_model.specs.declared.tables.Store.{Store}
 use Rattle.rule_model.specs.Tab.{distinct_onto}
 use Rattle.rule_model.specs.Naming.{is_dropped, rule_items, stores_before, stores_after, all_rules, mark_names, key_names, elements_named}
+use Rattle.rule_model.specs.Hold.{is_exchanged}
 use Rattle.compile_laws.specs.Numbers.{item_values}
 use Rattle.store_table.specs.First.{broken, at_line, earlier, first_of}
 use Rattle.store_table.specs.Known.{Known, known, statement_elements}
@@ -54,18 +57,31 @@ item_size stores item = 1
 abbrev pub output_size : List Store → List SrcItem → ℕ
 output_size stores output = sum (map (item_size stores) output)
 
--- how many records a statement has: a rule one, or one for each element of its key store
-abbrev pub key_count : List Store → Option SrcItem → ℕ
-key_count stores (Some (source.Any store)) = length (elements_named stores store)
-key_count stores key = 1
+-- the codes of the cased keys: those of the key table, since others are refused before the limits
+abbrev pub cased_codes : Known → List ℕ
+cased_codes known = filter (λ code. nat_lt 0 code && nat_lt code 256) known.cased
 
-abbrev pub record_count : List Store → RuleKind → Option SrcItem → ℕ
-record_count stores kind.Plain key = key_count stores key
-record_count stores other key = 0
+-- how many records a key of these flags and this code has: two where it exchanges shift and caps lock
+abbrev pub virtual_count : List ℕ → ℕ → ℕ → ℕ
+virtual_count cased flags code = if is_exchanged cased flags code then 2 else 1
+
+abbrev pub element_count : List ℕ → Element → ℕ
+element_count cased (element.Key flags code) = virtual_count cased flags code
+element_count cased other = 1
+
+-- how many records a statement has: those of a rule's key, or of all elements of its key store
+abbrev pub key_count : Known → Option SrcItem → ℕ
+key_count known (Some (source.Key key)) = virtual_count (cased_codes known) key.flags key.code
+key_count known (Some (source.Any store)) = sum (map (element_count (cased_codes known)) (elements_named known.stores store))
+key_count known key = 1
+
+abbrev pub record_count : Known → RuleKind → Option SrcItem → ℕ
+record_count known kind.Plain key = key_count known key
+record_count known other key = 0
 
 abbrev pub records_of_statement : Known → Statement → ℕ
 records_of_statement known (OfStore store) = 0
-records_of_statement known (OfRule rule) = record_count known.stores rule.kind rule.key
+records_of_statement known (OfRule rule) = record_count known rule.kind rule.key
 
 -- how many elements the store of a statement has in the file, where it is a store of the file
 abbrev pub store_size : Known → StoreDef → List ℕ

@@ -18,7 +18,7 @@ use Rattle.store_table.specs.Names.{is_named}
 use Rattle.limit_checker.specs.declared.counting.StoreCounts.{StoreCounts}
 use Rattle.limit_checker.specs.declared.totals.Totals.{Totals}
 use Rattle.limit_checker.specs.declared.walking.Walk.{Walk}
-use Rattle.limit_checker.specs.Counting.{capped, total, count_of, output_count_of, count_named}
+use Rattle.limit_checker.specs.Counting.{capped, total, count_of, output_count_of, records_named, virtual_count_of}
 use Rattle.limit_checker.specs.Limits.{Statement, OfStore, OfRule}
 
 -- a mark, a key of the dictionary and a value count where they first appear
@@ -57,7 +57,10 @@ with_names totals (item ∷ items) = with_names (with_names_of totals item) item
 abbrev pub with_value_of : Totals → SrcItem → Totals
 with_value_of totals (source.Equal store value) = with_value totals value
 with_value_of totals (source.Unequal store value) = with_value totals value
+with_value_of totals (source.SystemEqual id value) = with_value totals value
+with_value_of totals (source.SystemUnequal id value) = with_value totals value
 with_value_of totals (source.Set store value) = with_value totals value
+with_value_of totals (source.SetSystem id value) = with_value totals value
 with_value_of totals item = totals
 
 abbrev pub with_values : Totals → List SrcItem → Totals
@@ -79,7 +82,8 @@ with_store_size counted totals store =
 
 -- the records of a rule
 abbrev pub key_count_of : StoreCounts → Option SrcItem → ℕ
-key_count_of counted (Some (source.Any store)) = count_named counted store
+key_count_of counted (Some (source.Key key)) = virtual_count_of counted key
+key_count_of counted (Some (source.Any store)) = records_named counted store
 key_count_of counted key = 1
 
 abbrev pub record_count_of : StoreCounts → RuleKind → Option SrcItem → ℕ

@@ -7,6 +7,7 @@ ghost use Rattle.rule_model.specs.declared.program.GroupDef.{GroupDef};
 ghost use Rattle.rule_model.specs.Naming.{all_rules};
 ghost use Rattle.limit_checker.specs.Limits.{group_refusal, in_line_order, limits_refusal, statement_refusal};
 
+use crate::cased::cased_codes;
 use crate::counting::count_stores;
 use crate::walking::first_passed;
 use kmn_base::limits::GROUPS;
@@ -20,7 +21,8 @@ use store_table::{at_line, earlier};
 fn statements_refusal(alloc: Global, program: &Program) -> Result<Option<Refusal>, Memory>
     ensures { IfOk result (λ refusal. refusal ≡ first_of (statement_refusal (known program.now)) [] (in_line_order program.now.stores (all_rules program.now))) }
 {
-    let counted = count_stores(alloc, program.stores.as_slice())?;
+    let cased = cased_codes(alloc, program.stores.as_slice())?;
+    let counted = count_stores(alloc, cased, program.stores.as_slice())?;
     first_passed(alloc, &counted, program)
 }
 

@@ -5,14 +5,16 @@ ghost use Rattle.rule_model.specs.Naming.{rule_items};
 ghost use Rattle.limit_checker.specs.Counting.{capped};
 ghost use Rattle.limit_checker.specs.Walking.{after_rule, after_store, dictionary_count, key_count_of, no_totals, passes_elements, record_count_of, store_count, totals_code, with_key, with_mark, with_names, with_names_of, with_records, with_size, with_store_size, with_value, with_value_of, with_values};
 
-use crate::counting::{StoreCounts, count_named, store_count};
+use crate::counting::{StoreCounts, records_named, store_count, virtual_count};
+use crate::key_codes::either;
 use crate::spelled::character_count;
 use crate::values::ValueTable;
 use kmn_base::limits::{ALL_ELEMENTS, DEADKEYS, RECORDS, STORE_ELEMENTS, STORES};
 use kmn_base::{Code, Memory};
+use rule_model::system::DROPPED;
 use rule_model::{RuleDef, RuleKind, SrcItem, StoreDef};
 use std::alloc::Global;
-use store_table::{DROPPED, NameTable};
+use store_table::NameTable;
 
 /// What was counted up to a statement; each number stays at the end of its type.
 #[derive(Drop)]
@@ -48,13 +50,6 @@ fn size_of(len: usize) -> u32
     } else {
         0xFFFF_FFFF
     }
-}
-
-/// Whether one of two holds.
-fn either(one: bool, other: bool) -> bool
-    ensures { result ≡ (one || other) }
-{
-    one || other
 }
 
 impl Totals {
@@ -148,7 +143,10 @@ fn add_value_of(totals: &mut Totals, item: &SrcItem) -> Result<(), Memory>
     match item {
         SrcItem::Equal(_, value) => add_value(totals, value.as_slice()),
         SrcItem::Unequal(_, value) => add_value(totals, value.as_slice()),
+        SrcItem::SystemEqual(_, value) => add_value(totals, value.as_slice()),
+        SrcItem::SystemUnequal(_, value) => add_value(totals, value.as_slice()),
         SrcItem::Set(_, value) => add_value(totals, value.as_slice()),
+        SrcItem::SetSystem(_, value) => add_value(totals, value.as_slice()),
         _ => Ok(()),
     }
 }
@@ -226,7 +224,8 @@ fn key_count(counted: &StoreCounts, key: &Option<SrcItem>) -> u32
     ensures { result ≡ key_count_of counted.now key.now }
 {
     match key {
-        Some(SrcItem::Any(store)) => count_named(counted, store.as_slice()),
+        Some(SrcItem::Key(key)) => virtual_count(counted, key),
+        Some(SrcItem::Any(store)) => records_named(counted, store.as_slice()),
         _ => 1,
     }
 }

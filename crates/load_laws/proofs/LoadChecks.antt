@@ -6,6 +6,7 @@ use Rattle.kmn_base.specs.Names.{same_name}
 use Rattle.kmn_base.specs.declared.codes.Code.TheVariants.{C22}
 use Rattle.kmn_base.specs.declared.limits.TheConstants.{RECORDS}
 use Rattle.kmn_base.specs.declared.refusals.Refusal.{Refusal}
+use Rattle.rule_model.specs.declared.program.KeyName.{KeyName}
 use Rattle.rule_model.specs.declared.program.Program.{Program}
 use Rattle.rule_model.specs.declared.program.RuleDef.{RuleDef}
 use Rattle.kmn_parser.specs.Source.{parsed}
@@ -15,9 +16,10 @@ use Rattle.store_table.specs.First.{at_line, earlier, first_of, or_else, or_refu
 use Rattle.store_table.specs.Names.{is_named, names_refusal, rule_refusal, stated}
 use Rattle.store_table.specs.declared.stating.Stated.{Stated}
 use Rattle.store_table.specs.Known.{Known, known}
-use Rattle.limit_checker.specs.Counting.{capped, no_counts}
+use Rattle.limit_checker.specs.Counting.{capped, no_counts, virtual_count_of}
+use Rattle.limit_checker.specs.KeyCodes.{no_codes}
 use Rattle.item_checker.specs.Items.{items_refusal, rule_refusal as items_rule_refusal}
-use Rattle.limit_checker.specs.Limits.{in_line_order, limits_refusal}
+use Rattle.limit_checker.specs.Limits.{Statement, in_line_order, limits_refusal}
 use Rattle.rule_checker.specs.Refused.{checked, refused}
 use Rattle.limit_checker.specs.Walking.{no_totals, walked}
 use Rattle.limit_checker.specs.declared.counting.StoreCounts.{StoreCounts}
@@ -61,19 +63,36 @@ few_records line records few = by_test (nat_lt RECORDS records) (grind (arith, n
     by_test false is = refl
     by_test true is = absurd (cc)
 
-walk_keeps : (counted : StoreCounts) (i count records : ℕ) → records + count ≤ 2001 → (walked counted (walk_of records None) (in_line_order [] (rule_defs i count ++ []))).first ≡ None
-walk_keeps counted i zero records few = refl
-walk_keeps counted zero (suc count) records few =
-    ap (λ (first : Option Refusal). (walked counted (walk_of (capped (records + 1)) first) (in_line_order [] (rule_defs 1 count ++ []))).first) (few_records 3 (capped (records + 1)) (omega arith))
-    ∙ walk_keeps counted 1 count (capped (records + 1)) (omega arith)
-walk_keeps counted (suc i) (suc count) records few =
-    ap (λ (first : Option Refusal). (walked counted (walk_of (capped (records + 1)) first) (in_line_order [] (rule_defs (suc (suc i)) count ++ []))).first) (few_records (i + 4) (capped (records + 1)) (omega arith))
-    ∙ walk_keeps counted (suc (suc i)) count (capped (records + 1)) (omega arith)
+-- the walk behind a rule in a line, with so many records up to there
+abbrev walk_at : ℕ → ℕ → Walk
+walk_at line records = walk_of records (at_line line (if nat_lt RECORDS records then Some C22 else None))
+
+-- the key of each rule has one record, as no key is cased
+abbrev key_name : KeyName
+key_name = record { flags = 0x4000; code = 65; name = [] }
+
+one_record : virtual_count_of (no_counts no_codes) key_name ≡ 1
+unfolding no_codes
+one_record = refl
+
+module _ (counted : StoreCounts) (one : virtual_count_of counted key_name ≡ 1) where
+  walk_behind : (line records : ℕ) (statements : List Statement) → records ≤ 2000
+      → (walked counted (walk_at line (capped (records + virtual_count_of counted key_name))) statements).first ≡ (walked counted (walk_of (capped (records + 1)) None) statements).first
+  walk_behind line records statements few =
+      ap (λ (count : ℕ). (walked counted (walk_at line (capped (records + count))) statements).first) one
+      ∙ ap (λ (first : Option Refusal). (walked counted (walk_of (capped (records + 1)) first) statements).first) (few_records line (capped (records + 1)) (omega arith))
+
+  walk_keeps : (i count records : ℕ) → records + count ≤ 2001 → (walked counted (walk_of records None) (in_line_order [] (rule_defs i count ++ []))).first ≡ None
+  walk_keeps i zero records few = refl
+  walk_keeps zero (suc count) records few =
+      walk_behind 3 records (in_line_order [] (rule_defs 1 count ++ [])) (omega arith) ∙ walk_keeps 1 count (capped (records + 1)) (omega arith)
+  walk_keeps (suc i) (suc count) records few =
+      walk_behind (i + 4) records (in_line_order [] (rule_defs (suc (suc i)) count ++ [])) (omega arith) ∙ walk_keeps (suc (suc i)) count (capped (records + 1)) (omega arith)
 
 no_limit_passed : (n : ℕ) → n ≤ 2000 → limits_refusal (load_program n) ≡ None
 unfolding limits_refusal
 no_limit_passed n within =
-    ap (λ (found : Option Refusal). earlier found None) (sym (first_passed (load_program n)) ∙ walk_keeps no_counts 0 (suc n) 0 (omega arith))
+    ap (λ (found : Option Refusal). earlier found None) (sym (first_passed (load_program n)) ∙ walk_keeps (no_counts no_codes) one_record 0 (suc n) 0 (omega arith))
 
 pub nothing_refused : (n : ℕ) → n ≤ 2000 → refused (load_program n) ≡ None
 unfolding refused

@@ -10,7 +10,7 @@ use Rattle.rule_model.specs.declared.tables.Rule.{Rule}
 use Rattle.rule_model.specs.declared.tables.Store.{Store}
 use Rattle.rule_model.specs.declared.tables.Tables.{Tables}
 use Rattle.rule_model.specs.Naming.{rule_items, stores_of}
-use Rattle.rule_model.specs.Src.{is_plain, is_on_match, is_on_nomatch}
+use Rattle.rule_model.specs.Src.{cased_keys, is_plain, is_on_match, is_on_nomatch}
 use Rattle.rule_model.specs.Tab.{distinct_onto}
 use Rattle.kmx_format.specs.File.{all_rules, file_of, group_strings, rule_strings, store_strings, string}
 use Rattle.kmx_format.specs.FileUnits.{item_units, name_units, output_units}
@@ -40,9 +40,9 @@ no_stores : (n : ℕ) → compiled_stores (load_program n) ≡ []
 unfolding stores_of
 no_stores n = λ j. dictionary_stores (no_dictionary n j) ++ map value_store (no_value n j)
 
--- the records of rules
+-- the records of rules where no key is cased
 abbrev records : Numbers → ℕ → ℕ → List Rule
-records numbers i count = flat_map (rule_records numbers) (filter is_plain (rule_defs i count))
+records numbers i count = flat_map (rule_records (record numbers { cased = [] })) (filter is_plain (rule_defs i count))
 
 -- a character is one unit, and its string ends with another
 char_string : (c : ℕ) → c < 0x1_0000 → length (string (item_units (spelled.Char c ∷ []))) ≡ 4
@@ -109,7 +109,7 @@ file_size tables n stores groups rules names strings =
     )
 
 pub files_have_sizes : FilesHaveSizes
-unfolding compiled_tables
+unfolding compiled_tables cased_keys stores_of
 files_have_sizes n within =
     let numbers : Numbers = numbers_of (load_program n) in
     record {

@@ -1,4 +1,4 @@
--- The program of a load means its keyboard: it has no store, and no key of its own.
+-- The program of a load means its keyboard: it has no store, no key of its own and no cased key.
 use Rattle.std.proofs.Common.{◌≡◌, ℕ, zero, suc, true, List, [], ◌∷◌, map, None, refl, ap, ◌∙◌, append-nil}
 use Rattle.std.specs.Prelude.{codes, filter, find, flat_map, option_map}
 use Rattle.rule_model.specs.declared.program.SrcItem.{SrcItem}
@@ -6,7 +6,7 @@ use Rattle.rule_model.specs.declared.program.GroupDef.{GroupDef}
 use Rattle.rule_model.specs.Keyboard.{RuleMeaning, Named, Best}
 use Rattle.rule_model.specs.System.{system_options}
 use Rattle.rule_model.specs.Naming.{SourceNames, items_from, key_names, names_of, source_items, stores_of}
-use Rattle.rule_model.specs.Src.{is_plain, is_on_match, is_on_nomatch, src, src_group, src_outputs, src_rule}
+use Rattle.rule_model.specs.Src.{cased_keys, is_plain, is_on_match, is_on_nomatch, src, src_group, src_outputs, src_rule}
 use Rattle.rule_model.specs.Tab.{distinct_onto}
 use Rattle.kmn_base.specs.Names.{same_name}
 use Rattle.load_laws.specs.Keyboards.{load_group, load_rule, rules_from}
@@ -53,12 +53,13 @@ unfolding names_of
 no_dictionary n = ap (λ (items : List SrcItem). distinct_onto same_name [] (flat_map key_names items)) (all_items n) ∙ ap (distinct_onto same_name []) (no_keys 0 (suc n))
 
 pub programs_mean : ProgramsMean
-unfolding src stores_of
+unfolding src cased_keys stores_of
 programs_mean n = λ i.
     record {
       start = Named (codes "main");
       stores = system_options;
       groups = group_means n (names_of (load_program n)) i ∷ [];
       dictionary = no_dictionary n i;
+      cased = [];
       choice = Best;
     }

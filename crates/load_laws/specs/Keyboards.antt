@@ -21,12 +21,12 @@ abbrev pub rules_from : ℕ → ℕ → List RuleMeaning
 rules_from i zero = []
 rules_from i (suc count) = load_rule i ∷ rules_from (suc i) count
 
--- the keyboard of a load: one group with the first rule and so many behind it, and no store of its own
+-- the keyboard of a load: one group with the first rule and so many behind it, and neither a store nor a cased key of its own
 abbrev pub load_group : ℕ → GroupMeaning
 load_group n = record { name = codes "main"; using_keys = true; rules = rules_from 0 (suc n); on_match = None; on_nomatch = None }
 
 abbrev pub load_keyboard : ℕ → Keyboard
-load_keyboard n = record { start = Named (codes "main"); stores = system_options; groups = load_group n ∷ []; dictionary = []; choice = Best }
+load_keyboard n = record { start = Named (codes "main"); stores = system_options; groups = load_group n ∷ []; dictionary = []; cased = []; choice = Best }
 
 abbrev pub press_a : KeyPress
 press_a = record { code = 65; mods = 0 }

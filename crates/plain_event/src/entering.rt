@@ -1,11 +1,12 @@
-ghost use Rattle.std.specs.Prelude.{◌≡◌, ◌<◌, [], IfOk, OnOk, map, length, true, option_map, option_copied, if◌then◌else◌};
+ghost use Rattle.std.specs.Prelude.{◌≡◌, ◌<◌, [], ◌∷◌, ◌++◌, IfOk, OnOk, map, length, true, None, Some, option_map, option_copied, if◌then◌else◌};
 ghost use Rattle.kmn_base.specs.Lists.{without_last};
-ghost use Rattle.rule_model.specs.Keyboard.{Numbered};
+ghost use Rattle.rule_model.specs.Keyboard.{Numbered, UseGroup};
 ghost use Rattle.rule_model.specs.Act.{act_one, act, enter_if_allowed, items_caught};
 ghost use Rattle.rule_model.specs.Enter.{nothing, do_chosen, do_unmatched, do_group, chosen_in, in_group};
 ghost use Rattle.rule_model.specs.KeyEvent.{after_key};
 ghost use Rattle.rule_model.specs.Tab.{tab, tab_output, tab_rule, tab_group};
-ghost use Rattle.plain_event.specs.Entering.{keyboard_of, stores_of, enters};
+ghost use Rattle.rule_model.specs.ChosenLines.{lines_of_one, lines_of, lines_if_any, lines_of_group, lines_in_group, lines_of_press};
+ghost use Rattle.plain_event.specs.Entering.{keyboard_of, stores_of, enters, adds};
 
 use crate::defaults::by_default;
 use crate::elements::item_caught;
@@ -35,9 +36,11 @@ fn act_one(
     caught: &Caught,
     output: Out,
     state: &mut EventState,
+    lines: &mut Vec<u32>,
 ) -> Result<(), Memory>
-    ensures { OnOk result (state.new ≡ act_one
+    ensures acts { OnOk result (state.new ≡ act_one
         (keyboard_of entering.now) (enters entering.now) caught.now (tab_output (stores_of entering.now) output) state.old) }
+    ensures lines { OnOk result (lines.new.items ≡ lines_of_one (adds entering.now) (tab_output (stores_of entering.now) output) state.old lines.old.items) }
 {
     let indexed = entering.indexed;
     let alloc = indexed.alloc();
@@ -49,7 +52,7 @@ fn act_one(
         Out::ContextAt(offset) => {
             put_any(alloc, item_caught(caught.catches.as_slice(), offset), state)
         }
-        Out::Enter(group) => enter_if_allowed(entering, group, state),
+        Out::Enter(group) => enter_if_allowed(entering, group, state, lines),
         Out::Set(store, value) => set_current(indexed, store, value, state),
         Out::SetSystem(id, value) => set_system(indexed, id, value, state),
         Out::Save(store) => save_current(indexed, store, state),
@@ -73,14 +76,16 @@ fn act_next(
     caught: &Caught,
     output: Out,
     state: &mut EventState,
+    lines: &mut Vec<u32>,
 ) -> Result<(), Memory>
-    ensures { OnOk result (state.new ≡ (if state.old.stopped then state.old else act_one
+    ensures acts { OnOk result (state.new ≡ (if state.old.stopped then state.old else act_one
         (keyboard_of entering.now) (enters entering.now) caught.now (tab_output (stores_of entering.now) output) state.old)) }
+    ensures lines { OnOk result (lines.new.items ≡ (if state.old.stopped then lines.old.items else lines_of_one (adds entering.now) (tab_output (stores_of entering.now) output) state.old lines.old.items)) }
 {
     if state.stopped {
         return Ok(());
     }
-    act_one(entering, caught, output, state)
+    act_one(entering, caught, output, state, lines)
 }
 
 /// The items of an output act in order; once the event is stopped nothing changes.
@@ -90,26 +95,35 @@ fn act(
     caught: &Caught,
     outputs: &[Out],
     state: &mut EventState,
+    lines: &mut Vec<u32>,
 ) -> Result<(), Memory>
-    ensures { OnOk result (state.new ≡ act
+    ensures acts { OnOk result (state.new ≡ act
         (keyboard_of entering.now) (enters entering.now) caught.now (map (tab_output (stores_of entering.now)) outputs.now) state.old) }
+    ensures lines { OnOk result (lines.new.items ≡ lines_of
+        (keyboard_of entering.now) (enters entering.now) (adds entering.now) caught.now (map (tab_output (stores_of entering.now)) outputs.now) state.old lines.old.items) }
 {
     for output in outputs {
-        act_next(entering, caught, *output, state)?;
+        act_next(entering, caught, *output, state, lines)?;
     }
     Ok(())
 }
 
 /// Enters a group, or ends the event where no more may be entered.
 #[cycle(acts)]
-fn enter_if_allowed(entering: &Entering, group: u32, state: &mut EventState) -> Result<(), Memory>
-    ensures { OnOk result (state.new ≡ enter_if_allowed (enters entering.now) (Numbered group) state.old) }
+fn enter_if_allowed(
+    entering: &Entering,
+    group: u32,
+    state: &mut EventState,
+    lines: &mut Vec<u32>,
+) -> Result<(), Memory>
+    ensures acts { OnOk result (state.new ≡ enter_if_allowed (enters entering.now) (Numbered group) state.old) }
+    ensures lines { OnOk result (lines.new.items ≡ lines_of_one (adds entering.now) (UseGroup (Numbered group)) state.old lines.old.items) }
 {
     if state.entered >= EVENT_ENTRIES {
         state.stopped = true;
         return Ok(());
     }
-    enter(entering, group, state)
+    enter(entering, group, state, lines)
 }
 
 /// What an output catches that stands for no record.
@@ -142,25 +156,48 @@ fn do_chosen(
     rule: &Rule,
     caught: &Caught,
     state: &mut EventState,
+    lines: &mut Vec<u32>,
 ) -> Result<(), Memory>
-    ensures { OnOk result (state.new ≡ do_chosen (keyboard_of entering.now) (enters entering.now)
+    ensures acts { OnOk result (state.new ≡ do_chosen (keyboard_of entering.now) (enters entering.now)
         (tab_group (stores_of entering.now) group.now) (tab_rule (stores_of entering.now) group.now.using_keys rule.now, caught.now) state.old) }
+    ensures lines { OnOk result (lines.new.items ≡ lines_of_group (keyboard_of entering.now) (enters entering.now) (adds entering.now)
+        (tab_group (stores_of entering.now) group.now) (Some (tab_rule (stores_of entering.now) group.now.using_keys rule.now, caught.now)) state.old lines.old.items) }
 {
     let alloc = entering.indexed.alloc();
     take(caught, state);
-    act(entering, caught, rule.output.as_slice(), state)?;
-    act(entering, &nothing(alloc), group.on_match.as_slice(), state)
+    lines.push(rule.line)?;
+    act(entering, caught, rule.output.as_slice(), state, lines)?;
+    act(
+        entering,
+        &nothing(alloc),
+        group.on_match.as_slice(),
+        state,
+        lines,
+    )
 }
 
 /// Where no record holds: the nomatch output, else the default of a group with keys.
 #[cycle(acts)]
-fn do_unmatched(entering: &Entering, group: &Group, state: &mut EventState) -> Result<(), Memory>
-    ensures { OnOk result (state.new ≡ do_unmatched (keyboard_of entering.now) (enters entering.now) entering.now.press
+fn do_unmatched(
+    entering: &Entering,
+    group: &Group,
+    state: &mut EventState,
+    lines: &mut Vec<u32>,
+) -> Result<(), Memory>
+    ensures acts { OnOk result (state.new ≡ do_unmatched (keyboard_of entering.now) (enters entering.now) entering.now.press
         (tab_group (stores_of entering.now) group.now).on_nomatch group.now.using_keys state.old) }
+    ensures lines { OnOk result (lines.new.items ≡ lines_of_group (keyboard_of entering.now) (enters entering.now) (adds entering.now)
+        (tab_group (stores_of entering.now) group.now) None state.old lines.old.items) }
 {
     if !group.on_nomatch.is_empty() {
         let nothing = nothing(entering.indexed.alloc());
-        return act(entering, &nothing, group.on_nomatch.as_slice(), state);
+        return act(
+            entering,
+            &nothing,
+            group.on_nomatch.as_slice(),
+            state,
+            lines,
+        );
     }
     if group.using_keys {
         by_default(entering.indexed, entering.press, state)?;
@@ -170,13 +207,20 @@ fn do_unmatched(entering: &Entering, group: &Group, state: &mut EventState) -> R
 
 /// What a group does.
 #[cycle(acts)]
-fn do_group(entering: &Entering, group: &Group, state: &mut EventState) -> Result<(), Memory>
-    ensures { OnOk result (state.new ≡ do_group (keyboard_of entering.now) (enters entering.now) entering.now.press (tab_group (stores_of entering.now) group.now)
+fn do_group(
+    entering: &Entering,
+    group: &Group,
+    state: &mut EventState,
+    lines: &mut Vec<u32>,
+) -> Result<(), Memory>
+    ensures acts { OnOk result (state.new ≡ do_group (keyboard_of entering.now) (enters entering.now) entering.now.press (tab_group (stores_of entering.now) group.now)
         (chosen_in (keyboard_of entering.now) entering.now.press (tab_group (stores_of entering.now) group.now) state.old) state.old) }
+    ensures lines { OnOk result (lines.new.items ≡ lines_of_group (keyboard_of entering.now) (enters entering.now) (adds entering.now)
+        (tab_group (stores_of entering.now) group.now) (chosen_in (keyboard_of entering.now) entering.now.press (tab_group (stores_of entering.now) group.now) state.old) state.old lines.old.items) }
 {
     match chosen_in(entering.indexed, entering.press, state, group)? {
-        Some((rule, caught)) => do_chosen(entering, group, rule, &caught, state),
-        None => do_unmatched(entering, group, state),
+        Some((rule, caught)) => do_chosen(entering, group, rule, &caught, state, lines),
+        None => do_unmatched(entering, group, state, lines),
     }
 }
 
@@ -186,22 +230,31 @@ fn in_group(
     entering: &Entering,
     group: Option<&Group>,
     state: &mut EventState,
+    lines: &mut Vec<u32>,
 ) -> Result<(), Memory>
-    ensures { OnOk result (state.new ≡ in_group (keyboard_of entering.now) (enters entering.now) entering.now.press
+    ensures acts { OnOk result (state.new ≡ in_group (keyboard_of entering.now) (enters entering.now) entering.now.press
         (option_map (tab_group (stores_of entering.now)) (option_copied group.entry)) state.old) }
+    ensures lines { OnOk result (lines.new.items ≡ lines_in_group (keyboard_of entering.now) (enters entering.now) (adds entering.now) entering.now.press
+        (option_map (tab_group (stores_of entering.now)) (option_copied group.entry)) state.old lines.old.items) }
 {
     match group {
-        Some(group) => do_group(entering, group, state),
+        Some(group) => do_group(entering, group, state, lines),
         None => Ok(()),
     }
 }
 
 /// Enters a group.
 #[cycle(acts)]
-#[tactic(auto, using(rule_model::proofs::PlainKeyboard::enter_more))]
-fn enter(entering: &Entering, group: u32, state: &mut EventState) -> Result<(), Memory>
+#[tactic(auto, using(rule_model::proofs::PlainKeyboard::enter_more, crate::proofs::MoreLines::more_lines))]
+fn enter(
+    entering: &Entering,
+    group: u32,
+    state: &mut EventState,
+    lines: &mut Vec<u32>,
+) -> Result<(), Memory>
     requires { state.old.entered < 50 }
-    ensures { OnOk result (state.new ≡ enters entering.now (Numbered group) state.old) }
+    ensures acts { OnOk result (state.new ≡ enters entering.now (Numbered group) state.old) }
+    ensures lines { OnOk result (lines.new.items ≡ adds entering.now (Numbered group) state.old lines.old.items) }
 {
     if entering.depth == 0 {
         state.stopped = true;
@@ -212,25 +265,38 @@ fn enter(entering: &Entering, group: u32, state: &mut EventState) -> Result<(), 
         depth: entering.depth - 1,
         ..*entering
     };
-    in_group(&inside, entering.indexed.group(group), state)?;
+    in_group(&inside, entering.indexed.group(group), state, lines)?;
     Ok(())
 }
 
-/// What a press leaves of an event's state. The state is taken, so nothing half done stays behind where memory is wanting.
-#[tactic(auto, unfolding(rule_model::specs::KeyEvent::after_key, rule_model::specs::Tab::tab))]
+/// What a press leaves of an event's state, and the lines of the rules that it chose.
+#[derive(Drop)]
+pub struct Left {
+    pub state: EventState,
+    pub lines: Seq<u32>,
+}
+
+/// What a press leaves of an event's state, and the lines of the rules that it chose. The state is taken, so nothing half
+/// done stays behind where memory is wanting.
+#[tactic(auto, unfolding(rule_model::specs::KeyEvent::after_key, rule_model::specs::Tab::tab, rule_model::specs::ChosenLines::lines_of_press))]
 pub fn after_key(
     indexed: &IndexedTables,
     press: KeyPress,
     mut state: EventState,
-) -> Result<EventState, Memory>
+) -> Result<Left, Memory>
     requires { state.entered ≡ 0 }
-    ensures { IfOk result (λ after. after ≡ after_key (tab indexed.now) press state) }
+    ensures acts { IfOk result (λ left. left.state ≡ after_key (tab indexed.now) press state) }
+    ensures lines { IfOk result (λ left. left.lines ≡ lines_of_press (tab indexed.now) press state) }
 {
     let entering = Entering {
         indexed,
         press,
         depth: EVENT_ENTRIES,
     };
-    enter(&entering, indexed.start(), &mut state)?;
-    Ok(state)
+    let mut lines = Vec::new(indexed.alloc());
+    enter(&entering, indexed.start(), &mut state, &mut lines)?;
+    Ok(Left {
+        state,
+        lines: Seq::from_vec(lines),
+    })
 }

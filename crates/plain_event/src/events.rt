@@ -1,9 +1,10 @@
-ghost use Rattle.std.specs.Prelude.{◌≡◌, ◌+◌, ◌-◌, ◌^◌, ◌<◌, ◌≤◌, ◌++◌, IfOk, OnOk, length, map};
+ghost use Rattle.std.specs.Prelude.{◌≡◌, ◌+◌, ◌-◌, ◌^◌, ◌<◌, ◌≤◌, ◌++◌, [], IfOk, OnOk, length, map};
 ghost use Rattle.kmn_base.specs.Lists.{characters, read_again};
 ghost use Rattle.rule_model.specs.KeyEvent.{begin_event, outcome_of};
 ghost use Rattle.rule_model.specs.Event.{whole_text, no_outcome, by_editor, key_event, only_state, setting_event, caret_event, moved_caret, edited_text, edit_event};
 ghost use Rattle.rule_model.specs.Tab.{tab};
 ghost use Rattle.rule_model.specs.Plain.{of_options};
+ghost use Rattle.rule_model.specs.ChosenLines.{chosen};
 ghost use Rattle.plain_event.specs.PlainStates.{acted, given, with_text, state_of, IsMadeBy, IsPlainStep, IsStateOf, IsWithin};
 
 use crate::editor::{editor_left, editor_right, joined};
@@ -118,24 +119,36 @@ fn by_editor(alloc: Global, press: KeyPress, state: &PlainState) -> Result<Plain
     text_becomes(alloc, before.as_slice(), after.as_slice(), state)
 }
 
+/// A state after an event, and the source lines of the rules that the event chose, in the order of entry.
+#[derive(Drop)]
+pub struct Traced {
+    pub state: PlainState,
+    pub lines: Seq<u32>,
+}
+
 /// A key press.
-fn key_event(
-    indexed: &IndexedTables,
-    press: KeyPress,
-    state: &PlainState,
-) -> Result<PlainState, Memory>
+fn key_event(indexed: &IndexedTables, press: KeyPress, state: &PlainState) -> Result<Traced, Memory>
     requires { IsStateOf indexed.now state.now }
-    ensures { IfOk result (IsMadeBy indexed.now state.now (key_event (tab indexed.now) press (state_of indexed.now state.now))) }
+    ensures made { IfOk result (λ traced. IsMadeBy indexed.now state.now (key_event (tab indexed.now) press (state_of indexed.now state.now)) traced.state) }
+    ensures lines { IfOk result (λ traced. traced.lines ≡ chosen (tab indexed.now) (state_of indexed.now state.now) (Event.Key press)) }
 {
     let begun = begin_event(indexed, state)?;
-    let event_state = after_key(indexed, press, begun)?;
+    let left = after_key(indexed, press, begun)?;
+    let event_state = left.state;
+    let lines = left.lines;
     let outcome = outcome_of(indexed.alloc(), state.left.as_slice(), &event_state)?;
     let after = acted(indexed, &event_state, outcome, state)?;
     if !event_state.pass {
-        return Ok(after);
+        return Ok(Traced {
+            state: after,
+            lines,
+        });
     }
     let edited = by_editor(indexed.alloc(), press, &after)?;
-    Ok(edited)
+    Ok(Traced {
+        state: edited,
+        lines,
+    })
 }
 
 /// The outcome of an event that is no key.
@@ -281,8 +294,49 @@ fn edit_event(
     Ok(after)
 }
 
-/// What an event does to a state, by the meaning of tables. The limits of an event's text are not looked at.
+/// An event that chose no rule.
+fn without_lines(alloc: Global, state: PlainState) -> Traced
+    ensures { result ≡ record { state = state; lines = [] } }
+{
+    Traced {
+        state,
+        lines: Seq::new(alloc),
+    }
+}
+
+/// What an event does to a state, by the meaning of tables, and which rules it chose. The limits of an event's text are
+/// not looked at.
 #[tactic(auto, unfolding(rule_model::specs::Event::happening))]
+pub fn traced_event(
+    alloc: Global,
+    tables: &Tables,
+    state: &PlainState,
+    event: &Event,
+) -> Result<Traced, Memory>
+    requires state { IsStateOf tables.now state.now }
+    requires places { IsWithin (whole_text (state_of tables.now state.now)) event.now }
+    ensures step { IfOk result (λ traced. IsPlainStep tables.now state.now event.now traced.state) }
+    ensures lines { IfOk result (λ traced. traced.lines ≡ chosen (tab tables.now) (state_of tables.now state.now) event.now) }
+{
+    let indexed = IndexedTables::new(alloc, tables)?;
+    match event {
+        Event::Key(press) => key_event(&indexed, *press, state),
+        Event::Setting { name, value } => {
+            let after = setting_event(&indexed, name.as_slice(), value.as_slice(), state)?;
+            Ok(without_lines(alloc, after))
+        }
+        Event::Caret(place) => {
+            let after = caret_event(alloc, *place, state)?;
+            Ok(without_lines(alloc, after))
+        }
+        Event::Edit { from, to, text } => {
+            let after = edit_event(alloc, *from, *to, text.as_slice(), state)?;
+            Ok(without_lines(alloc, after))
+        }
+    }
+}
+
+/// What an event does to a state, by the meaning of tables. The limits of an event's text are not looked at.
 pub fn plain_event(
     alloc: Global,
     tables: &Tables,
@@ -293,16 +347,6 @@ pub fn plain_event(
     requires places { IsWithin (whole_text (state_of tables.now state.now)) event.now }
     ensures { IfOk result (IsPlainStep tables.now state.now event.now) }
 {
-    let indexed = IndexedTables::new(alloc, tables)?;
-    match event {
-        Event::Key(press) => key_event(&indexed, *press, state),
-        Event::Setting { name, value } => setting_event(
-            &indexed,
-            name.as_slice(),
-            value.as_slice(),
-            state,
-        ),
-        Event::Caret(place) => caret_event(alloc, *place, state),
-        Event::Edit { from, to, text } => edit_event(alloc, *from, *to, text.as_slice(), state),
-    }
+    let traced = traced_event(alloc, tables, state, event)?;
+    Ok(traced.state)
 }

@@ -3,8 +3,9 @@
 //! It stands on `kmn_base`, `virtual_keys`, `rule_model`, whose meaning of an event it computes, and `indexed_tables`, which
 //! have what events look up. It is clear and not fast: the first record that holds goes first, found by trying each, and a
 //! list is made anew where an item is put. `plain_event` does an event on a `PlainState`, whose values stand by store
-//! number, those of the system options behind the others; `specs/PlainStates` says what such a state means. The layer above
-//! are tests of the meaning.
+//! number, those of the system options behind the others; `specs/PlainStates` says what such a state means. `traced_event`
+//! does the same and tells the lines of the rules that the event chose, which `rule_trace` above shows; `plain_event` is
+//! called by tests of the meaning.
 #![tactic(auto)]
 
 mod contents;
@@ -20,5 +21,5 @@ mod state;
 mod texts;
 mod values;
 
-pub use events::plain_event;
+pub use events::{Traced, plain_event, traced_event};
 pub use state::PlainState;

@@ -13,8 +13,9 @@ use crate::contents::{content, element, system_content};
 use crate::elements::{
     is_element, is_item, is_same, item_caught, place_caught, place_of, same_value,
 };
-use indexed_tables::{IndexedTables, PLATFORM, has_words};
+use indexed_tables::{IndexedTables, has_words};
 use kmn_base::{Element, Item, KeyPress, Memory, RuleKey, Seq};
+use rule_model::system::PLATFORM;
 use rule_model::{Catch, Caught, EventState, Group, Pat, Rule};
 use virtual_keys::Pressed;
 

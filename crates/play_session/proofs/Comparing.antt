@@ -1,20 +1,21 @@
 -- The values of options by the stores that are options.
-use Rattle.std.proofs.Common.{◌≡◌, ℕ, List, ◌<◌, length, get_or, Option, Some, [], sym, ◌∙◌, ap}
-use Rattle.std.proofs.lemmas.Option.{slice_get-get_or}
-use Rattle.std.specs.Prelude.{slice_get, unwrap_or, option_and_then}
+use Rattle.std.proofs.Common.{◌≡◌, ℕ, List, ◌<◌, ◌++◌, get_or, Bool, true, false, Option, Some, [], ◌∷◌, map, sym, ◌∙◌, ap, append-nil}
+use Rattle.std.proofs.lemmas.Option.{slice_get-get_or, slice_get-map}
+use Rattle.std.specs.Prelude.{if◌then◌else◌, length, slice_get, unwrap_or, option_map, option_and_then}
 use Rattle.std.specs.Option.{option_flatten}
 use Rattle.kmn_base.specs.declared.items.Element.{Element}
+use Rattle.option_store.specs.declared.options.Cell.{Cell}
+use Rattle.option_store.specs.Cells.{current_value, saved_value}
+use Rattle.option_store.specs.Meaning.{stated}
+use Rattle.rule_model.specs.declared.tables.Tables.{Tables}
 use Rattle.rule_model.specs.Content.{content, option_number, options_before}
 use Rattle.rule_model.specs.Keyboard.{Numbered, StoreMeaning}
-use Rattle.rule_model.specs.Plain.{option_numbers}
-use Rattle.rule_model.proofs.PlainOptions.{number_found, content_of_option}
+use Rattle.rule_model.specs.Match.{same_value}
+use Rattle.rule_model.specs.Tab.{tab}
+use Rattle.rule_model.proofs.PlainOptions.{content_of_option}
 use Rattle.rule_matching.specs.Moment.{saved_of}
-
--- the option number of a store is the one that the list of numbers has for it
-pub number_at_store : (stores : List StoreMeaning) (n : ℕ) (d : Option ℕ) → n < length (option_numbers 0 stores)
-    → get_or (option_numbers 0 stores) n d ≡ option_number stores (Numbered n)
-number_at_store stores n d within =
-    ap (λ (number : Option (Option ℕ)). option_flatten number) (sym (slice_get-get_or (option_numbers 0 stores) n d within)) ∙ number_found stores n
+use Rattle.play_session.specs.declared.changes.Change.{Change}
+use Rattle.play_session.specs.Changes.{Values, current_at, saved_at, is_newly_saved, current_change, saved_change, values_in}
 
 -- what an option's store has is the option's value
 pub content_is_value : (stores : List StoreMeaning) (values : List (List Element)) (n option : ℕ) → option_number stores (Numbered n) ≡ Some option
@@ -24,3 +25,32 @@ content_is_value stores values n option is = content_of_option values (options_b
 pub saved_is_value : (stores : List StoreMeaning) (saves : List (Option (List Element))) (n option : ℕ) → option_number stores (Numbered n) ≡ Some option
     → saved_of stores saves n ≡ option_flatten (slice_get saves option)
 saved_is_value stores saves n option is = ap (option_and_then (λ (o : ℕ). option_flatten (slice_get saves o))) is
+
+-- what an option's cell stands for is the option's value
+module _ {X : Type 0} (value : Cell → X) (cells : List Cell) (option : ℕ) (d : Cell) (within : option < length cells) where
+  value_of_cell : slice_get (map value cells) option ≡ Some (value (get_or cells option d))
+  value_of_cell = slice_get-map value cells option ∙ ap (option_map value) (slice_get-get_or cells option d within)
+
+pub cell_has_value : (tables : Tables) (cells : List Cell) (option : ℕ) (d : Cell) → option < length cells
+    → current_at (values_in tables cells) option ≡ current_value (stated (tab tables).stores) (get_or cells option d)
+cell_has_value tables cells option d within =
+    ap (λ (value : Option (List Element)). unwrap_or value []) (value_of_cell (current_value (stated (tab tables).stores)) cells option d within)
+
+pub cell_has_saved : (tables : Tables) (cells : List Cell) (option : ℕ) (d : Cell) → option < length cells
+    → saved_at (values_in tables cells) option ≡ saved_value (stated (tab tables).stores) (get_or cells option d)
+cell_has_saved tables cells option d within =
+    ap option_flatten (value_of_cell (saved_value (stated (tab tables).stores)) cells option d within)
+
+-- a value that is the same has no change
+module _ (before after : Values) (store option : ℕ) (changes : List Change) where
+  pub current_stays : (was now : List Element) → was ≡ current_at before option → now ≡ current_at after option → true ≡ same_value was now
+      → changes ≡ changes ++ current_change before after store option
+  current_stays was now before_is after_is same =
+      let stays : same_value (current_at before option) (current_at after option) ≡ true = (λ i. same_value (sym before_is i) (sym after_is i)) ∙ sym same in
+      sym (ap (λ (t : Bool). changes ++ (if t then [] else record { store = store; saved = false } ∷ [])) stays ∙ append-nil changes)
+
+  pub saved_stays : (was now : Option (List Element)) → was ≡ saved_at before option → now ≡ saved_at after option → false ≡ is_newly_saved was now
+      → changes ≡ changes ++ saved_change before after store option
+  saved_stays was now before_is after_is same =
+      let stays : is_newly_saved (saved_at before option) (saved_at after option) ≡ false = (λ i. is_newly_saved (sym before_is i) (sym after_is i)) ∙ sym same in
+      sym (ap (λ (t : Bool). changes ++ (if t then record { store = store; saved = true } ∷ [] else [])) stays ∙ append-nil changes)

@@ -2,6 +2,7 @@ pub mod Changing
 pub mod Comparing
 pub mod Contexts
 pub mod Moves
+pub mod OptionStores
 pub mod Presses
 pub mod Printing
 pub mod Readings

@@ -2,10 +2,12 @@
 use Rattle.std.proofs.Common.{◌≡◌, ℕ, ◌+◌, ◌≤◌, Bool, true, false, cond, List, ◌++◌, length, refl, sym, ◌∙◌, ap, inl, inr, arith}
 use Rattle.std.proofs.lemmas.Bool.{cases_Bool}
 use Rattle.kmn_base.specs.declared.items.Item.{Item}
+use Rattle.kmn_base.specs.declared.events.Event.TheVariants as event
 use Rattle.kmn_base.specs.declared.keys.KeyPress.{KeyPress}
 use Rattle.kmn_base.specs.declared.events.Outcome.{Outcome}
 use Rattle.kmn_base.specs.Lists.{characters, without_last, window, IsSound, read_again}
 use Rattle.rule_model.specs.declared.event_state.EventState.{EventState}
+use Rattle.rule_model.specs.ChosenLines.{chosen, lines_of_press}
 use Rattle.rule_model.specs.KeyEvent.{begin_event, after_key, outcome_of, inserted}
 use Rattle.virtual_keys.specs.Fits.{is_plain}
 use Rattle.rule_model.specs.Event.{State, text_becomes, editor_left, editor_right, by_editor}
@@ -26,6 +28,7 @@ use Rattle.play_session.proofs.Readings.{is_read}
 pub record IsPressed (engine : EngineState) (editor : EditorText) (press : KeyPress) (outcome : Outcome) (after : EngineState) : Type 0 where
   pub tells : outcome ≡ outcome_of (stands_for engine editor).left (press_gives engine.tables press (stands_for engine editor))
   pub inserts : after.inserted ≡ inserted (stands_for engine editor).left (press_gives engine.tables press (stands_for engine editor)).left
+  pub chooses : after.chosen ≡ chosen (tab engine.tables) (stands_for engine editor) (event.Key press)
   pub tables : after.tables ≡ engine.tables
   pub current : after.current ≡ (press_gives engine.tables press (stands_for engine editor)).current
   pub saved : after.saved ≡ (press_gives engine.tables press (stands_for engine editor)).saved
@@ -52,6 +55,7 @@ press_is_done engine editor press outcome after text h is_text told gave =
     record {
       tells = tells;
       inserts = inserts;
+      chooses = ap (λ (e : EngineState). e.chosen) gave ∙ ap (λ (l : List Item). lines_of_press (tab engine.tables) press (begin_event l engine.current engine.saved)) same;
       tables = ap (λ (e : EngineState). e.tables) gave;
       current = ap (λ (e : EngineState). e.current) gave ∙ ap (λ (t : EventState). t.current) acted_on;
       saved = ap (λ (e : EngineState). e.saved) gave ∙ ap (λ (t : EventState). t.saved) acted_on;

@@ -1,5 +1,5 @@
 -- Which option values an event changed, by store number.
-use Rattle.std.specs.Prelude.{ℕ, ◌+◌, Bool, true, false, not, if◌then◌else◌, List, [], ◌∷◌, ◌++◌, Option, Some, None, slice_get, unwrap_or}
+use Rattle.std.specs.Prelude.{ℕ, ◌+◌, Bool, true, false, not, if◌then◌else◌, List, [], ◌∷◌, ◌++◌, Option, Some, None, is_some, slice_get, unwrap_or}
 use Rattle.std.specs.Option.{option_flatten}
 use Rattle.kmn_base.specs.declared.items.Element.{Element}
 use Rattle.rule_model.specs.declared.tables.Tables.{Tables}
@@ -7,7 +7,8 @@ use Rattle.rule_model.specs.Match.{same_value}
 use Rattle.rule_model.specs.Plain.{option_numbers}
 use Rattle.rule_model.specs.Tab.{tab}
 use Rattle.option_store.specs.declared.options.Cell.{Cell}
-use Rattle.option_store.specs.Meaning.{option_values, option_saves}
+use Rattle.option_store.specs.Cells.{current_values, saved_values}
+use Rattle.option_store.specs.Meaning.{stated}
 use Rattle.rule_engine.specs.Engine.{EngineState}
 use Rattle.play_session.specs.declared.changes.Change.{Change}
 
@@ -16,10 +17,20 @@ pub record Values : Type 0 where
   pub current : List (List Element)
   pub saved : List (Option (List Element))
 
--- the values that the cells of the stores of tables stand for, and those of an engine
+-- the stores from this number on that are options, given their option numbers
+abbrev pub options_from : ℕ → List (Option ℕ) → List ℕ
+options_from store [] = []
+options_from store (number ∷ numbers) =
+    if is_some number then store ∷ options_from (store + 1) numbers else options_from (store + 1) numbers
+
+-- the stores of tables that are options
+abbrev pub option_stores : Tables → List ℕ
+option_stores tables = options_from 0 (option_numbers 0 (tab tables).stores)
+
+-- the values that the cells of the options of tables stand for, in order, and those of an engine
 abbrev pub values_in : Tables → List Cell → Values
 values_in tables cells =
-    record { current = option_values (tab tables).stores cells; saved = option_saves (tab tables).stores cells }
+    record { current = current_values (stated (tab tables).stores) cells; saved = saved_values (stated (tab tables).stores) cells }
 
 abbrev pub values_now : EngineState → Values
 values_now engine = record { current = engine.current; saved = engine.saved }

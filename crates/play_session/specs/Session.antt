@@ -1,5 +1,5 @@
 -- What a session stands for, and what an event makes of it.
-use Rattle.std.specs.Prelude.{◌≡◌, ℕ, ◌*◌, ◌+◌, ◌^◌, ◌<◌, ◌≤◌, Bool, true, false, if◌then◌else◌, List, [], ◌++◌, length, map}
+use Rattle.std.specs.Prelude.{◌≡◌, ℕ, ◌*◌, ◌+◌, ◌≤◌, Bool, true, false, if◌then◌else◌, List, [], ◌++◌, length, map}
 use Rattle.kmn_base.specs.declared.items.Item.{Item}
 use Rattle.kmn_base.specs.declared.items.Item.TheVariants.{Char}
 use Rattle.kmn_base.specs.declared.events.Event.{Event}
@@ -7,22 +7,23 @@ use Rattle.kmn_base.specs.declared.events.Event.TheVariants as event
 use Rattle.kmn_base.specs.Lists.{characters, without_last, window, IsSound}
 use Rattle.rule_model.specs.declared.tables.Tables.{Tables}
 use Rattle.rule_model.specs.Act.{one_more}
+use Rattle.rule_model.specs.ChosenLines.{chosen}
 use Rattle.rule_model.specs.Event.{State, Happening, happening}
-use Rattle.rule_model.specs.Plain.{option_numbers}
 use Rattle.rule_model.specs.Tab.{tab}
 use Rattle.rule_model.specs.Trace.{first_state}
 use Rattle.rule_engine.specs.Engine.{EngineState}
 use Rattle.editor_model.specs.Text.{EditorText}
 use Rattle.play_session.specs.declared.changes.Change.{Change}
-use Rattle.play_session.specs.Changes.{Values, changes_between}
+use Rattle.play_session.specs.Changes.{Values, option_stores, changes_between}
 
--- a session: its tables, the state that it stands for, and of its last step the number, what it inserted and which
--- option values it changed
+-- a session: its tables, the state that it stands for, and of its last step the number, what it inserted, the lines of the rules
+-- that it chose and which option values it changed
 pub record SessionState : Type 0 where
   pub tables : Tables
   pub state : State
   pub number : ℕ
   pub inserted : List ℕ
+  pub chosen : List ℕ
   pub changes : List Change
 
 -- a text before the caret whose last items are these, marks among them
@@ -45,6 +46,10 @@ stands_for engine editor =
 abbrev pub typed_text : Bool → EngineState → List ℕ
 typed_text typed engine = if typed then engine.inserted else []
 
+-- the lines of the rules that the last step chose, which are those of the engine's last press where that step was one
+abbrev pub typed_lines : Bool → EngineState → List ℕ
+typed_lines typed engine = if typed then engine.chosen else []
+
 -- the session that they are after the step of a number, given whether it was a press and what it changed
 abbrev pub session_of : EngineState → EditorText → ℕ → Bool → List Change → SessionState
 session_of engine editor number typed changes =
@@ -53,18 +58,20 @@ session_of engine editor number typed changes =
       state = stands_for engine editor;
       number = number;
       inserted = typed_text typed engine;
+      chosen = typed_lines typed engine;
       changes = changes;
     }
 
--- the engine of a session, whose last press inserted this
-abbrev pub engine_of : SessionState → List ℕ → EngineState
-engine_of session inserted =
+-- the engine of a session, whose last press inserted this and chose the rules of these lines
+abbrev pub engine_of : SessionState → List ℕ → List ℕ → EngineState
+engine_of session inserted chosen =
     record {
       tables = session.tables;
       context = window session.state.left;
       current = session.state.current;
       saved = session.state.saved;
       inserted = inserted;
+      chosen = chosen;
     }
 
 -- the list that both stand for has the editor's text and its marks in the window, which is the engine's context; and the
@@ -75,14 +82,14 @@ pub record AreTogether (limit : ℕ) (engine : EngineState) (editor : EditorText
   pub context : window (stands_for engine editor).left ≡ engine.context
   pub few : length editor.left + length editor.right ≤ limit
 
--- the stores of tables have 32-bit numbers, and there is room for two changes of each
-pub record HasRoom (tables : Tables) (room : ℕ) : Type 0 where
-  pub numbers : length (option_numbers 0 (tab tables).stores) < 2 ^ 32
-  pub changes : 2 * length (option_numbers 0 (tab tables).stores) ≤ room
+-- these stores are the options of tables, and there is room for two changes of each
+pub record HasRoom (tables : Tables) (options : List ℕ) (room : ℕ) : Type 0 where
+  pub stores : options ≡ option_stores tables
+  pub changes : 2 * length options ≤ room
 
 -- before the first event
 abbrev pub first_session : Tables → SessionState
-first_session tables = record { tables = tables; state = first_state (tab tables); number = 0; inserted = []; changes = [] }
+first_session tables = record { tables = tables; state = first_state (tab tables); number = 0; inserted = []; chosen = []; changes = [] }
 
 -- what an event does that is not refused
 abbrev pub happened : SessionState → Event → Happening
@@ -100,6 +107,7 @@ after_step session event =
       state = (happened session event).after;
       number = one_more session.number;
       inserted = (happened session event).inserted;
+      chosen = chosen (tab session.tables) session.state event;
       changes = changes_between session.tables (values_of session.state) (values_of (happened session event).after);
     }
 

@@ -2,14 +2,15 @@
 //!
 //! It stands on `rule_engine`, which presses keys on the tables of a file, and on `editor_model`, which has the text with
 //! its caret. The layer above uses `Session`, which contracts see as a `SessionState`: the tables, the state that it
-//! stands for, the number of the last step, what that step inserted and which option values it changed. After `start` and
-//! `fresh` that is `first_session` of the file's tables, and `step` answers `step_of` and leaves `after_step`, or refuses the event
-//! as its meaning does; `preview` tells of a press what `step` would, and changes nothing. The laws in `laws` say that its changes
-//! are those that a transcript prints.
+//! stands for, the number of the last step, what that step inserted, which rules it chose and which option values it changed.
+//! After `start` and `fresh` that is `first_session` of the file's tables, and `step` answers `step_of` and leaves `after_step`, or
+//! refuses the event as its meaning does; `preview` tells of a press what `step` would, and changes nothing. The laws in `laws` say
+//! that its changes are those that a transcript prints.
 #![tactic(auto)]
 
 mod changes;
 pub mod laws;
+mod options;
 mod playing;
 mod session;
 

@@ -1,6 +1,7 @@
 ghost use Rattle.std.specs.Prelude.{◌≡◌, ◌+◌, ◌≤◌, None, IfOk, IfErr};
 ghost use Rattle.kmn_base.specs.declared.events.Event.TheVariants as event;
 ghost use Rattle.kmn_base.specs.declared.limits.TheConstants.{EVENT_PUTS, TEXT_CHARS, TEXT_CHARS_AT_KEY};
+ghost use Rattle.rule_model.specs.ChosenLines.{chosen};
 ghost use Rattle.rule_model.specs.KeyEvent.{outcome_of, inserted};
 ghost use Rattle.rule_model.specs.Event.{by_editor, key_event, caret_event, edit_event, setting_event, event_refusal};
 ghost use Rattle.rule_model.specs.Tab.{tab};
@@ -27,6 +28,7 @@ fn press_key(engine: &mut Engine, editor: &mut Editor, press: KeyPress) -> Outco
     ensures outcome { result ≡ outcome_of (stands_for engine.old editor.old).left (press_gives engine.old.tables press (stands_for engine.old editor.old)) }
     ensures state { stands_for engine.new editor.new ≡ acted (press_gives engine.old.tables press (stands_for engine.old editor.old)) (stands_for engine.old editor.old) }
     ensures inserted { engine.new.inserted ≡ inserted (stands_for engine.old editor.old).left (press_gives engine.old.tables press (stands_for engine.old editor.old)).left }
+    ensures chosen { engine.new.chosen ≡ chosen (tab engine.old.tables) (stands_for engine.old editor.old) (event.Key press) }
     ensures room { 1 ≤ editor.new.spare }
 {
     let outcome = engine.key(editor.left(), press);
@@ -42,6 +44,7 @@ fn pass_on(engine: &mut Engine, editor: &mut Editor, press: KeyPress)
     ensures tables { engine.new.tables ≡ engine.old.tables }
     ensures state { stands_for engine.new editor.new ≡ by_editor press (stands_for engine.old editor.old) }
     ensures inserted { engine.new.inserted ≡ engine.old.inserted }
+    ensures chosen { engine.new.chosen ≡ engine.old.chosen }
 {
     editor.passed(press);
     engine.sync(editor.left());
@@ -61,6 +64,7 @@ pub(crate) fn key_event(
     ensures outcome { IfOk result (λ outcome. outcome ≡ (key_event (tab engine.old.tables) press (stands_for engine.old editor.old)).outcome) }
     ensures state { IfOk result (λ _. stands_for engine.new editor.new ≡ (key_event (tab engine.old.tables) press (stands_for engine.old editor.old)).after) }
     ensures inserted { IfOk result (λ _. engine.new.inserted ≡ (key_event (tab engine.old.tables) press (stands_for engine.old editor.old)).inserted) }
+    ensures chosen { IfOk result (λ _. engine.new.chosen ≡ chosen (tab engine.old.tables) (stands_for engine.old editor.old) (event.Key press)) }
     ensures unchanged { IfErr result (λ _. stands_for engine.new editor.new ≡ stands_for engine.old editor.old) }
     ensures engine { IfErr result (λ _. engine.new ≡ engine.old) }
 {
@@ -102,6 +106,7 @@ pub(crate) fn caret_event(
     ensures refused { IfErr result (λ error. code_of error ≡ event_refusal (stands_for engine.old editor.old) (event.Caret place)) }
     ensures unchanged { IfErr result (λ _. stands_for engine.new editor.new ≡ stands_for engine.old editor.old) }
     ensures inserted { engine.new.inserted ≡ engine.old.inserted }
+    ensures chosen { engine.new.chosen ≡ engine.old.chosen }
 {
     editor.caret(place)?;
     engine.sync(editor.left());
@@ -126,6 +131,7 @@ pub(crate) fn edit_event(
     ensures refused { IfErr result (λ error. code_of error ≡ event_refusal (stands_for engine.old editor.old) (event.Edit from to text.now)) }
     ensures unchanged { IfErr result (λ _. stands_for engine.new editor.new ≡ stands_for engine.old editor.old) }
     ensures inserted { engine.new.inserted ≡ engine.old.inserted }
+    ensures chosen { engine.new.chosen ≡ engine.old.chosen }
 {
     editor.edit(alloc, from, to, text)?;
     engine.sync(editor.left());

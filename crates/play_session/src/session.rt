@@ -1,6 +1,6 @@
 ghost use Rattle.std.specs.Prelude.{◌≡◌, ◌≤◌, length, IfOk, IfErr, Ok};
 ghost use Rattle.kmn_base.specs.declared.events.Event.TheVariants as event;
-ghost use Rattle.kmn_base.specs.declared.limits.TheConstants.{TEXT_CHARS};
+ghost use Rattle.kmn_base.specs.declared.limits.TheConstants.{EVENT_ENTRIES, TEXT_CHARS};
 ghost use Rattle.kmn_base.specs.Lists.{characters, window};
 ghost use Rattle.kmx_format.specs.TablesOf.{tables_of};
 ghost use Rattle.rule_engine.specs.Engine.{first_engine};
@@ -10,6 +10,7 @@ ghost use Rattle.rule_model.specs.Tab.{tab};
 ghost use Rattle.rule_model.specs.Trace.{first_state};
 
 use crate::changes::{Change, put_changes};
+use crate::options::{cells_now, option_stores};
 use crate::playing::{caret_event, edit_event, key_event, preview_key, setting_event};
 use editor_model::{EditError, Editor};
 use kmn_base::limits::TEXT_CHARS_AT_KEY;
@@ -83,8 +84,10 @@ pub struct Session<'a> {
     engine: Engine<'a>,
     editor: Editor,
     number: u32,
-    /// Whether the last step was a press, so that what the engine inserted is what the step did.
+    /// Whether the last step was a press, so that what the engine inserted and chose is what the step did.
     typed: bool,
+    /// The stores that are options, in order: an event can change no other, so it costs by these alone.
+    options: Vec<u32>,
     changes: Vec<Change>,
 }
 
@@ -98,7 +101,7 @@ impl<'a> Model for Session<'a> {
     ghost view = { λ session. session_of session.engine session.editor session.number session.typed session.changes.items };
 
     ghost invariant = { λ session. AreTogether TEXT_CHARS session.engine session.editor
-        × HasRoom session.engine.tables (vec_capacity session.changes) };
+        × HasRoom session.engine.tables session.options.items (vec_capacity session.changes) };
 }
 
 impl<'a> Session<'a> {
@@ -119,13 +122,15 @@ impl<'a> Session<'a> {
         requires { engine ≡ first_engine engine.tables }
         ensures { IfOk result (λ session. session ≡ first_session engine.entry.tables) }
     {
-        let room = 2 * engine.store_count() as usize;
+        let options = option_stores(alloc, &engine)?;
+        let changes = Vec::with_capacity(alloc, 2 * options.len())?;
         Ok(Session {
             engine,
             editor: Editor::new(alloc),
             number: 0,
             typed: true,
-            changes: Vec::with_capacity(alloc, room)?,
+            options,
+            changes,
         })
     }
 
@@ -140,6 +145,8 @@ impl<'a> Session<'a> {
     pub fn copy(&self, alloc: Global) -> Result<Session<'a>, Memory>
         ensures { IfOk result (λ session. session ≡ self.now) }
     {
+        let mut options = Vec::with_capacity(alloc, self.options.len())?;
+        options.extend_from_slice(self.options.as_slice())?;
         let mut changes = Vec::with_capacity(alloc, self.changes.capacity())?;
         changes.extend_from_slice(self.changes.as_slice())?;
         let editor = self.editor.copy(alloc)?;
@@ -149,6 +156,7 @@ impl<'a> Session<'a> {
             editor,
             number: self.number,
             typed: self.typed,
+            options,
             changes,
         })
     }
@@ -172,7 +180,8 @@ impl<'a> Session<'a> {
         }
     }
 
-    /// A key press.
+    /// A key press. Of the stores it copies and compares the options alone, the layer and the platform among them, so it costs by
+    /// their count and not by that of all stores.
     #[tactic(auto, unfolding(rule_model::specs::Event::happening))]
     fn key(&mut self, alloc: Global, press: KeyPress) -> Result<Step, StepError>
         ensures happens { IfOk result (λ _. event_of (tab self.old.tables) self.old.state (event.Key press) ≡ Ok (happened self.old (event.Key press))) }
@@ -184,10 +193,15 @@ impl<'a> Session<'a> {
         if self.editor.left().len() + self.editor.right().len() > TEXT_CHARS_AT_KEY {
             return Err(StepError::Length);
         }
-        let before = self.engine.options().copy(alloc)?;
+        let before = cells_now(alloc, &self.engine, self.options.as_slice())?;
         let outcome = key_event(alloc, &mut self.engine, &mut self.editor, press)?;
         self.changes.clear();
-        put_changes(&mut self.changes, &self.engine, &before);
+        put_changes(
+            &mut self.changes,
+            &self.engine,
+            self.options.as_slice(),
+            before.as_slice(),
+        );
         self.typed = true;
         Ok(next_step(&mut self.number, outcome))
     }
@@ -201,10 +215,15 @@ impl<'a> Session<'a> {
         ensures refused { IfErr result (λ error. code_of error ≡ event_refusal self.old.state (event.Setting name.now value.now)) }
         ensures unchanged { IfErr result (λ _. self.new ≡ self.old) }
     {
-        let before = self.engine.options().copy(alloc)?;
+        let before = cells_now(alloc, &self.engine, self.options.as_slice())?;
         setting_event(alloc, &mut self.engine, &self.editor, name, value)?;
         self.changes.clear();
-        put_changes(&mut self.changes, &self.engine, &before);
+        put_changes(
+            &mut self.changes,
+            &self.engine,
+            self.options.as_slice(),
+            before.as_slice(),
+        );
         self.typed = false;
         Ok(next_step(&mut self.number, NO_OUTCOME))
     }
@@ -267,7 +286,7 @@ impl<'a> Session<'a> {
 
     /// The engine, with its context.
     pub fn engine(&self) -> &Engine<'a>
-        ensures value { result.now ≡ engine_of self.now result.now.inserted }
+        ensures value { result.now ≡ engine_of self.now result.now.inserted result.now.chosen }
         ensures names { self.now.state.names ≡ (first_state (tab self.now.tables)).names }
     {
         &self.engine
@@ -279,6 +298,18 @@ impl<'a> Session<'a> {
     {
         if self.typed {
             self.engine.inserted()
+        } else {
+            &[]
+        }
+    }
+
+    /// The lines of the rules that the last step chose, in the order in which their groups were entered; none where it was no press.
+    pub fn chosen(&self) -> &[u32]
+        ensures value { result.now ≡ self.now.chosen }
+        ensures few { length result.now ≤ EVENT_ENTRIES }
+    {
+        if self.typed {
+            self.engine.chosen()
         } else {
             &[]
         }

@@ -1,6 +1,6 @@
 //! The tests of the crates that play keyboards and of those below them: `caches` of `context_cache`, `event_texts` of
-//! `event_text`, `option_values` of `option_store`, `meaning` of `plain_event`, `pressing` of `rule_engine`, and `sessions`
-//! of `play_session`.
+//! `event_text`, `option_values` of `option_store`, `meaning` of `plain_event`, `pressing` of `rule_engine`, `choices` and
+//! `sessions` of `play_session`, and `tracing` of `rule_trace`.
 //!
 //! They stand here because a crate with tests is proved twice, once with them and once without: so each of those crates is
 //! proved once, and the tests are proved over them, beside those of `script_tests`. `fixtures` has what several of them
@@ -9,6 +9,8 @@
 
 #[cfg(test)]
 mod caches;
+#[cfg(test)]
+mod choices;
 #[cfg(test)]
 mod event_texts;
 pub mod fixtures;
@@ -20,3 +22,5 @@ mod option_values;
 mod pressing;
 #[cfg(test)]
 mod sessions;
+#[cfg(test)]
+mod tracing;

@@ -72,7 +72,7 @@ fn number(text: &str) -> u32 {
 }
 
 /// The event of a step.
-fn event(alloc: Global, word: &str) -> Result<Event, Memory> {
+pub fn event(alloc: Global, word: &str) -> Result<Event, Memory> {
     if let Some(place) = word.strip_prefix('|') {
         return Ok(Event::Caret(number(place)));
     }

@@ -104,7 +104,7 @@ fn checked_names(alloc: Global, program: &Program) -> Result<Names, CompileError
     }
 }
 
-/// The program where nothing of it is refused, or its first refusal: C01 to C22.
+/// The program where nothing of it is refused, or its first refusal: C01 to C22, or C25.
 pub fn check(alloc: Global, program: Program) -> Result<Checked, CompileError>
     requires { IsRead program }
     ensures { Answers (or_refusal program (refused program)) result }

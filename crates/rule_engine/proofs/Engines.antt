@@ -39,9 +39,9 @@ module _ {X : Type 0} where
       one true behind = ap suc behind
       one false behind = behind
 
-pub at_work_is_engine : (tables : Tables) (context : List Item) (cells : List Cell) (truths : List Bool) (inserted : InsertedValue) → IsAtWork tables context cells truths inserted
-    → IsEngine (engine_with tables context cells inserted.text)
-at_work_is_engine tables context cells truths inserted h =
+pub at_work_is_engine : (tables : Tables) (context : List Item) (cells : List Cell) (truths : List Bool) (inserted : InsertedValue) (chosen : List ℕ)
+    → IsAtWork tables context cells truths inserted → IsEngine (engine_with tables context cells inserted.text chosen)
+at_work_is_engine tables context cells truths inserted chosen h =
     let stores : List StoreMeaning = (tab tables).stores in
     record {
       few = h.few;
@@ -65,7 +65,7 @@ first_is_at_work tables context cells truths inserted can empty are right nothin
   room = ap (λ (value : InsertedValue). value.room) nothing;
 }
 
-pub first_values : (tables : Tables) (cells : List Cell) → cells ≡ first_cells 0 (length (tab tables).stores) → engine_with tables [] cells [] ≡ first_engine tables
+pub first_values : (tables : Tables) (cells : List Cell) → cells ≡ first_cells 0 (length (tab tables).stores) → engine_with tables [] cells [] [] ≡ first_engine tables
 first_values tables cells are =
     let stores : List StoreMeaning = (tab tables).stores in
     λ i. record (first_engine tables) {
@@ -84,19 +84,19 @@ by_state None value engine state current saved = λ i. record engine { current =
 by_state (Some option) value engine state current saved =
     λ i. record engine { current = slice_set (current i) option value; saved = slice_set (saved i) option (Some value) }
 
-pub host_sets_engine : (tables : Tables) (context : List Item) (cells after : List Cell) (inserted : List ℕ) (n : ℕ) (name text : List ℕ) (engine : EngineState)
-    → n < length cells → after ≡ changed n (host_cell text) cells → engine_with tables context cells inserted ≡ engine
+pub host_sets_engine : (tables : Tables) (context : List Item) (cells after : List Cell) (inserted chosen : List ℕ) (n : ℕ) (name text : List ℕ) (engine : EngineState)
+    → n < length cells → after ≡ changed n (host_cell text) cells → engine_with tables context cells inserted chosen ≡ engine
     → option_number (tab engine.tables).stores (Numbered n) ≡ option_named name engine
-    → engine_with tables context after inserted ≡ set_by_host name text engine
-host_sets_engine tables context cells after inserted n name text engine few set is found =
+    → engine_with tables context after inserted chosen ≡ set_by_host name text engine
+host_sets_engine tables context cells after inserted chosen n name text engine few set is found =
     let stores : List StoreMeaning = (tab tables).stores in
     let number : Option ℕ = option_number stores (Numbered n) in
     let value : List Element = map Char text in
-    let before : EngineState = engine_with tables context cells inserted in
+    let before : EngineState = engine_with tables context cells inserted chosen in
     let state : State = holding stores cells (first_state (tab tables)) in
     let follows = (calls_follow stores cells n few).host text (first_state (tab tables)) in
     let same : number ≡ option_named name engine = ap (λ (e : EngineState). option_number (tab e.tables).stores (Numbered n)) is ∙ found in
-    ap (λ (these : List Cell). engine_with tables context these inserted) set
+    ap (λ (these : List Cell). engine_with tables context these inserted chosen) set
     ∙ (ap (λ (s : State). record before { current = s.current; saved = s.saved }) (sym follows)
     ∙ (by_state number value before state refl refl
     ∙ (λ i. with_option (same i) value (is i))))

@@ -1,5 +1,6 @@
 pub mod Contexts
 pub mod Engines
+pub mod MoreLines
 pub mod OptionNames
 pub mod OptionSteps
 pub mod Runnable

@@ -45,10 +45,10 @@ module _ (tables : Tables) (cells : List Cell) (n : ℕ) (s : EventState) where
   save_follows option few is = sym ((calls_follow stores cells n few).save s ∙ counted option is)
 
 -- the same of an event with these values
-module _ (tables : Tables) (lent : List ℕ) (cells after : List Cell) (n : ℕ) (s : EventState) (event : EventValue) (few : n < length cells)
-    (is : record { tables = tables; lent = lent; state = with_values (tab tables).stores cells s } ≡ event) where
+module _ (tables : Tables) (lent lines : List ℕ) (cells after : List Cell) (n : ℕ) (s : EventState) (event : EventValue) (few : n < length cells)
+    (is : record { tables = tables; lent = lent; state = with_values (tab tables).stores cells s; lines = lines } ≡ event) where
   abbrev event_with : List Cell → EventValue
-  event_with these = record { tables = tables; lent = lent; state = with_values (tab tables).stores these s }
+  event_with these = record { tables = tables; lent = lent; state = with_values (tab tables).stores these s; lines = lines }
 
   abbrev set_in : ℕ → EventValue → EventValue
   set_in v e = record e { state = set_current (option_number (keyboard_of e).stores (Numbered n)) (elements_of e.tables.stores v) e.state }
@@ -57,18 +57,18 @@ module _ (tables : Tables) (lent : List ℕ) (cells after : List Cell) (n : ℕ)
   reset_in e = record e { state = reset_current (option_number (keyboard_of e).stores (Numbered n)) (elements_at (keyboard_of e).stores (Some n)) e.state }
 
   pub event_after_set : (v : ℕ) → v < length tables.stores → after ≡ changed n (set_cell v) cells
-      → record { tables = tables; lent = lent; state = with_values (tab tables).stores after s }
+      → record { tables = tables; lent = lent; state = with_values (tab tables).stores after s; lines = lines }
       ≡ record event { state = set_current (option_number (keyboard_of event).stores (Numbered n)) (elements_of event.tables.stores v) event.state }
   event_after_set v own set =
       ap event_with set
-      ∙ (ap (λ (t : EventState). record { tables = tables; lent = lent; state = t }) (set_follows tables cells n s v few own) ∙ ap (set_in v) is)
+      ∙ (ap (λ (t : EventState). record { tables = tables; lent = lent; state = t; lines = lines }) (set_follows tables cells n s v few own) ∙ ap (set_in v) is)
 
   pub event_after_reset : after ≡ changed n (reset_cell n) cells
-      → record { tables = tables; lent = lent; state = with_values (tab tables).stores after s }
+      → record { tables = tables; lent = lent; state = with_values (tab tables).stores after s; lines = lines }
       ≡ record event { state = reset_current (option_number (keyboard_of event).stores (Numbered n)) (elements_at (keyboard_of event).stores (Some n)) event.state }
   event_after_reset reset =
       ap event_with reset
-      ∙ (ap (λ (t : EventState). record { tables = tables; lent = lent; state = t }) (reset_follows tables cells n s few) ∙ ap reset_in is)
+      ∙ (ap (λ (t : EventState). record { tables = tables; lent = lent; state = t; lines = lines }) (reset_follows tables cells n s few) ∙ ap reset_in is)
 
 -- nothing is set, saved or reset of a store that is no option
 pub nothing_set : (option : Option ℕ) (value : List Element) (s : EventState) → option ≡ None → s ≡ set_current option value s

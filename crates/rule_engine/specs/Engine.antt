@@ -12,6 +12,7 @@ use Rattle.rule_model.specs.declared.tables.Tables.{Tables}
 use Rattle.rule_model.specs.Event.{has_name}
 use Rattle.rule_model.specs.Keyboard.{StoreMeaning}
 use Rattle.rule_model.specs.KeyEvent.{begin_event, after_key, outcome_of, inserted}
+use Rattle.rule_model.specs.ChosenLines.{lines_of_press}
 use Rattle.rule_model.specs.Tab.{tab}
 use Rattle.rule_model.specs.Trace.{options_of, first_state}
 use Rattle.option_store.specs.declared.options.Cell.{Cell}
@@ -21,14 +22,15 @@ use Rattle.event_text.specs.Texts.{InsertedValue}
 use Rattle.rule_matching.specs.Moment.{truths_at}
 use Rattle.rule_engine.specs.Event.{HasShortContexts, HaveFewRecords, PlatformStays, moment_with}
 
--- an engine: its tables, the last items before the caret, of each option, in order, the current value and the saved one, and
--- what the last press inserted
+-- an engine: its tables, the last items before the caret, of each option, in order, the current value and the saved one, what
+-- the last press inserted, and the lines of the rules that it chose
 pub record EngineState : Type 0 where
   pub tables : Tables
   pub context : List Item
   pub current : List (List Element)
   pub saved : List (Option (List Element))
   pub inserted : List ℕ
+  pub chosen : List ℕ
 
 -- it has no more items than a window, a current and a saved value for each option, and a press inserts no more characters
 -- than it may put items
@@ -38,7 +40,7 @@ pub record IsEngine (engine : EngineState) : Type 0 where
   pub saved : length engine.saved ≡ length (options_of (tab engine.tables).stores)
   pub inserted : length engine.inserted ≤ EVENT_PUTS
 
--- before the first event: an empty text, each option with its elements, none saved, and nothing inserted
+-- before the first event: an empty text, each option with its elements, none saved, nothing inserted and no rule chosen
 abbrev pub first_engine : Tables → EngineState
 first_engine tables =
     record {
@@ -47,17 +49,20 @@ first_engine tables =
       current = (first_state (tab tables)).current;
       saved = (first_state (tab tables)).saved;
       inserted = [];
+      chosen = [];
     }
 
--- the engine of these tables with these last items, with the values that cells stand for, and with what a press inserted
-abbrev pub engine_with : Tables → List Item → List Cell → List ℕ → EngineState
-engine_with tables context cells inserted =
+-- the engine of these tables with these last items, with the values that cells stand for, with what a press inserted and the lines
+-- of the rules that it chose
+abbrev pub engine_with : Tables → List Item → List Cell → List ℕ → List ℕ → EngineState
+engine_with tables context cells inserted chosen =
     record {
       tables = tables;
       context = context;
       current = option_values (tab tables).stores cells;
       saved = option_saves (tab tables).stores cells;
       inserted = inserted;
+      chosen = chosen;
     }
 
 -- tables that can be run: a context has no more items than are caught, a group no more records and a store no more elements
@@ -79,9 +84,12 @@ pub record IsAtWork (tables : Tables) (context : List Item) (cells : List Cell) 
   pub text : length inserted.text ≤ EVENT_PUTS
   pub room : inserted.room ≡ EVENT_PUTS
 
--- what a press leaves, where the text before the caret is read again first
+-- how a press begins, where the text before the caret is read again first, and what it leaves
+abbrev pub begun : List ℕ → EngineState → EventState
+begun text engine = begin_event (read_again engine.context text) engine.current engine.saved
+
 abbrev pub pressed : List ℕ → KeyPress → EngineState → EventState
-pressed text press engine = after_key (tab engine.tables) press (begin_event (read_again engine.context text) engine.current engine.saved)
+pressed text press engine = after_key (tab engine.tables) press (begun text engine)
 
 -- the outcome of the press
 abbrev pub press_outcome : List ℕ → KeyPress → EngineState → Outcome
@@ -97,6 +105,7 @@ press_leaves text press engine =
       current = s.current;
       saved = s.saved;
       inserted = inserted (read_again engine.context text) s.left;
+      chosen = lines_of_press (tab engine.tables) press (begun text engine);
     }
 
 -- the name of a store of a keyboard, the layer and the platform among them; empty where there is no such store

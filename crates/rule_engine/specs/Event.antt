@@ -1,6 +1,6 @@
 -- The state inside an event as the engine has it: the tables, the lent text, and the state of the event that they stand for.
 use Rattle.std.specs.Prelude.{◌≡◌, ◌<◌, ◌≤◌, ℕ, Bool, List, length, All}
-use Rattle.kmn_base.specs.declared.limits.TheConstants.{RECORDS}
+use Rattle.kmn_base.specs.declared.limits.TheConstants.{EVENT_ENTRIES, RECORDS}
 use Rattle.rule_model.specs.declared.event_state.EventState.{EventState}
 use Rattle.rule_model.specs.declared.tables.Group.{Group}
 use Rattle.rule_model.specs.declared.tables.Out.{Out}
@@ -11,17 +11,19 @@ use Rattle.rule_model.specs.Keyboard.{Ref, Keyboard}
 use Rattle.rule_model.specs.Match.{Content}
 use Rattle.rule_model.specs.Act.{content_now}
 use Rattle.rule_model.specs.Enter.{enter_group}
+use Rattle.rule_model.specs.ChosenLines.{Adding, add_lines}
 use Rattle.rule_model.specs.Tab.{tab}
 use Rattle.option_store.specs.declared.options.Cell.{Cell}
 use Rattle.option_store.specs.Meaning.{option_values}
 use Rattle.rule_matching.specs.Moment.{MomentValue, AreShort, truths_at}
 use Rattle.rule_engine.specs.declared.entering.Entering.{Entering}
 
--- an event on tables and on a text that is lent, with its state
+-- an event on tables and on a text that is lent, with its state and the lines of the rules that it chose
 pub record EventValue : Type 0 where
   pub tables : Tables
   pub lent : List ℕ
   pub state : EventState
+  pub lines : List ℕ
 
 -- its keyboard, and what each store has at this moment
 abbrev pub keyboard_of : EventValue → Keyboard
@@ -41,6 +43,15 @@ moment_with tables cells = record { tables = tables; current = option_values (ta
 -- how an entering enters a group
 abbrev pub enters : EventValue → Entering → Ref → EventState → EventState
 enters event entering = enter_group entering.depth (keyboard_of event) entering.press
+
+-- which lines an entering adds where it enters a group
+abbrev pub adds : EventValue → Entering → Adding
+adds event entering = add_lines entering.depth (keyboard_of event) entering.press
+
+-- an event notes at most one line for each group that it enters, and enters no more groups than it may
+pub record HasNoted (lines : List ℕ) (entered : ℕ) : Type 0 where
+  pub few : length lines ≤ entered
+  pub allowed : entered ≤ EVENT_ENTRIES
 
 -- what an item of an output sets or resets is a store of the file, of which there are so many, or the layer; a value is that of
 -- such a store too

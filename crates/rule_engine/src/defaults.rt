@@ -5,12 +5,12 @@ ghost use Rattle.rule_model.specs.Act.{put_items};
 ghost use Rattle.rule_model.specs.Enter.{put_press, put_named, by_default};
 ghost use Rattle.rule_engine.specs.Event.{keyboard_of};
 
-use crate::event::Event;
+use crate::event::PressEvent;
 use kmn_base::{Item, KeyPress};
 use virtual_keys::{char_of, named_chars};
 
 /// A press that is no key of the dictionary puts the character that it gives.
-fn put_press(press: KeyPress, event: &mut Event)
+fn put_press(press: KeyPress, event: &mut PressEvent)
     ensures { event.new ≡ record event.old { state = put_press press (char_of_press press) event.old.state } }
 {
     match char_of(press) {
@@ -20,7 +20,7 @@ fn put_press(press: KeyPress, event: &mut Event)
 }
 
 /// Puts characters.
-fn put_chars(chars: &[char], event: &mut Event)
+fn put_chars(chars: &[char], event: &mut PressEvent)
     ensures { event.new ≡ record event.old { state = put_items (map Item.Char chars.now) event.old.state } }
 {
     for c in chars {
@@ -29,7 +29,7 @@ fn put_chars(chars: &[char], event: &mut Event)
 }
 
 /// A name that stands for characters puts them, any other does nothing.
-fn put_named(name: &[u8], event: &mut Event)
+fn put_named(name: &[u8], event: &mut PressEvent)
     ensures { event.new ≡ record event.old { state = put_named (name_chars name.now) event.old.state } }
 {
     if let Some(chars) = named_chars(name) {
@@ -39,7 +39,7 @@ fn put_named(name: &[u8], event: &mut Event)
 
 /// The default of a group with keys.
 #[tactic(auto, unfolding(rule_model::specs::Enter::by_default))]
-pub fn by_default(press: KeyPress, event: &mut Event)
+pub fn by_default(press: KeyPress, event: &mut PressEvent)
     ensures { event.new ≡ record event.old { state = by_default (keyboard_of event.old) press event.old.state } }
 {
     match event.indexed().own_key(press.code) {

@@ -1,7 +1,8 @@
 ghost use Rattle.std.specs.Prelude.{◌≡◌, ◌<◌, ◌≤◌, ◌+◌, ◌^◌, length, option_map, IfOk, MatchResult, is_some};
-ghost use Rattle.kmn_base.specs.declared.limits.TheConstants.{EVENT_PUTS, STORES};
+ghost use Rattle.kmn_base.specs.declared.limits.TheConstants.{EVENT_ENTRIES, EVENT_PUTS, STORES};
 ghost use Rattle.kmx_format.specs.TablesOf.{tables_of};
-ghost use Rattle.option_store.specs.Meaning.{option_values, option_saves};
+ghost use Rattle.option_store.specs.Cells.{held_value};
+ghost use Rattle.option_store.specs.Meaning.{stated, option_values, option_saves};
 ghost use Rattle.rule_model.specs.Content.{content};
 ghost use Rattle.rule_model.specs.Keyboard.{Numbered};
 ghost use Rattle.rule_model.specs.Plain.{option_numbers};
@@ -10,13 +11,13 @@ ghost use Rattle.rule_engine.specs.Engine.{IsAtWork, IsRunnable, engine_with, pr
 ghost use Rattle.rule_matching.specs.StoreValues.{elements_in};
 
 use crate::entering::press;
-use crate::event::{Event, Pressed};
+use crate::event::{AfterPress, PressEvent};
 use crate::naming::{name_of, store_named};
 use crate::workspace::Workspace;
-use kmx_parts::FileTables;
 use kmn_base::{Item, KeyPress, Memory, Outcome, Seq, Text};
+use kmx_parts::FileTables;
 use kmx_verifier::Verified;
-use option_store::Options;
+use option_store::{Held, Options};
 use rule_index::IndexedKeyboard;
 use rule_matching::StoreValue;
 use std::alloc::Global;
@@ -45,7 +46,7 @@ impl<'a> Model for Engine<'a> {
 
     ghost Value = { EngineState };
 
-    ghost view = { λ engine. engine_with (arc_value engine.indexed) engine.workspace.cache engine.workspace.options engine.workspace.inserted.text };
+    ghost view = { λ engine. engine_with (arc_value engine.indexed) engine.workspace.cache engine.workspace.options engine.workspace.inserted.text engine.workspace.chosen.items };
 
     ghost invariant = { λ engine. IsAtWork (arc_value engine.indexed) engine.workspace.cache engine.workspace.options engine.workspace.truths.items engine.workspace.inserted };
 }
@@ -150,6 +151,14 @@ impl<'a> Engine<'a> {
         self.workspace.inserted.as_slice()
     }
 
+    /// The lines of the rules that the last press chose, in the order in which their groups were entered; none before the first press.
+    pub fn chosen(&self) -> &[u32]
+        ensures value { result.now ≡ self.now.chosen }
+        ensures few { length result.now ≤ EVENT_ENTRIES }
+    {
+        self.workspace.chosen.as_slice()
+    }
+
     /// The last 64 items before the caret, or all where there are fewer. All marks are among them.
     pub fn context(&self) -> &[Item]
         ensures value { result.now ≡ self.now.context }
@@ -242,33 +251,33 @@ impl<'a> Engine<'a> {
         rule_matching::saved_of(&self.indexed, &self.workspace.options, store)
     }
 
-    /// What a store has where the stores hold this.
-    pub fn content_with<'c>(&'c self, options: &'c Options, store: u32) -> StoreValue<'c>
-        requires { length options.now ≡ length (tab self.now.tables).stores }
-        ensures { elements_in result ≡ content (tab self.now.tables).stores (option_values (tab self.now.tables).stores options.now) (Numbered store) }
+    /// What is held: the elements of a store, or this text of the host.
+    #[tactic(auto, using(rule_matching::proofs::StoreContents::elements_held))]
+    pub fn held<'c>(&'c self, held: Held, text: &'c [char]) -> StoreValue<'c>
+        ensures { elements_in result ≡ held_value (stated (tab self.now.tables).stores) text.now held }
     {
-        rule_matching::content(&self.indexed, options, store)
-    }
-
-    /// The saved value of a store where the stores hold this.
-    pub fn saved_with<'c>(&'c self, options: &'c Options, store: u32) -> Option<StoreValue<'c>>
-        requires { length options.now ≡ length (tab self.now.tables).stores }
-        ensures { option_map elements_in result ≡ saved_of (tab self.now.tables).stores (option_saves (tab self.now.tables).stores options.now) store }
-    {
-        rule_matching::saved_of(&self.indexed, options, store)
+        match held {
+            Held::Store(store) => StoreValue::Elements(self.indexed.stated(store)),
+            Held::Host => StoreValue::Text(text),
+        }
     }
 }
 
 /// What a press leaves of the text before the caret and of the options.
-fn pressed(indexed: &IndexedKeyboard, left: &[char], key: KeyPress, workspace: Workspace) -> Pressed
+fn pressed(
+    indexed: &IndexedKeyboard,
+    left: &[char],
+    key: KeyPress,
+    workspace: Workspace,
+) -> AfterPress
     requires few { length left.now < 2 ^ 32 }
     requires work { IsAtWork indexed.now workspace.cache workspace.options workspace.truths.items workspace.inserted }
-    ensures outcome { result.outcome ≡ press_outcome left.now key (engine_with indexed.now workspace.cache workspace.options workspace.inserted.text) }
-    ensures engine { engine_with indexed.now result.workspace.cache result.workspace.options result.workspace.inserted.text
-        ≡ press_leaves left.now key (engine_with indexed.now workspace.cache workspace.options workspace.inserted.text) }
+    ensures outcome { result.outcome ≡ press_outcome left.now key (engine_with indexed.now workspace.cache workspace.options workspace.inserted.text workspace.chosen.items) }
+    ensures engine { engine_with indexed.now result.workspace.cache result.workspace.options result.workspace.inserted.text result.workspace.chosen.items
+        ≡ press_leaves left.now key (engine_with indexed.now workspace.cache workspace.options workspace.inserted.text workspace.chosen.items) }
     ensures work { IsAtWork indexed.now result.workspace.cache result.workspace.options result.workspace.truths.items result.workspace.inserted }
 {
-    let mut event = Event::begin(indexed, left, workspace);
+    let mut event = PressEvent::begin(indexed, left, workspace);
     press(key, &mut event);
     event.finish()
 }

@@ -1,20 +1,21 @@
-ghost use Rattle.std.specs.Prelude.{◌≡◌, ◌<◌, [], None, map, length, option_map, slice_get, if◌then◌else◌};
+ghost use Rattle.std.specs.Prelude.{◌≡◌, ◌<◌, [], ◌∷◌, ◌++◌, None, Some, map, length, option_map, slice_get, if◌then◌else◌};
 ghost use Rattle.kmn_base.specs.Lists.{without_last};
-ghost use Rattle.rule_model.specs.Keyboard.{Numbered};
+ghost use Rattle.rule_model.specs.Keyboard.{Numbered, UseGroup};
 ghost use Rattle.rule_model.specs.Act.{act_one, act, enter_if_allowed, items_caught};
 ghost use Rattle.rule_model.specs.Enter.{do_chosen, do_unmatched, do_group, chosen_in, in_group};
 ghost use Rattle.rule_model.specs.KeyEvent.{after_key};
+ghost use Rattle.rule_model.specs.ChosenLines.{lines_of_one, lines_of, lines_if_any, lines_of_group, lines_in_group, lines_of_press};
 ghost use Rattle.rule_model.specs.Tab.{tab_output, tab_rule, tab_group};
 ghost use Rattle.rule_index.specs.Groups.{IsRuleIndexOf};
 ghost use Rattle.rule_matching.specs.Moment.{AreShort};
-ghost use Rattle.rule_engine.specs.Event.{AllChangeOwn, ChangesOwn, GroupChangesOwn, RuleChangesOwn, keyboard_of, enters};
+ghost use Rattle.rule_engine.specs.Event.{AllChangeOwn, ChangesOwn, GroupChangesOwn, RuleChangesOwn, keyboard_of, enters, adds};
 
 use crate::defaults::by_default;
-use crate::event::Event;
+use crate::event::PressEvent;
 use crate::outputs::{is_empty, put_any, put_context, put_index};
-use kmx_parts::{FileGroup, FileRule, Outputs};
 use kmn_base::limits::EVENT_ENTRIES;
 use kmn_base::{Item, KeyPress};
+use kmx_parts::{FileGroup, FileRule, Outputs};
 use rule_index::RuleIndex;
 use rule_matching::{Caught, item_caught};
 use rule_model::Out;
@@ -28,11 +29,12 @@ pub struct Entering {
 
 /// What one item of an output does.
 #[cycle(acts)]
-fn act_one(entering: Entering, caught: &Caught, output: Out, event: &mut Event)
+fn act_one(entering: Entering, caught: &Caught, output: Out, event: &mut PressEvent)
     requires { ChangesOwn (length event.old.tables.stores) output }
     ensures { event.new ≡ record event.old {
       state = act_one
           (keyboard_of event.old) (enters event.old entering) caught.now (tab_output event.old.tables.stores output) event.old.state;
+      lines = lines_of_one (adds event.old entering) (tab_output event.old.tables.stores output) event.old.state event.old.lines;
     } }
 {
     match output {
@@ -54,11 +56,13 @@ fn act_one(entering: Entering, caught: &Caught, output: Out, event: &mut Event)
 
 /// What the next item of an output does, unless the event is stopped.
 #[cycle(acts)]
-fn act_next(entering: Entering, caught: &Caught, output: Out, event: &mut Event)
+fn act_next(entering: Entering, caught: &Caught, output: Out, event: &mut PressEvent)
     requires { ChangesOwn (length event.old.tables.stores) output }
     ensures { event.new ≡ record event.old {
       state = if event.old.state.stopped then event.old.state else act_one
           (keyboard_of event.old) (enters event.old entering) caught.now (tab_output event.old.tables.stores output) event.old.state;
+      lines = if event.old.state.stopped then event.old.lines else lines_of_one
+          (adds event.old entering) (tab_output event.old.tables.stores output) event.old.state event.old.lines;
     } }
 {
     if !event.is_stopped() {
@@ -68,11 +72,13 @@ fn act_next(entering: Entering, caught: &Caught, output: Out, event: &mut Event)
 
 /// The items of an output act in order; once the event is stopped nothing changes.
 #[cycle(acts)]
-fn act(entering: Entering, caught: &Caught, outputs: Outputs<'_>, event: &mut Event)
+fn act(entering: Entering, caught: &Caught, outputs: Outputs<'_>, event: &mut PressEvent)
     requires { AllChangeOwn (length event.old.tables.stores) outputs }
     ensures { event.new ≡ record event.old {
       state = act
           (keyboard_of event.old) (enters event.old entering) caught.now (map (tab_output event.old.tables.stores) outputs.entry) event.old.state;
+      lines = lines_of (keyboard_of event.old) (enters event.old entering) (adds event.old entering)
+          caught.now (map (tab_output event.old.tables.stores) outputs.entry) event.old.state event.old.lines;
     } }
 {
     for output in outputs {
@@ -82,8 +88,11 @@ fn act(entering: Entering, caught: &Caught, outputs: Outputs<'_>, event: &mut Ev
 
 /// Enters a group, or ends the event where no more may be entered.
 #[cycle(acts)]
-fn enter_if_allowed(entering: Entering, group: u32, event: &mut Event)
-    ensures { event.new ≡ record event.old { state = enter_if_allowed (enters event.old entering) (Numbered group) event.old.state } }
+fn enter_if_allowed(entering: Entering, group: u32, event: &mut PressEvent)
+    ensures { event.new ≡ record event.old {
+      state = enter_if_allowed (enters event.old entering) (Numbered group) event.old.state;
+      lines = lines_of_one (adds event.old entering) (UseGroup (Numbered group)) event.old.state event.old.lines;
+    } }
 {
     if event.entered() >= EVENT_ENTRIES {
         event.stop();
@@ -93,7 +102,7 @@ fn enter_if_allowed(entering: Entering, group: u32, event: &mut Event)
 }
 
 /// Takes what a record has matched.
-fn take(caught: &Caught, event: &mut Event)
+fn take(caught: &Caught, event: &mut PressEvent)
     ensures { event.new ≡ record event.old {
       state = record event.old.state {
         left = without_last (length (items_caught caught.now)) event.old.state.left;
@@ -103,22 +112,28 @@ fn take(caught: &Caught, event: &mut Event)
     event.take(caught.item_count());
 }
 
-/// A chosen record: its items are taken, its output acts, then the group's match output, for which nothing is caught.
+/// A chosen record: its line is noted, its items are taken, its output acts, then the group's match output, for which nothing is
+/// caught.
 #[cycle(acts)]
 fn do_chosen(
     entering: Entering,
     group: &FileGroup<'_>,
     rule: &FileRule<'_>,
     caught: &mut Caught,
-    event: &mut Event,
+    event: &mut PressEvent,
 )
     requires group { GroupChangesOwn (length event.old.tables.stores) group.now }
     requires rule { RuleChangesOwn (length event.old.tables.stores) rule.now }
+    requires room { length event.old.lines < event.old.state.entered }
     ensures { event.new ≡ record event.old {
       state = do_chosen (keyboard_of event.old) (enters event.old entering)
           (tab_group event.old.tables.stores group.now) (tab_rule event.old.tables.stores group.now.using_keys rule.now, caught.old) event.old.state;
+      lines = lines_of_group (keyboard_of event.old) (enters event.old entering) (adds event.old entering)
+          (tab_group event.old.tables.stores group.now) (Some (tab_rule event.old.tables.stores group.now.using_keys rule.now, caught.old)) event.old.state
+          event.old.lines;
     } }
 {
+    event.note_line(rule.line());
     take(caught, event);
     act(entering, caught, rule.output(), event);
     caught.clear();
@@ -127,12 +142,14 @@ fn do_chosen(
 
 /// Where no record holds: the nomatch output, for which nothing is caught, else the default of a group with keys.
 #[cycle(acts)]
-fn do_unmatched(entering: Entering, group: &FileGroup<'_>, nothing: &Caught, event: &mut Event)
+fn do_unmatched(entering: Entering, group: &FileGroup<'_>, nothing: &Caught, event: &mut PressEvent)
     requires nothing { nothing.now ≡ record { catches = []; key_place = None } }
     requires group { GroupChangesOwn (length event.old.tables.stores) group.now }
     ensures { event.new ≡ record event.old {
       state = do_unmatched (keyboard_of event.old) (enters event.old entering) entering.press
           (tab_group event.old.tables.stores group.now).on_nomatch group.now.using_keys event.old.state;
+      lines = lines_if_any (keyboard_of event.old) (enters event.old entering) (adds event.old entering)
+          (tab_group event.old.tables.stores group.now).on_nomatch event.old.state event.old.lines;
     } }
 {
     if !is_empty(group.on_nomatch()) {
@@ -144,13 +161,16 @@ fn do_unmatched(entering: Entering, group: &FileGroup<'_>, nothing: &Caught, eve
 
 /// What a group does.
 #[cycle(acts)]
-fn do_group(entering: Entering, group: &FileGroup<'_>, records: &RuleIndex, event: &mut Event)
+fn do_group(entering: Entering, group: &FileGroup<'_>, records: &RuleIndex, event: &mut PressEvent)
     requires short { AreShort group.now.rules }
     requires index { IsRuleIndexOf group.now records.now }
     requires group { GroupChangesOwn (length event.old.tables.stores) group.now }
+    requires room { length event.old.lines < event.old.state.entered }
     ensures { event.new ≡ record event.old {
       state = do_group (keyboard_of event.old) (enters event.old entering) entering.press (tab_group event.old.tables.stores group.now)
           (chosen_in (keyboard_of event.old) entering.press (tab_group event.old.tables.stores group.now) event.old.state) event.old.state;
+      lines = lines_of_group (keyboard_of event.old) (enters event.old entering) (adds event.old entering) (tab_group event.old.tables.stores group.now)
+          (chosen_in (keyboard_of event.old) entering.press (tab_group event.old.tables.stores group.now) event.old.state) event.old.state event.old.lines;
     } }
 {
     let mut caught = Caught::nothing();
@@ -163,10 +183,13 @@ fn do_group(entering: Entering, group: &FileGroup<'_>, records: &RuleIndex, even
 /// What the group of a number does, if there is one.
 #[cycle(acts)]
 #[tactic(auto, using(crate::proofs::Contexts::short_in_group, crate::proofs::Contexts::own_in_group))]
-fn in_group(entering: Entering, group: u32, event: &mut Event)
+fn in_group(entering: Entering, group: u32, event: &mut PressEvent)
+    requires { length event.old.lines < event.old.state.entered }
     ensures { event.new ≡ record event.old {
       state = in_group (keyboard_of event.old) (enters event.old entering) entering.press
           (option_map (tab_group event.old.tables.stores) (slice_get event.old.tables.groups group)) event.old.state;
+      lines = lines_in_group (keyboard_of event.old) (enters event.old entering) (adds event.old entering) entering.press
+          (option_map (tab_group event.old.tables.stores) (slice_get event.old.tables.groups group)) event.old.state event.old.lines;
     } }
 {
     if let Some((group, records)) = event.indexed().group(group) {
@@ -176,10 +199,13 @@ fn in_group(entering: Entering, group: u32, event: &mut Event)
 
 /// Enters a group.
 #[cycle(acts)]
-#[tactic(auto, using(rule_model::proofs::PlainKeyboard::enter_more))]
-fn enter(entering: Entering, group: u32, event: &mut Event)
+#[tactic(auto, using(rule_model::proofs::PlainKeyboard::enter_more, crate::proofs::MoreLines::more_lines))]
+fn enter(entering: Entering, group: u32, event: &mut PressEvent)
     requires { event.old.state.entered < 50 }
-    ensures { event.new ≡ record event.old { state = enters event.old entering (Numbered group) event.old.state } }
+    ensures { event.new ≡ record event.old {
+      state = enters event.old entering (Numbered group) event.old.state;
+      lines = adds event.old entering (Numbered group) event.old.state event.old.lines;
+    } }
 {
     if entering.depth == 0 {
         event.stop();
@@ -193,11 +219,15 @@ fn enter(entering: Entering, group: u32, event: &mut Event)
     in_group(inside, group, event);
 }
 
-/// What a press leaves of an event.
-#[tactic(auto, unfolding(rule_model::specs::KeyEvent::after_key, rule_model::specs::Tab::tab))]
-pub fn press(press: KeyPress, event: &mut Event)
-    requires { event.old.state.entered ≡ 0 }
-    ensures { event.new ≡ record event.old { state = after_key (keyboard_of event.old) press event.old.state } }
+/// What a press leaves of an event, before which no rule was chosen.
+#[tactic(auto, unfolding(rule_model::specs::KeyEvent::after_key, rule_model::specs::ChosenLines::lines_of_press, rule_model::specs::Tab::tab))]
+pub fn press(press: KeyPress, event: &mut PressEvent)
+    requires entered { event.old.state.entered ≡ 0 }
+    requires lines { event.old.lines ≡ [] }
+    ensures { event.new ≡ record event.old {
+      state = after_key (keyboard_of event.old) press event.old.state;
+      lines = lines_of_press (keyboard_of event.old) press event.old.state;
+    } }
 {
     let entering = Entering {
         press,

@@ -1,4 +1,4 @@
-ghost use Rattle.std.specs.Prelude.{◌≡◌, ◌≤◌, ◌<◌, ◌+◌, ◌^◌, IfSome, length, option_map, None, Some, true};
+ghost use Rattle.std.specs.Prelude.{◌≡◌, ◌≤◌, ◌<◌, ◌+◌, ◌^◌, [], ◌∷◌, ◌++◌, IfSome, length, option_map, None, Some, true};
 ghost use Rattle.std.specs.List.{Contains};
 ghost use Rattle.kmn_base.specs.declared.limits.TheConstants.{EVENT_PUTS};
 ghost use Rattle.kmn_base.specs.Lists.{characters, window, without_last, read_again};
@@ -14,11 +14,12 @@ ghost use Rattle.rule_matching.specs.Moment.{AreShort};
 ghost use Rattle.rule_engine.specs.Event.{CanAct, HasShortContexts, PlatformStays, keyboard_of, moment_of};
 
 use crate::workspace::Workspace;
+use arrayvec::ArrayVec;
 use context_cache::Cache;
 use event_text::Left;
-use kmx_parts::{FileGroup, FileRule};
 use kmn_base::limits::EVENT_PUTS;
 use kmn_base::{Item, KeyPress, Outcome};
+use kmx_parts::{FileGroup, FileRule};
 use option_store::Options;
 use rule_index::{IndexedKeyboard, RuleIndex};
 use rule_matching::{Caught, EnteredGroup, Moment, PlaceMemory, first_held};
@@ -28,7 +29,7 @@ use virtual_keys::is_plain;
 
 /// What one key press acts on. Nothing of it takes memory.
 #[derive(Drop)]
-pub struct Event<'a> {
+pub struct PressEvent<'a> {
     indexed: &'a IndexedKeyboard<'a>,
     left: Left<'a>,
     options: Options,
@@ -39,20 +40,22 @@ pub struct Event<'a> {
     beeps: u32,
     entered: u32,
     saves: u32,
+    /// The lines of the rules that were chosen, at most one for each group that is entered.
+    lines: ArrayVec<u32, 50>,
 }
 
 /// What a press did, and what the next event works on.
 #[derive(Drop)]
-pub struct Pressed {
+pub struct AfterPress {
     pub outcome: Outcome,
     pub workspace: Workspace,
 }
 
-impl<'a> Model for Event<'a> {
+impl<'a> Model for PressEvent<'a> {
     ghost use Rattle.std.specs.Prelude.{[]};
     ghost use Rattle.option_store.specs.Meaning.{with_values};
     ghost use Rattle.rule_model.specs.Tab.{tab};
-    ghost use Rattle.rule_engine.specs.Event.{CanAct, EventValue};
+    ghost use Rattle.rule_engine.specs.Event.{CanAct, EventValue, HasNoted};
 
     ghost Value = { EventValue };
 
@@ -70,12 +73,13 @@ impl<'a> Model for Event<'a> {
         put = event.left.put;
         saves = event.saves;
       });
+      lines = event.lines.items;
     } };
 
-    ghost invariant = { λ event. CanAct event.indexed.now event.options event.truths.items };
+    ghost invariant = { λ event. CanAct event.indexed.now event.options event.truths.items × HasNoted event.lines.items event.entered };
 }
 
-impl<'a> Event<'a> {
+impl<'a> PressEvent<'a> {
     ghost use Rattle.rule_engine.specs.Event.{EventValue};
 
     /// Begins on a text that is read again, with the last items and the options as they were before.
@@ -83,7 +87,7 @@ impl<'a> Event<'a> {
         indexed: &'a IndexedKeyboard<'a>,
         lent: &'a [char],
         workspace: Workspace,
-    ) -> Event<'a>
+    ) -> PressEvent<'a>
         requires few { length lent.now < 2 ^ 32 }
         requires room { workspace.inserted.room ≡ EVENT_PUTS }
         requires can { CanAct indexed.now workspace.options workspace.truths.items }
@@ -92,9 +96,10 @@ impl<'a> Event<'a> {
           lent = lent.now;
           state = begin_event (read_again workspace.cache lent.now)
               (option_values (tab indexed.now).stores workspace.options) (option_saves (tab indexed.now).stores workspace.options);
+          lines = [];
         } }
     {
-        Event {
+        PressEvent {
             indexed,
             left: Left::begin(lent, workspace.inserted, workspace.cache),
             options: workspace.options,
@@ -105,23 +110,25 @@ impl<'a> Event<'a> {
             beeps: 0,
             entered: 0,
             saves: 0,
+            lines: ArrayVec::new(),
         }
     }
 
     /// Ends the event.
-    pub fn finish(self) -> Pressed
+    pub fn finish(self) -> AfterPress
         ensures outcome { (before : _) → characters before ≡ self.entry.lent → result.outcome ≡ outcome_of before self.entry.state }
         ensures inserted { (before : _) → characters before ≡ self.entry.lent → result.workspace.inserted.text ≡ inserted before self.entry.state.left }
         ensures cache { result.workspace.cache ≡ window self.entry.state.left }
         ensures current { option_values (keyboard_of self.entry).stores result.workspace.options ≡ self.entry.state.current }
         ensures saved { option_saves (keyboard_of self.entry).stores result.workspace.options ≡ self.entry.state.saved }
         ensures can { CanAct self.entry.tables result.workspace.options result.workspace.truths.items }
+        ensures chosen { result.workspace.chosen.items ≡ self.entry.lines }
         ensures room { result.workspace.inserted.room ≡ EVENT_PUTS }
         ensures few { length result.workspace.inserted.text ≤ EVENT_PUTS }
     {
         let put = self.left.puts();
         let edited = self.left.finish();
-        Pressed {
+        AfterPress {
             outcome: Outcome {
                 delete: edited.deleted as u32,
                 pass: self.pass,
@@ -135,6 +142,7 @@ impl<'a> Event<'a> {
                 options: self.options,
                 truths: self.truths,
                 inserted: edited.inserted,
+                chosen: self.lines,
                 places: self.places,
             },
         }
@@ -184,12 +192,21 @@ impl<'a> Event<'a> {
         self.entered
     }
 
-    /// Counts a group that is entered.
+    /// Counts a group that is entered. There is room then for the line of the rule that is chosen in it.
     pub fn count_entry(&mut self)
         requires { self.old.state.entered < 50 }
-        ensures { self.new ≡ record self.old { state = record self.old.state { entered = self.old.state.entered + 1 } } }
+        ensures event { self.new ≡ record self.old { state = record self.old.state { entered = self.old.state.entered + 1 } } }
+        ensures room { length self.new.lines < self.new.state.entered }
     {
         self.entered += 1;
+    }
+
+    /// Notes the line of a rule that is chosen.
+    pub fn note_line(&mut self, line: u32)
+        requires { length self.old.lines < self.old.state.entered }
+        ensures { self.new ≡ record self.old { lines = self.old.lines ++ line ∷ [] } }
+    {
+        self.lines.push(line);
     }
 
     /// The last 64 items. They are filled in first, so that all of them are at hand.

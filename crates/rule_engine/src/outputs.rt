@@ -4,9 +4,9 @@ ghost use Rattle.rule_model.specs.Match.{element_at};
 ghost use Rattle.rule_model.specs.Act.{put_items, item_list, put_element, items_caught, place_for_index};
 ghost use Rattle.rule_engine.specs.Event.{content_in};
 
-use crate::event::Event;
-use kmx_parts::Outputs;
+use crate::event::PressEvent;
 use kmn_base::{Element, Item};
+use kmx_parts::Outputs;
 use rule_matching::{Caught, item_of};
 
 /// Whether an output has no items.
@@ -18,7 +18,7 @@ pub fn is_empty(outputs: Outputs<'_>) -> bool
 }
 
 /// Puts an item that there may be.
-pub fn put_any(item: Option<Item>, event: &mut Event)
+pub fn put_any(item: Option<Item>, event: &mut PressEvent)
     ensures { event.new ≡ record event.old { state = put_items (item_list item) event.old.state } }
 {
     if let Some(item) = item {
@@ -27,7 +27,7 @@ pub fn put_any(item: Option<Item>, event: &mut Event)
 }
 
 /// Puts an element that there may be; a virtual key puts nothing.
-fn put_element(element: Option<Element>, event: &mut Event)
+fn put_element(element: Option<Element>, event: &mut PressEvent)
     ensures { event.new ≡ record event.old { state = put_element element event.old.state } }
 {
     if let Some(element) = element {
@@ -36,7 +36,7 @@ fn put_element(element: Option<Element>, event: &mut Event)
 }
 
 /// What `index` does.
-pub fn put_index(caught: &Caught, store: u32, offset: u32, event: &mut Event)
+pub fn put_index(caught: &Caught, store: u32, offset: u32, event: &mut PressEvent)
     ensures { event.new ≡ record event.old {
       state = put_element
           (element_at (content_in event.old (Numbered store)) (place_for_index caught.now offset)) event.old.state;
@@ -48,7 +48,7 @@ pub fn put_index(caught: &Caught, store: u32, offset: u32, event: &mut Event)
 }
 
 /// What `context` does: puts all that was matched.
-pub fn put_context(caught: &Caught, event: &mut Event)
+pub fn put_context(caught: &Caught, event: &mut PressEvent)
     ensures { event.new ≡ record event.old { state = put_items (items_caught caught.now) event.old.state } }
 {
     for found in caught.found() {

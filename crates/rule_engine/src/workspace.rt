@@ -5,6 +5,7 @@ ghost use Rattle.rule_model.specs.Tab.{tab};
 ghost use Rattle.rule_matching.specs.Moment.{truths_at};
 ghost use Rattle.rule_engine.specs.Event.{moment_with};
 
+use arrayvec::ArrayVec;
 use context_cache::Cache;
 use event_text::Inserted;
 use kmn_base::Memory;
@@ -14,15 +15,28 @@ use rule_matching::{PlaceMemory, StoreValue};
 use std::alloc::Global;
 
 /// What an event works on and leaves to the next one: the last items before the caret, what the stores hold, whether the platform
-/// has the words of each store's elements, what the last press inserted, and room for the places that are found while a record is
-/// chosen.
+/// has the words of each store's elements, what the last press inserted and the lines of the rules that it chose, and room for the
+/// places that are found while a record is chosen.
 #[derive(Drop)]
 pub struct Workspace {
     pub cache: Cache,
     pub options: Options,
     pub truths: Vec<bool>,
     pub inserted: Inserted,
+    pub chosen: ArrayVec<u32, 50>,
     pub places: PlaceMemory,
+}
+
+/// The same lines once more.
+fn copied(lines: &[u32]) -> ArrayVec<u32, 50>
+    requires { length lines.now ≤ 50 }
+    ensures { result.items ≡ lines.now }
+{
+    let mut copy = ArrayVec::new();
+    for line in lines {
+        copy.push(*line);
+    }
+    copy
 }
 
 impl Workspace {
@@ -33,6 +47,7 @@ impl Workspace {
         ensures options { IfOk result (λ workspace. workspace.options ≡ first_cells 0 stores) }
         ensures truths { IfOk result (λ workspace. length workspace.truths.items ≡ stores) }
         ensures inserted { IfOk result (λ workspace. workspace.inserted ≡ record { text = []; room = EVENT_PUTS }) }
+        ensures chosen { IfOk result (λ workspace. workspace.chosen.items ≡ []) }
     {
         let options = Options::new(alloc, stores)?;
         let truths = vec![in alloc; false; stores as usize]?;
@@ -43,6 +58,7 @@ impl Workspace {
             options,
             truths,
             inserted,
+            chosen: ArrayVec::new(),
             places,
         })
     }
@@ -56,6 +72,7 @@ impl Workspace {
         ensures cache { self.new.cache ≡ self.old.cache }
         ensures options { self.new.options ≡ self.old.options }
         ensures inserted { self.new.inserted ≡ self.old.inserted }
+        ensures chosen { self.new.chosen ≡ self.old.chosen }
     {
         let stated = indexed.stated(indexed.platform());
         indexed.find_truths(self.truths.as_mut_slice(), stated);
@@ -67,12 +84,14 @@ impl Workspace {
         ensures options { result.options ≡ [] }
         ensures truths { result.truths.items ≡ [] }
         ensures inserted { result.inserted ≡ record { text = []; room = 0 } }
+        ensures chosen { result.chosen.items ≡ [] }
     {
         Workspace {
             cache: Cache::new(),
             options: Options::none(alloc),
             truths: Vec::new(alloc),
             inserted: Inserted::without_room(alloc),
+            chosen: ArrayVec::new(),
             places: PlaceMemory::without_room(alloc),
         }
     }
@@ -84,6 +103,7 @@ impl Workspace {
         ensures options { IfOk result (λ workspace. workspace.options ≡ self.now.options) }
         ensures truths { IfOk result (λ workspace. workspace.truths.items ≡ self.now.truths.items) }
         ensures inserted { IfOk result (λ workspace. workspace.inserted ≡ self.now.inserted) }
+        ensures chosen { IfOk result (λ workspace. workspace.chosen.items ≡ self.now.chosen.items) }
     {
         let options = self.options.copy(alloc)?;
         let mut truths = Vec::with_capacity(alloc, self.truths.len())?;
@@ -95,6 +115,7 @@ impl Workspace {
             options,
             truths,
             inserted,
+            chosen: copied(self.chosen.as_slice()),
             places,
         })
     }
@@ -116,6 +137,7 @@ impl Workspace {
         ensures truths { self.new.truths.items ≡ truths_at (moment_with indexed.now self.new.options) }
         ensures cache { self.new.cache ≡ self.old.cache }
         ensures inserted { self.new.inserted ≡ self.old.inserted }
+        ensures chosen { self.new.chosen ≡ self.old.chosen }
     {
         if store != indexed.platform() {
             return self.options.host_set(alloc, store, text);

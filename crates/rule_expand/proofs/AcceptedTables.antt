@@ -36,7 +36,7 @@ use Rattle.rule_expand.specs.Expanded.{HasTables}
 unit_character : (c : ℕ) → nat_lt 0xFFFF c ≡ false → is_unit c ≡ true
 unit_character c h = grind (arith, nat_tests)
 
-few_places : (n : ℕ) → n ≤ STORE_ELEMENTS → nat_le n 0xFFFF_FFFF ≡ true
+few_places : (n : ℕ) → n ≤ STORE_ELEMENTS → nat_le n 0x7FFF_FFFF ≡ true
 few_places n h = grind (arith, nat_tests)
 
 -- elements that can be keys
@@ -51,7 +51,7 @@ unit_elements (element.Key flags code ∷ elements) h = unit_elements elements h
 unit_store : (elements : List Element) → are_unfit_keys elements ≡ false → length elements ≤ STORE_ELEMENTS → are_unit_elements elements ≡ true
 unit_store [] h few = absurd (cc)
 unit_store (e ∷ elements) h few =
-    and_from (nat_le (length (e ∷ elements)) 0xFFFF_FFFF) (list_all is_unit_element (e ∷ elements)) (few_places (length (e ∷ elements)) few) (unit_elements (e ∷ elements) h)
+    and_from (nat_le (length (e ∷ elements)) 0x7FFF_FFFF) (list_all is_unit_element (e ∷ elements)) (few_places (length (e ∷ elements)) few) (unit_elements (e ∷ elements) h)
 
 chosen_few : (here : Bool) (store : Store) (found : Option Store) → length store.elements ≤ STORE_ELEMENTS → length (store_elements found) ≤ STORE_ELEMENTS → length (store_elements (cond here (Some store) found)) ≤ STORE_ELEMENTS
 chosen_few true store found one more = one

@@ -8,9 +8,11 @@ use Rattle.rule_model.specs.declared.program.Program.{Program}
 use Rattle.rule_model.specs.declared.tables.Store.{Store}
 use Rattle.rule_model.specs.declared.tables.Tables.{Tables}
 use Rattle.rule_model.specs.Naming.{SourceNames, names_of, stores_of, stores_onto}
+use Rattle.rule_model.specs.Src.{cased_keys}
 use Rattle.store_table.specs.Numbering.{NameLists, lists_of}
 use Rattle.compile_laws.specs.Numbers.{numbers_of, values_of, value_store, dictionary_stores, compiled_stores, version_of}
 use Rattle.compile_laws.specs.WellNamed.{is_word}
+use Rattle.rule_expand.specs.CasedCodes.{cased_codes, HasCodes}
 use Rattle.rule_expand.specs.Lookups.{source_names, AreFew, BeginWith, store_names, AreNumbers}
 use Rattle.rule_expand.specs.Expanded.{HasTables, expanded_tables, without_stores}
 use Rattle.rule_expand.proofs.NumberLaws.{all_begin}
@@ -70,24 +72,27 @@ module _ (program : Program) (has : HasTables program) where
   first_fits lists stores e is =
       omega (arith, count_stores, has.stores, ap length is, ap (λ keys. length (dictionary_stores keys)) (keys_are lists e))
 
-  pub are_numbers : (lists : NameLists) (stores : List Store) (values : List (List ℕ)) (first : ℕ)
+  pub are_numbers : (lists : NameLists) (known : List ℕ) (stores : List Store) (values : List (List ℕ)) (first : ℕ)
       → lists ≡ lists_of program → stores ≡ stores_of program → values ≡ values_of program → first ≡ length stores + length (dictionary_stores lists.keys)
-      → AreNumbers lists (record { names = source_names lists; stores = stores; groups = lists.groups; values = values; first_value = first })
-  are_numbers lists stores values first e is all count = record {
+      → HasCodes known (cased_codes stores)
+      → AreNumbers lists known (record { names = source_names lists; stores = stores; groups = lists.groups; values = values; first_value = first; cased = cased_codes stores })
+  are_numbers lists known stores values first e is all count cased = record {
     few = few_lists lists e;
     names = refl;
     groups = refl;
     stores = ap (λ (l : NameLists). l.stores) e ∙ (named ∙ ap store_names (sym is));
+    cased = cased;
     values = omega (arith, count_stores, has.stores, ap length is, ap length all, ap (λ keys. length (dictionary_stores keys)) (keys_are lists e), count);
   }
 
   pub numbers_are : (lists : NameLists) (stores : List Store) (values : List (List ℕ)) (first : ℕ)
       → lists ≡ lists_of program → stores ≡ stores_of program → values ≡ values_of program → first ≡ length stores + length (dictionary_stores lists.keys)
-      → record { names = source_names lists; stores = stores; groups = lists.groups; values = values; first_value = first } ≡ numbers_of program
+      → record { names = source_names lists; stores = stores; groups = lists.groups; values = values; first_value = first; cased = cased_codes stores } ≡ numbers_of program
+  unfolding cased_keys
   numbers_are lists stores values first e is all count =
       let firsts : first ≡ length (stores_of program) + length (dictionary_stores (names_of program).keys) =
       count ∙ (λ j. length (is j) + length (dictionary_stores (keys_are lists e j))) in
-      λ j. record { names = names_are lists e j; stores = is j; groups = groups_are lists e j; values = all j; first_value = firsts j }
+      λ j. record { names = names_are lists e j; stores = is j; groups = groups_are lists e j; values = all j; first_value = firsts j; cased = cased_codes (is j) }
 
   -- the names of the key dictionary are few, and words
   pub few_names : (lists : NameLists) → lists ≡ lists_of program → length lists.keys ≤ KEY_NAMES

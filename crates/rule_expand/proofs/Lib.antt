@@ -2,6 +2,7 @@ pub mod ValueSets
 pub mod NumberLaws
 pub mod StoreLists
 pub mod PieceLaws
+pub mod CasedCodes
 pub mod RuleRecords
 pub mod ExpandedTables
 pub mod AcceptedTables

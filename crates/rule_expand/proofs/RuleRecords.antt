@@ -1,5 +1,5 @@
 -- The records of rules, by what the records of a rule have in common.
-use Rattle.std.proofs.Common.{◌≡◌, ℕ, ◌+◌, ◌<◌, ◌≤◌, Bool, true, false, nat_le, List, [], ◌∷◌, ◌++◌, length, take, get_or, Option, Some, None, refl, sym, ap, subst, ◌^◌, ◌∙◌, arith, if◌then◌else◌}
+use Rattle.std.proofs.Common.{◌≡◌, ℕ, ◌+◌, ◌*◌, ◌<◌, ◌≤◌, Bool, true, false, nat_le, List, [], ◌∷◌, ◌++◌, length, take, get_or, Option, Some, None, refl, sym, ap, subst, ◌∙◌, arith, if◌then◌else◌}
 use Rattle.std.specs.Prelude.{flat_map, filter, unwrap_or}
 use Rattle.std.specs.List.{list_all}
 use Rattle.std.proofs.lemmas.Bool.{and_parts}
@@ -19,24 +19,24 @@ use Rattle.rule_model.specs.Hold.{key_of_element}
 use Rattle.rule_model.specs.Naming.{elements_named}
 use Rattle.rule_model.specs.Src.{is_plain}
 use Rattle.compile_laws.specs.Numbers.{Numbers}
-use Rattle.compile_laws.specs.Compiles.{file_record, records_from, own_key, keyed_records, rule_records}
+use Rattle.compile_laws.specs.Compiles.{has_halves, half_key, file_record, key_records, records_from, own_key, keyed_records, rule_records}
 use Rattle.rule_expand.specs.Groups.{is_unit_element, are_unit_elements, has_unit_key, have_unit_keys, plain_records}
-use Rattle.rule_expand.specs.Pieces.{template_of, template_record, template_records, template_keyed}
+use Rattle.rule_expand.specs.Pieces.{template_of, template_record, template_halves, template_records, template_keyed}
 use Rattle.rule_expand.proofs.PieceLaws.{pieces_put}
 
 -- what stands in a list whose items all pass passes
 pub passes_at : {X : Type 0} (p : X → Bool) (xs : List X) (i : ℕ) (x : X) → list_all p xs ≡ true → i < length xs → x ≡ get_or xs i x → p x ≡ true
 passes_at p xs i x all h e = subst (λ y. p y ≡ true) (sym e) (AllPass-from_list_all p xs all i x h)
 
--- an element of a key store stands for a key of one unit, at a place of 32 bits
+-- an element of a key store stands for a key of one unit, at a place of 31 bits
 pub unit_at : (elements : List Element) (i : ℕ) (e : Element) → are_unit_elements elements ≡ true → i < length elements → e ≡ get_or elements i e → is_unit_element e ≡ true
-unit_at elements i e all h is = passes_at is_unit_element elements i e (and_parts (nat_le (length elements) 0xFFFF_FFFF) (list_all is_unit_element elements) all).1 h is
+unit_at elements i e all h is = passes_at is_unit_element elements i e (and_parts (nat_le (length elements) 0x7FFF_FFFF) (list_all is_unit_element elements) all).1 h is
 
-few_as : (l i : ℕ) → nat_le l 0xFFFF_FFFF ≡ true → i < l → i < 2 ^ 32
+few_as : (l i : ℕ) → nat_le l 0x7FFF_FFFF ≡ true → i < l → i < 0x7FFF_FFFF
 few_as l i few h = grind (arith, nat_tests)
 
-pub few_at : (elements : List Element) (i : ℕ) → are_unit_elements elements ≡ true → i < length elements → i < 2 ^ 32
-few_at elements i all h = few_as (length elements) i (and_parts (nat_le (length elements) 0xFFFF_FFFF) (list_all is_unit_element elements) all).0 h
+pub few_at : (elements : List Element) (i : ℕ) → are_unit_elements elements ≡ true → i < length elements → i < 0x7FFF_FFFF
+few_at elements i all h = few_as (length elements) i (and_parts (nat_le (length elements) 0x7FFF_FFFF) (list_all is_unit_element elements) all).0 h
 
 -- a rule of a group, and a group, with keys of one unit
 pub unit_rule : (stores : List Store) (rules : List RuleDef) (i : ℕ) (rule : RuleDef) → list_all (has_unit_key stores) rules ≡ true → i < length rules → rule ≡ get_or rules i rule → has_unit_key stores rule ≡ true
@@ -46,26 +46,34 @@ pub unit_group : (stores : List Store) (groups : List GroupDef) (i : ℕ) (group
 unit_group stores groups i group all h e = passes_at (have_unit_keys stores) groups i group all h e
 
 -- the record of a rule for a key
-pub one_record : (numbers : Numbers) (rule : RuleDef) (place : Option ℕ) (wanted : RuleKey) → template_record numbers.stores (template_of numbers rule) place wanted ≡ file_record numbers rule place wanted
-one_record numbers rule place wanted = λ j. record {
+one_record : (numbers : Numbers) (rule : RuleDef) (place : Option ℕ) (half : ℕ) (wanted : RuleKey)
+    → template_record numbers.stores (template_of numbers rule) place half wanted ≡ file_record numbers rule place half wanted
+one_record numbers rule place half wanted = λ j. record {
   line = rule.line;
-  place = unwrap_or place 0;
+  place = 2 * unwrap_or place 0 + half;
   key = wanted;
   context = (template_of numbers rule).context;
   output = pieces_put numbers (length rule.context) place rule.output j;
 }
 
+-- the records of a rule for a key
+halves_as : (numbers : Numbers) (rule : RuleDef) (place : Option ℕ) (wanted : RuleKey) → template_halves numbers (template_of numbers rule) place wanted ≡ key_records numbers rule place wanted
+halves_as numbers rule place wanted =
+    λ j. if has_halves numbers.cased wanted
+    then one_record numbers rule place 0 (half_key 0 wanted) j ∷ one_record numbers rule place 1 (half_key 1 wanted) j ∷ []
+    else one_record numbers rule place 0 wanted j ∷ []
+
 -- the records of a rule for the elements of a key store
-pub placed_records : (numbers : Numbers) (rule : RuleDef) (place : ℕ) (elements : List Element) → template_records numbers.stores (template_of numbers rule) place elements ≡ records_from numbers rule place elements
+placed_records : (numbers : Numbers) (rule : RuleDef) (place : ℕ) (elements : List Element) → template_records numbers (template_of numbers rule) place elements ≡ records_from numbers rule place elements
 placed_records numbers rule place [] = refl
 placed_records numbers rule place (e ∷ elements) =
-    λ j. one_record numbers rule (Some place) (unwrap_or (key_of_element e) key.Any) j ∷ placed_records numbers rule (place + 1) elements j
+    λ j. halves_as numbers rule (Some place) (unwrap_or (key_of_element e) key.Any) j ++ placed_records numbers rule (place + 1) elements j
 
 -- the records of a rule
 keyed_as : (numbers : Numbers) (rule : RuleDef) (wanted : Option SrcItem) → template_keyed numbers (template_of numbers rule) wanted ≡ keyed_records numbers rule wanted
-keyed_as numbers rule None = λ j. one_record numbers rule None (own_key numbers None) j ∷ []
+keyed_as numbers rule None = halves_as numbers rule None (own_key numbers None)
 keyed_as numbers rule (Some (source.Any store)) = placed_records numbers rule 0 (elements_named numbers.stores store)
-keyed_as numbers rule (Some item) = λ j. one_record numbers rule None (own_key numbers (Some item)) j ∷ []
+keyed_as numbers rule (Some item) = halves_as numbers rule None (own_key numbers (Some item))
 
 pub all_records : (numbers : Numbers) (rule : RuleDef) → template_keyed numbers (template_of numbers rule) rule.key ≡ rule_records numbers rule
 all_records numbers rule = keyed_as numbers rule rule.key

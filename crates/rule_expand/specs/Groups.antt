@@ -23,9 +23,9 @@ abbrev pub is_unit_element : Element → Bool
 is_unit_element (element.Char c) = is_unit c
 is_unit_element e = true
 
--- elements for keys, each with a place of 32 bits
+-- elements for keys, each with two places of 32 bits
 abbrev pub are_unit_elements : List Element → Bool
-are_unit_elements elements = nat_le (length elements) 0xFFFF_FFFF && list_all is_unit_element elements
+are_unit_elements elements = nat_le (length elements) 0x7FFF_FFFF && list_all is_unit_element elements
 
 -- a key, or each key of a key store, is no character past U+FFFF
 abbrev pub is_unit_key : List Store → Option SrcItem → Bool

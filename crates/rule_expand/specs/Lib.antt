@@ -1,5 +1,6 @@
 pub mod Values
 pub mod Lookups
+pub mod CasedCodes
 pub mod Pieces
 pub mod Groups
 pub mod Expanded

@@ -8,6 +8,7 @@ use Rattle.rule_model.specs.Naming.{SourceNames}
 use Rattle.rule_model.specs.Tab.{elements_of}
 use Rattle.store_table.specs.Numbering.{NameLists}
 use Rattle.compile_laws.specs.Numbers.{Numbers}
+use Rattle.rule_expand.specs.CasedCodes.{HasCodes}
 
 -- the names of deadkeys and keys
 abbrev pub source_names : NameLists → SourceNames
@@ -28,12 +29,13 @@ pub record BeginWith (stores : List Store) (names : List (List ℕ)) : Type 0 wh
   pub rest : List (List ℕ)
   pub is : names ≡ store_names stores ++ rest
 
--- numbers that names give, each of 32 bits
-pub record AreNumbers (lists : NameLists) (numbers : Numbers) : Type 0 where
+-- numbers that names give, each of 32 bits, and the codes of cased keys, which are known
+pub record AreNumbers (lists : NameLists) (known : List ℕ) (numbers : Numbers) : Type 0 where
   pub few : AreFew lists
   pub names : numbers.names ≡ source_names lists
   pub groups : numbers.groups ≡ lists.groups
   pub stores : lists.stores ≡ store_names numbers.stores
+  pub cased : HasCodes known numbers.cased
   pub values : numbers.first_value + length numbers.values ≤ 2 ^ 32
 
 -- the place of the first store of a name

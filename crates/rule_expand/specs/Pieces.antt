@@ -1,5 +1,5 @@
 -- The pieces of an output: what the records of all keys of a key store put alike, and what each puts by its key.
-use Rattle.std.specs.Prelude.{ℕ, ◌+◌, nat_eq, if◌then◌else◌, List, [], ◌∷◌, map, flat_map, length, Option, Some, None, unwrap_or}
+use Rattle.std.specs.Prelude.{ℕ, ◌+◌, ◌*◌, nat_eq, if◌then◌else◌, List, [], ◌∷◌, ◌++◌, map, flat_map, length, Option, Some, None, unwrap_or}
 use Rattle.kmn_base.specs.declared.items.Element.{Element}
 use Rattle.kmn_base.specs.declared.keys.RuleKey.{RuleKey}
 use Rattle.kmn_base.specs.declared.keys.RuleKey.TheVariants as key
@@ -14,7 +14,7 @@ use Rattle.rule_model.specs.Match.{element_at}
 use Rattle.rule_model.specs.Hold.{key_of_element}
 use Rattle.rule_model.specs.Naming.{mark_number, elements_named}
 use Rattle.compile_laws.specs.Numbers.{Numbers, number_of_store, number_of_group, number_of_value}
-use Rattle.compile_laws.specs.Compiles.{element_outs, element_outs_if_any, file_pattern, or_nul, own_key}
+use Rattle.compile_laws.specs.Compiles.{element_outs, element_outs_if_any, file_pattern, or_nul, has_halves, half_key, own_key}
 use Rattle.rule_expand.specs.declared.pieces.Piece.{Piece}
 use Rattle.rule_expand.specs.declared.pieces.Piece.TheVariants.{Fixed, AtKey}
 use Rattle.rule_expand.specs.declared.records.Template.{Template}
@@ -29,6 +29,7 @@ one_output numbers source.Context = output.Context
 one_output numbers (source.ContextAt offset) = output.ContextAt offset
 one_output numbers (source.Enter group) = output.Enter (number_of_group numbers group)
 one_output numbers (source.Set store value) = output.Set (number_of_store numbers store) (number_of_value numbers value)
+one_output numbers (source.SetSystem id value) = output.SetSystem id (number_of_value numbers value)
 one_output numbers (source.Save store) = output.Save (number_of_store numbers store)
 one_output numbers (source.Reset store) = output.Reset (number_of_store numbers store)
 one_output numbers source.Beep = output.Beep
@@ -62,25 +63,31 @@ template_of numbers rule =
       pieces = flat_map (item_pieces numbers (length rule.context)) rule.output;
     }
 
--- the record of a rule for a key, and the place of the key in its store
-abbrev pub template_record : List Store → Template → Option ℕ → RuleKey → Rule
-template_record stores template place wanted =
+-- the record of a rule for a key, which has this place in a key store, and of two halves this one
+abbrev pub template_record : List Store → Template → Option ℕ → ℕ → RuleKey → Rule
+template_record stores template place half wanted =
     record {
       line = template.line;
-      place = unwrap_or place 0;
+      place = 2 * unwrap_or place 0 + half;
       key = wanted;
       context = template.context;
       output = pieces_outputs stores place template.pieces;
     }
 
--- the records of a rule for the elements of a key store, from this place on
-abbrev pub template_records : List Store → Template → ℕ → List Element → List Rule
-template_records stores template place [] = []
-template_records stores template place (e ∷ elements) =
-    template_record stores template (Some place) (unwrap_or (key_of_element e) key.Any) ∷ template_records stores template (place + 1) elements
+-- the records of a rule for a key: one, or two halves
+abbrev pub template_halves : Numbers → Template → Option ℕ → RuleKey → List Rule
+template_halves numbers template place wanted =
+    if has_halves numbers.cased wanted
+    then template_record numbers.stores template place 0 (half_key 0 wanted) ∷ template_record numbers.stores template place 1 (half_key 1 wanted) ∷ []
+    else template_record numbers.stores template place 0 wanted ∷ []
 
--- the records of a rule with this key: one for each element of a key store, else one
+-- the records of a rule for the elements of a key store, from this place on
+abbrev pub template_records : Numbers → Template → ℕ → List Element → List Rule
+template_records numbers template place [] = []
+template_records numbers template place (e ∷ elements) =
+    template_halves numbers template (Some place) (unwrap_or (key_of_element e) key.Any) ++ template_records numbers template (place + 1) elements
+
+-- the records of a rule with this key: those for each element of a key store, else those for its own key
 abbrev pub template_keyed : Numbers → Template → Option SrcItem → List Rule
-template_keyed numbers template (Some (source.Any store)) =
-    template_records numbers.stores template 0 (elements_named numbers.stores store)
-template_keyed numbers template item = template_record numbers.stores template None (own_key numbers item) ∷ []
+template_keyed numbers template (Some (source.Any store)) = template_records numbers template 0 (elements_named numbers.stores store)
+template_keyed numbers template item = template_halves numbers template None (own_key numbers item)

@@ -8,21 +8,22 @@ ghost use Rattle.store_table.specs.Numbering.{lists_of};
 ghost use Rattle.compile_laws.specs.Numbers.{numbers_of, number_of_start, version_of, values_of, compiled_stores};
 ghost use Rattle.compile_laws.specs.Compiles.{is_ansi};
 ghost use Rattle.rule_expand.specs.Groups.{have_unit_keys};
+ghost use Rattle.rule_expand.specs.CasedCodes.{cased_codes, HasCodes};
 ghost use Rattle.rule_expand.specs.Expanded.{expanded_tables, without_stores, HasTables};
 
+use crate::cased_keys::cased_codes;
 use crate::groups::groups_of;
 use crate::lookups::Lookups;
 use crate::stores::{add_dictionary, add_values, first_value, statement_stores};
 use crate::values::{Values, values_of};
 use crate::versions::version_of;
+use indexmap::IndexSet;
 use kmn_base::{Memory, Seq};
 use rule_checker::Checked;
+use rule_model::system::NO_GROUP;
 use rule_model::{BeginDef, Program, Store, Tables};
 use std::alloc::Global;
 use store_table::Names;
-
-/// The number of a start group that there isn't.
-const NO_GROUP: u32 = 0xFFFF_FFFF;
 
 /// The number of the group that `begin Unicode` names.
 fn unicode_start(numbers: &Lookups<'_>, begins: &[BeginDef]) -> u32
@@ -68,21 +69,24 @@ fn without_stores(
     })
 }
 
-/// The numbers of a program.
+/// The numbers of a program, whose cased keys have these codes.
 #[tactic(auto, using(crate::proofs::ExpandedTables::numbers_are, crate::proofs::ExpandedTables::first_fits))]
 fn numbers_of<'a>(
     program: &Program,
     names: &'a Names,
     stores: &'a [Store],
     values: &'a Values<'a>,
+    cased: &'a IndexSet<u16>,
 ) -> Lookups<'a>
     requires tables { HasTables program.now }
     requires names { names.now ≡ lists_of program.now }
     requires stores { stores.now ≡ stores_of program.now }
     requires values { values.now ≡ values_of program.now }
+    requires cased { HasCodes cased.now.keys (cased_codes stores.now) }
     ensures { result ≡ numbers_of program.now }
 {
-    Lookups::new(names, stores, values, first_value(stores, names.keys()))
+    let first = first_value(stores, names.keys());
+    Lookups::new(names, stores, values, first, cased)
 }
 
 /// The stores of the statements of a program, with room for those that are added.
@@ -133,7 +137,8 @@ fn numbered(
     requires values { values.now ≡ values_of program.now }
     ensures { IfOk result (λ tables. tables ≡ without_stores (numbers_of program.now) program.now (version_of program.now)) }
 {
-    let numbers = numbers_of(program, names, stores, values);
+    let cased = cased_codes(alloc, stores)?;
+    let numbers = numbers_of(program, names, stores, values, &cased);
     without_stores(alloc, &numbers, program, version_of(stores))
 }
 

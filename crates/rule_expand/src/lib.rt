@@ -9,6 +9,7 @@
 //! common is made once (`Template`), and each record takes time in its own length.
 #![tactic(auto)]
 
+mod cased_keys;
 mod expanding;
 mod groups;
 mod lookups;

@@ -1,11 +1,14 @@
 //! The numbers of names and values.
 
-ghost use Rattle.std.specs.Prelude.{◌≡◌};
+ghost use Rattle.std.specs.Prelude.{◌≡◌, nat_eq};
+ghost use Rattle.std.specs.List.{list_any};
 ghost use Rattle.rule_model.specs.Naming.{mark_number, key_number, elements_named};
 ghost use Rattle.compile_laws.specs.Numbers.{number_of_store, number_of_group, number_of_value};
+ghost use Rattle.rule_expand.specs.CasedCodes.{cased_codes};
 ghost use Rattle.rule_expand.specs.Lookups.{source_names, AreFew, BeginWith, AreNumbers, place_of_store, elements_at};
 
 use crate::values::Values;
+use indexmap::IndexSet;
 use kmn_base::Element;
 use rule_model::{KeyName, Store};
 use std::marker::Model;
@@ -54,17 +57,20 @@ pub fn elements_named<'a>(names: &Names, stores: &'a [Store], name: &[u8]) -> &'
     elements_at(stores, names.store(name))
 }
 
-/// What the numbers of a program are found by, in time that doesn't grow with the program. Contracts see it as the numbers.
+/// What the numbers and the cased keys of a program are found by, in time that doesn't grow with the program. Contracts see
+/// it as the numbers.
 #[derive(Drop)]
 pub struct Lookups<'a> {
     names: &'a Names,
     stores: &'a [Store],
     values: &'a Values<'a>,
     first_value: u32,
+    cased: &'a IndexSet<u16>,
 }
 
 impl<'a> Model for Lookups<'a> {
     ghost use Rattle.compile_laws.specs.Numbers.{Numbers};
+    ghost use Rattle.rule_expand.specs.CasedCodes.{cased_codes};
     ghost use Rattle.rule_expand.specs.Lookups.{source_names, AreNumbers};
 
     ghost Value = { Numbers };
@@ -75,34 +81,38 @@ impl<'a> Model for Lookups<'a> {
       groups = l.names.now.groups;
       values = l.values.now;
       first_value = l.first_value;
+      cased = cased_codes l.stores.now;
     } };
 
-    ghost invariant = { λ l. AreNumbers l.names.now (record {
+    ghost invariant = { λ l. AreNumbers l.names.now l.cased.now.keys (record {
       names = source_names l.names.now;
       stores = l.stores.now;
       groups = l.names.now.groups;
       values = l.values.now;
       first_value = l.first_value;
+      cased = cased_codes l.stores.now;
     }) };
 }
 
 impl<'a> Lookups<'a> {
-    /// The numbers of these names, stores and values. The stores are all that are named, and the values have numbers from
-    /// the first one on.
+    /// The numbers of these names, stores and values, and the codes of the cased keys. The stores are all that are named,
+    /// and the values have numbers from the first one on.
     pub fn new(
         names: &'a Names,
         stores: &'a [Store],
         values: &'a Values<'a>,
         first_value: u32,
+        cased: &'a IndexSet<u16>,
     ) -> Lookups<'a>
-        requires { AreNumbers names.now (record { names = source_names names.now; stores = stores.now; groups = names.now.groups; values = values.now; first_value = first_value }) }
-        ensures { result ≡ record { names = source_names names.now; stores = stores.now; groups = names.now.groups; values = values.now; first_value = first_value } }
+        requires { AreNumbers names.now cased.now.keys (record { names = source_names names.now; stores = stores.now; groups = names.now.groups; values = values.now; first_value = first_value; cased = cased_codes stores.now }) }
+        ensures { result ≡ record { names = source_names names.now; stores = stores.now; groups = names.now.groups; values = values.now; first_value = first_value; cased = cased_codes stores.now } }
     {
         Lookups {
             names,
             stores,
             values,
             first_value,
+            cased,
         }
     }
 
@@ -152,6 +162,13 @@ impl<'a> Lookups<'a> {
             Some(place) => self.first_value + place as u32,
             None => self.first_value,
         }
+    }
+
+    /// Whether a code is that of a cased key.
+    pub fn is_cased(&self, code: u16) -> bool
+        ensures { result ≡ list_any (nat_eq code) self.now.cased }
+    {
+        self.cased.contains(&code)
     }
 
     /// The elements of the store at a place.

@@ -38,6 +38,7 @@ fn one_output(numbers: &Lookups<'_>, item: &SrcItem) -> Out
             numbers.store(store.as_slice()),
             numbers.value(value.as_slice()),
         ),
+        SrcItem::SetSystem(id, value) => Out::SetSystem(*id, numbers.value(value.as_slice())),
         SrcItem::Save(store) => Out::Save(numbers.store(store.as_slice())),
         SrcItem::Reset(store) => Out::Reset(numbers.store(store.as_slice())),
         SrcItem::Beep => Out::Beep,

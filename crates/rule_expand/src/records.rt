@@ -1,12 +1,13 @@
 //! The records of a rule.
 
-ghost use Rattle.std.specs.Prelude.{◌≡◌, ◌++◌, true, [], ◌∷◌, map, Some, None, unwrap_or, IfOk, OnOk};
+ghost use Rattle.std.specs.Prelude.{◌≡◌, ◌<◌, ◌≤◌, ◌++◌, true, map, unwrap_or, IfOk, OnOk};
 ghost use Rattle.kmn_base.specs.declared.keys.RuleKey.TheVariants as key;
 ghost use Rattle.rule_model.specs.Hold.{key_of_element};
 ghost use Rattle.compile_laws.specs.Compiles.{file_pattern, own_key, rule_records};
 ghost use Rattle.rule_expand.specs.Groups.{is_unit_element, are_unit_elements, is_unit_key, has_unit_key};
-ghost use Rattle.rule_expand.specs.Pieces.{template_of, template_record, template_records, template_keyed};
+ghost use Rattle.rule_expand.specs.Pieces.{template_of, template_record, template_halves, template_records, template_keyed};
 
+use crate::cased_keys::{half_key, has_halves};
 use crate::lookups::Lookups;
 use crate::pieces::{Piece, outputs_at, pieces_of};
 use kmn_base::{Element, Memory, RuleKey, Seq};
@@ -40,6 +41,10 @@ fn pattern_of(numbers: &Lookups<'_>, item: &SrcItem) -> Pat
             numbers.store(store.as_slice()),
             numbers.value(value.as_slice()),
         ),
+        SrcItem::SystemEqual(id, value) => Pat::SystemEqual(*id, numbers.value(value.as_slice())),
+        SrcItem::SystemUnequal(id, value) => {
+            Pat::SystemUnequal(*id, numbers.value(value.as_slice()))
+        }
         _ => Pat::Nul,
     }
 }
@@ -98,57 +103,49 @@ fn element_key(element: Element) -> RuleKey
     }
 }
 
-/// The one record of a rule without a key store.
-fn single_record(
-    alloc: Global,
-    numbers: &Lookups<'_>,
-    template: Template,
-    key: RuleKey,
-) -> Result<Rule, Memory>
-    ensures { IfOk result (λ made. made ≡ template_record numbers.now.stores template None key) }
-{
-    let output = outputs_at(alloc, numbers, template.pieces.as_slice(), None)?;
-    Ok(Rule {
-        line: template.line,
-        place: 0,
-        key,
-        context: template.context,
-        output,
-    })
-}
-
-/// Appends the one record of a rule without a key store.
-fn add_single(
-    alloc: Global,
-    records: &mut Vec<Rule>,
-    numbers: &Lookups<'_>,
-    template: Template,
-    key: RuleKey,
-) -> Result<(), Memory>
-    ensures { OnOk result (records.new.items ≡ records.old.items ++ template_record numbers.now.stores template None key ∷ []) }
-{
-    let record = single_record(alloc, numbers, template, key)?;
-    records.push(record)?;
-    Ok(())
-}
-
-/// The record of a rule for the key at a place of a key store.
-fn placed_record(
+/// The record of a rule for a key, which has this place in a key store, and of two halves this one.
+fn record_of(
     alloc: Global,
     numbers: &Lookups<'_>,
     template: &Template,
-    place: u32,
+    place: Option<u32>,
+    half: u32,
     key: RuleKey,
 ) -> Result<Rule, Memory>
-    ensures { IfOk result (λ made. made ≡ template_record numbers.now.stores template.now (Some place) key) }
+    requires place { unwrap_or place 0 < 0x7FFF_FFFF }
+    requires half { half ≤ 1 }
+    ensures { IfOk result (λ made. made ≡ template_record numbers.now.stores template.now place half key) }
 {
     Ok(Rule {
         line: template.line,
-        place,
+        place: 2 * place.unwrap_or(0) + half,
         key,
         context: template.context.copy(alloc)?,
-        output: outputs_at(alloc, numbers, template.pieces.as_slice(), Some(place))?,
+        output: outputs_at(alloc, numbers, template.pieces.as_slice(), place)?,
     })
+}
+
+/// Appends the records of a rule for a key: one, or two halves.
+fn add_halves(
+    alloc: Global,
+    records: &mut Vec<Rule>,
+    numbers: &Lookups<'_>,
+    template: &Template,
+    place: Option<u32>,
+    key: RuleKey,
+) -> Result<(), Memory>
+    requires { unwrap_or place 0 < 0x7FFF_FFFF }
+    ensures { OnOk result (records.new.items ≡ records.old.items ++ template_halves numbers.now template.now place key) }
+{
+    if !has_halves(numbers, key) {
+        records.push(record_of(alloc, numbers, template, place, 0, key)?)?;
+        return Ok(());
+    }
+    let small = record_of(alloc, numbers, template, place, 0, half_key(0, key))?;
+    records.push(small)?;
+    let large = record_of(alloc, numbers, template, place, 1, half_key(1, key))?;
+    records.push(large)?;
+    Ok(())
 }
 
 /// Appends the records of a rule for the elements of its key store.
@@ -161,32 +158,35 @@ fn add_placed(
     elements: &[Element],
 ) -> Result<(), Memory>
     requires { are_unit_elements elements.now ≡ true }
-    ensures { OnOk result (records.new.items ≡ records.old.items ++ template_records numbers.now.stores template.now 0 elements.now) }
+    ensures { OnOk result (records.new.items ≡ records.old.items ++ template_records numbers.now template.now 0 elements.now) }
 {
     for (place, element) in elements.iter().enumerate() {
         let key = element_key(*element);
-        records.push(placed_record(alloc, numbers, template, place as u32, key)?)?;
+        add_halves(alloc, records, numbers, template, Some(place as u32), key)?;
     }
     Ok(())
 }
 
-/// Appends the records of a rule with this key: one for each element of a key store, else one.
+/// Appends the records of a rule with this key: those for each element of a key store, else those for its own key.
 fn add_keyed(
     alloc: Global,
     records: &mut Vec<Rule>,
     numbers: &Lookups<'_>,
-    template: Template,
+    template: &Template,
     key: &Option<SrcItem>,
 ) -> Result<(), Memory>
     requires { is_unit_key numbers.now.stores key.now ≡ true }
-    ensures { OnOk result (records.new.items ≡ records.old.items ++ template_keyed numbers.now template key.now) }
+    ensures { OnOk result (records.new.items ≡ records.old.items ++ template_keyed numbers.now template.now key.now) }
 {
     match key {
         Some(SrcItem::Any(store)) => {
             let elements = numbers.elements(store.as_slice());
-            add_placed(alloc, records, numbers, &template, elements)
+            add_placed(alloc, records, numbers, template, elements)
         }
-        _ => add_single(alloc, records, numbers, template, own_key(numbers, key)),
+        _ => {
+            let wanted = own_key(numbers, key);
+            add_halves(alloc, records, numbers, template, None, wanted)
+        }
     }
 }
 
@@ -202,5 +202,5 @@ pub fn add_records(
     ensures { OnOk result (records.new.items ≡ records.old.items ++ rule_records numbers.now rule.now) }
 {
     let template = template_of(alloc, numbers, rule)?;
-    add_keyed(alloc, records, numbers, template, &rule.key)
+    add_keyed(alloc, records, numbers, &template, &rule.key)
 }

@@ -13,17 +13,11 @@ use crate::values::Values;
 use kmn_base::limits::KEY_NAMES;
 use kmn_base::texts::decoded;
 use kmn_base::{Element, Memory, Seq};
+use rule_model::system::{DROPPED, KEY_DICTIONARY};
 use rule_model::{SrcItem, Store, StoreDef};
 use std::alloc::Global;
 use store_table::Names;
-use virtual_keys::KeyDictionary;
-
-/// The system id of a store statement that is read and dropped.
-pub const DROPPED: u32 = 0xFFFF;
-/// The system id of the key dictionary's store.
-const DICTIONARY: u32 = 34;
-/// The code of a dictionary's first name.
-const FIRST_CODE: u16 = 256;
+use virtual_keys::{FIRST_OWN_CODE, KeyDictionary};
 
 /// Appends the elements that an item of a store statement stands for, behind these stores.
 fn add_elements(
@@ -130,7 +124,7 @@ fn joined_names(alloc: Global, keys: &KeyDictionary) -> Result<Vec<u8>, Memory>
 {
     let mut text = Vec::new(alloc);
     for place in 0..KEY_NAMES {
-        let Some(name) = keys.name_at(FIRST_CODE + place as u16) else {
+        let Some(name) = keys.name_at(FIRST_OWN_CODE + place as u16) else {
             return Ok(text);
         };
         add_name(&mut text, place, name)?;
@@ -159,7 +153,7 @@ fn dictionary_count(keys: &KeyDictionary) -> u32
     ensures count { result ≡ length (dictionary_stores keys.now) }
     ensures few { result ≤ 1 }
 {
-    match keys.name_at(FIRST_CODE) {
+    match keys.name_at(FIRST_OWN_CODE) {
         Some(_) => 1,
         None => 0,
     }
@@ -185,12 +179,12 @@ pub fn add_dictionary(
     requires words { list_all is_word keys.now ≡ true }
     ensures { OnOk result (stores.new.items ≡ stores.old.items ++ dictionary_stores keys.now) }
 {
-    let Some(_) = keys.name_at(FIRST_CODE) else {
+    let Some(_) = keys.name_at(FIRST_OWN_CODE) else {
         return Ok(());
     };
     let text = joined_names(alloc, keys)?;
     let characters = decoded(alloc, text.as_slice())?;
-    stores.push(characters_store(alloc, DICTIONARY, characters.as_slice())?)?;
+    stores.push(characters_store(alloc, KEY_DICTIONARY, characters.as_slice())?)?;
     Ok(())
 }
 

@@ -8,9 +8,10 @@ ghost use Rattle.rule_expand.specs.Expanded.{HasTables};
 ghost use Rattle.rule_expand.specs.Lookups.{source_names, AreFew, BeginWith};
 ghost use Rattle.rule_expand.specs.Stated.{is_of, states};
 
-use crate::stores::{DROPPED, statement_stores, store_of};
+use crate::stores::{statement_stores, store_of};
 use kmn_base::{Element, Memory, Seq};
 use rule_checker::Checked;
+use rule_model::system::DROPPED;
 use rule_model::{Program, StoreDef};
 use std::alloc::Global;
 use store_table::Names;

@@ -77,6 +77,9 @@ fn add_item<'a>(values: &mut Values<'a>, item: &'a SrcItem) -> Result<(), Memory
         SrcItem::Equal(_, value) => values.add(value.as_slice()),
         SrcItem::Unequal(_, value) => values.add(value.as_slice()),
         SrcItem::Set(_, value) => values.add(value.as_slice()),
+        SrcItem::SystemEqual(_, value) => values.add(value.as_slice()),
+        SrcItem::SystemUnequal(_, value) => values.add(value.as_slice()),
+        SrcItem::SetSystem(_, value) => values.add(value.as_slice()),
         _ => Ok(()),
     }
 }

@@ -7,9 +7,8 @@ ghost use Rattle.compile_laws.specs.Numbers.{is_version, stated_version};
 
 use kmn_base::Element;
 use rule_model::Store;
+use rule_model::system::VERSION;
 
-/// The system id of `&version`.
-const VERSION: u32 = 8;
 /// The number of version 10.0, which a file has where none is stated.
 const OWN_VERSION: u16 = 0x0A00;
 /// Each version that `&version` may state, with the number that a file has for it.

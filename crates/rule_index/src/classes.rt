@@ -6,8 +6,8 @@ ghost use Rattle.rule_index.specs.Classes.{key_class, pattern_class, last_class,
 ghost use Rattle.rule_index.specs.Groups.{record_classes};
 
 use crate::class::Class;
-use kmx_parts::{ContextItem, ContextItems, FileGroup, FileRule};
 use kmn_base::{Item, KeyPress, Memory, RuleKey};
+use kmx_parts::{ContextItem, ContextItems, FileGroup, FileRule};
 use std::alloc::Global;
 use virtual_keys::char_of;
 

@@ -2,8 +2,8 @@ ghost use Rattle.std.specs.Prelude.{◌≡◌, IfOk, map};
 ghost use Rattle.kmx_parts.specs.ContextItems.{pattern_of};
 ghost use Rattle.rule_index.specs.Groups.{context_count, listed, record_contexts};
 
-use kmx_parts::{ContextItem, ContextItems, FileGroup};
 use kmn_base::Memory;
+use kmx_parts::{ContextItem, ContextItems, FileGroup};
 use std::alloc::Global;
 
 /// A copy of a context that lies in a file.

@@ -39,5 +39,4 @@ pub use class::Class;
 pub use classes::wanted_classes;
 pub use holding::Holding;
 pub use indexed_keyboard::IndexedKeyboard;
-pub use indexed_tables::PLATFORM;
 pub use rule_index::RuleIndex;

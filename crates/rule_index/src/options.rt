@@ -6,9 +6,9 @@ ghost use Rattle.rule_model.specs.System.{system_options};
 ghost use Rattle.rule_model.specs.Plain.{option_numbers};
 ghost use Rattle.indexed_tables.specs.OptionFlags.{with_flags};
 
-use kmx_parts::{FileGroup, FileRule, FileTables, Outputs, Patterns};
 use indexed_tables::{flag_numbers, mark};
 use kmn_base::Memory;
+use kmx_parts::{FileGroup, FileRule, FileTables, Outputs, Patterns};
 use rule_model::{Out, Pat};
 use std::alloc::Global;
 

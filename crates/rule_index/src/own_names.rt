@@ -7,20 +7,18 @@ ghost use Rattle.rule_model.specs.Tab.{store_elements, is_dictionary, tab_dictio
 ghost use Rattle.rule_index.specs.OwnNames.{names_with, names_after, word_after};
 ghost use Rattle.rule_index.specs.Stores.{HaveFewElements};
 
-use kmx_parts::{Elements, FileTables, Parts};
 use kmn_base::{Element, Memory};
+use kmx_parts::{Elements, FileTables, Parts};
+use rule_model::system::KEY_DICTIONARY;
 use std::alloc::Global;
 use virtual_keys::KeyDictionary;
-
-/// The system id of the store that has the names of own keys.
-const DICTIONARY: u32 = 34;
 
 /// The elements of the store of the names, none where there is no such store.
 fn dictionary_elements<'a>(file: &FileTables<'a>) -> Elements<'a>
     ensures { result ≡ store_elements (find is_dictionary file.now.stores) }
 {
     for store in file.stores() {
-        if store.system() == DICTIONARY {
+        if store.system() == KEY_DICTIONARY {
             return store.elements();
         }
     }

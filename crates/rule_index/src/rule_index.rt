@@ -9,8 +9,8 @@ use crate::classes::record_classes;
 use crate::contexts::{counts, record_contexts};
 use crate::row::Row;
 use crate::rows::rows_of;
-use kmx_parts::{ContextItem, FileGroup};
 use kmn_base::Memory;
+use kmx_parts::{ContextItem, FileGroup};
 use std::alloc::Global;
 use std::marker::Model;
 

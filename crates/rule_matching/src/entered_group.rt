@@ -1,5 +1,5 @@
-use kmx_parts::FileGroup;
 use kmn_base::KeyPress;
+use kmx_parts::FileGroup;
 use rule_index::RuleIndex;
 
 /// What a record is chosen from: a group that a press enters, and the index of its records.

@@ -20,8 +20,8 @@ use crate::place_memory::PlaceMemory;
 use crate::places::{catch_taken, is_in_store, item_before, place_taken};
 use crate::taken::{Taken, item_taken};
 use arrayvec::ArrayVec;
-use kmx_parts::{ContextItem, FileRule};
 use kmn_base::{Element, Item, RuleKey};
+use kmx_parts::{ContextItem, FileRule};
 use rule_index::wanted_classes;
 use virtual_keys::Pressed;
 

@@ -13,7 +13,8 @@ use crate::host_text::{element_in_text, place_in_text};
 use crate::store_value::StoreValue;
 use kmn_base::{Element, Item};
 use option_store::{Held, Options};
-use rule_index::{Holding, IndexedKeyboard, PLATFORM};
+use rule_index::{Holding, IndexedKeyboard};
+use rule_model::system::PLATFORM;
 use std::marker::Model;
 
 /// A keyboard at a moment: the file with what is looked up in it, what its stores hold, and for each store whether each word of

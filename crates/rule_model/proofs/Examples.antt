@@ -25,7 +25,7 @@ use Rattle.rule_model.specs.declared.program.RuleDef.{RuleDef}
 use Rattle.rule_model.specs.declared.program.RuleKind.TheVariants.{Plain}
 use Rattle.rule_model.specs.declared.program.Program.{Program}
 use Rattle.rule_model.specs.Naming.{names_of, stores_of}
-use Rattle.rule_model.specs.Src.{src, src_options}
+use Rattle.rule_model.specs.Src.{src, src_options, cased_keys}
 use Rattle.rule_model.specs.KeyEvent.{after_key}
 use Rattle.rule_model.specs.Enter.{by_default}
 use Rattle.rule_model.specs.Event.{happening}
@@ -94,7 +94,7 @@ indexing =
     ∷ [])
 
 pub best_of_source : map seen (trace (src indexing) (press 69 ∷ press 49 ∷ [])).done ≡ (1, 0, 101 ∷ [], item.Char 101 ∷ []) ∷ (2, 0, [], item.Char 101 ∷ item.Mark 1 ∷ []) ∷ []
-unfolding trace src src_options names_of stores_of after_key happening by_default key_fits char_of_press same_name name_chars code_in us_characters
+unfolding trace src src_options cased_keys names_of stores_of after_key happening by_default key_fits char_of_press same_name name_chars code_in us_characters
 best_of_source = refl
 
 -- `any` as the key holds for each element, and `index` at the key's place takes the first place that fits
@@ -102,7 +102,7 @@ abbrev pub keyed : Program
 keyed = of_rules (vowels ∷ letters ∷ []) (statement 5 [] (Some (source.Any (codes "v"))) (source.Index (codes "w") 1 ∷ source.Char 33 ∷ []) ∷ [])
 
 pub key_store_of_source : map seen (trace (src keyed) (press 69 ∷ [])).done ≡ (1, 0, 101 ∷ 33 ∷ [], item.Char 101 ∷ item.Char 33 ∷ []) ∷ []
-unfolding trace src src_options names_of stores_of after_key happening by_default key_fits char_of_press same_name name_chars code_in us_characters
+unfolding trace src src_options cased_keys names_of stores_of after_key happening by_default key_fits char_of_press same_name name_chars code_in us_characters
 key_store_of_source = refl
 
 -- a condition on the layer, a setting by the host, and what an output makes of the layer
@@ -129,3 +129,16 @@ pub platforms : map inserted_by (trace (tab on_platform) (press 65 ∷ event.Set
     ≡ (98 ∷ []) ∷ [] ∷ (97 ∷ []) ∷ []
 unfolding trace tab tab_options tab_dictionary after_key happening by_default key_fits char_of_press same_name name_chars us_characters
 platforms = refl
+
+-- a cased key without SHIFT: shift and caps lock are both on or both off
+abbrev pub cased : Program
+cased =
+    of_rules (record { line = 1; system = 39; name = []; items = source.Key (record { flags = 0x4000; code = 66; name = [] }) ∷ [] } ∷ [])
+    (statement 5 [] (Some (source.Key (record { flags = 0x4000; code = 66; name = [] }))) (source.Char 120 ∷ []) ∷ [])
+
+abbrev pub held : ℕ → ℕ → Event
+held mods code = event.Key (record { code = code; mods = mods })
+
+pub cased_key_of_source : map inserted_by (trace (src cased) (held 0 66 ∷ held 256 66 ∷ held 272 66 ∷ held 16 66 ∷ [])).done ≡ (120 ∷ []) ∷ (66 ∷ []) ∷ (120 ∷ []) ∷ (66 ∷ []) ∷ []
+unfolding trace src src_options cased_keys names_of stores_of after_key happening by_default key_fits char_of_press same_name name_chars code_in us_characters
+cased_key_of_source = refl

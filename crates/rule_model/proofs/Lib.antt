@@ -1,5 +1,6 @@
 pub mod Bounds
 pub mod Budget
+pub mod CasedKeys
 pub mod Choosing
 pub mod Distinct
 pub mod Edits

@@ -9,7 +9,7 @@ use Rattle.rule_model.specs.declared.tables.Store.{Store}
 use Rattle.rule_model.specs.Keyboard.{StoreMeaning}
 use Rattle.rule_model.specs.Content.{options_before, option_of, content_of, elements_of_store}
 use Rattle.rule_model.specs.Event.{has_name}
-use Rattle.rule_model.specs.Tab.{with_options, elements_of}
+use Rattle.rule_model.specs.Tab.{with_options}
 use Rattle.rule_model.specs.Plain.{option_numbers, option_names, option_named}
 
 -- the number that the list of numbers has for a store is its option number
@@ -57,12 +57,6 @@ content_of_other values o (Some store) e =
       | true ↦ λ h. cc
       | false ↦ λ h. refl
     ] e
-
--- the elements are those of the table
-pub elements_with_options : (options : List ℕ) (k n : ℕ) (stores : List Store) → elements_of_store (slice_get (with_options options k stores) n) ≡ elements_of stores n
-elements_with_options options k n [] = refl
-elements_with_options options k zero (s ∷ ss) = refl
-elements_with_options options k (suc n) (s ∷ ss) = elements_with_options options (k + 1) n ss
 
 -- the first place of a list that begins with an item that passes, or with one that does not
 pub position-passes : {X : Type 0} (p : X → Bool) (x : X) (xs : List X) → p x ≡ true → position p (x ∷ xs) ≡ Some 0

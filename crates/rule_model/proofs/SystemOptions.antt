@@ -7,7 +7,7 @@ use Rattle.std.specs.List.{list_any}
 use Rattle.kmn_base.specs.declared.items.Element.{Element}
 use Rattle.rule_model.specs.declared.tables.Store.{Store}
 use Rattle.rule_model.specs.Keyboard.{Ref, StoreMeaning, Layer, Platform}
-use Rattle.rule_model.specs.Content.{options_before, option_of, elements_of_store, store_number, option_at, option_number, content_at, content}
+use Rattle.rule_model.specs.Content.{options_before, elements_of_store, store_number, option_at, option_number, content_at, content}
 use Rattle.rule_model.specs.System.{system_options, system_ref}
 use Rattle.rule_model.specs.Event.{has_name}
 use Rattle.rule_model.specs.Trace.{options_of}
@@ -102,15 +102,6 @@ first_named_of_all name options stores =
     ∙ (position-behind (has_name name) (option_names own) (option_names system_options)
     ∙ ap (λ o. either_place o (option_map (λ i. length (option_names own) + i) (position (has_name name) (option_names system_options))))
     (sym (named_before name 0 0 options stores system_options ∙ first_named name options stores)))
-
--- a store that is no option has the elements of the table, where system options stand behind the stores
-pub other_elements : (options : List ℕ) (k n o : ℕ) (stores : List Store) → option_of o (slice_get (with_options options k stores ++ system_options) n) ≡ None
-    → elements_of_store (slice_get (with_options options k stores ++ system_options) n) ≡ elements_of stores n
-other_elements options k zero o [] e = cc
-other_elements options k (suc zero) o [] e = cc
-other_elements options k (suc (suc n)) o [] e = refl
-other_elements options k zero o (s ∷ ss) e = refl
-other_elements options k (suc n) o (s ∷ ss) e = other_elements options (k + 1) n o ss e
 
 pub length-all_stores : (options : List ℕ) (stores : List Store) → length (with_options options 0 stores ++ system_options) ≡ length stores + 2
 length-all_stores options stores =

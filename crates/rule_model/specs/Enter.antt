@@ -12,7 +12,7 @@ use Rattle.rule_model.specs.declared.event_state.Caught.{Caught}
 use Rattle.rule_model.specs.declared.event_state.EventState.{EventState}
 use Rattle.rule_model.specs.Keyboard.{Ref, Output, GroupMeaning, Keyboard}
 use Rattle.rule_model.specs.Content.{group_at}
-use Rattle.rule_model.specs.Hold.{holds}
+use Rattle.rule_model.specs.Hold.{holds_with}
 use Rattle.rule_model.specs.Choose.{Chosen, choose}
 use Rattle.rule_model.specs.Act.{put_item, put_items, items_caught, content_now, act}
 
@@ -77,7 +77,7 @@ do_group kb enter press group (Some chosen) s = do_chosen kb enter group chosen 
 
 -- the rule that goes first in a group at a moment
 abbrev pub chosen_in : Keyboard → KeyPress → GroupMeaning → EventState → Option Chosen
-chosen_in kb press group s = choose kb.choice (holds (content_now kb s) s.left press) group.rules
+chosen_in kb press group s = choose kb.choice (holds_with kb.cased (content_now kb s) s.left press) group.rules
 
 abbrev pub in_group : Keyboard → (Ref → EventState → EventState) → KeyPress → Option GroupMeaning → EventState → EventState
 in_group kb enter press None s = s

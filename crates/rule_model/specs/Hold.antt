@@ -1,5 +1,5 @@
 -- When a rule holds, and what it has then caught.
-use Rattle.std.specs.Prelude.{ℕ, ◌-◌, Bool, true, false, not, ◌&&◌, nat_eq, nat_le, if◌then◌else◌, List, [], length, drop, Option, Some, None, position, count_by}
+use Rattle.std.specs.Prelude.{ℕ, ◌-◌, Bool, true, false, not, ◌&&◌, nat_eq, nat_le, if◌then◌else◌, List, [], ◌∷◌, length, drop, Option, Some, None, position, count_by}
 use Rattle.std.specs.List.{list_all, list_any}
 use Rattle.kmn_base.specs.declared.items.Item.{Item}
 use Rattle.kmn_base.specs.declared.items.Element.{Element}
@@ -7,7 +7,8 @@ use Rattle.kmn_base.specs.declared.items.Element.TheVariants as element
 use Rattle.kmn_base.specs.declared.keys.RuleKey.{RuleKey}
 use Rattle.kmn_base.specs.declared.keys.RuleKey.TheVariants as key
 use Rattle.kmn_base.specs.declared.keys.KeyPress.{KeyPress}
-use Rattle.virtual_keys.specs.Fits.{key_fits}
+use Rattle.std.specs.Bool.{beq}
+use Rattle.virtual_keys.specs.Fits.{shift, caps, no_caps, has, either_control, left_control, right_control, either_alt, left_alt, right_alt, sides_fit, key_fits}
 use Rattle.rule_model.specs.declared.event_state.Catch.{Catch}
 use Rattle.rule_model.specs.declared.event_state.Caught.{Caught}
 use Rattle.rule_model.specs.Keyboard.{Pattern, IfEqual, IfUnequal, AtStart, KeyPattern, OneKey, KeyIn, RuleMeaning}
@@ -39,22 +40,43 @@ key_of_element (element.Char c) = Some (key.Char c)
 key_of_element (element.Mark m) = None
 key_of_element (element.Key flags code) = Some (key.Virtual flags code)
 
-abbrev pub fits_press : KeyPress → Option RuleKey → Bool
-fits_press press None = false
-fits_press press (Some wanted) = key_fits wanted press
+-- whether a key exchanges shift and caps lock: its code is cased, and its flags name neither CAPS nor NCAPS
+abbrev pub is_exchanged : List ℕ → ℕ → ℕ → Bool
+is_exchanged cased flags code = list_any (nat_eq code) cased && (not (has flags caps) && not (has flags no_caps))
+
+-- the held modifiers are those that such a key asks for: where SHIFT is named, exactly one of shift and caps lock is on, else
+-- both or neither
+abbrev pub exchanged_fit : ℕ → ℕ → Bool
+exchanged_fit flags mods =
+    beq (has flags shift) (not (beq (has mods shift) (has mods caps)))
+    && (sides_fit either_control left_control right_control flags mods && sides_fit either_alt left_alt right_alt flags mods)
+
+abbrev pub virtual_fits : Bool → ℕ → ℕ → KeyPress → Bool
+virtual_fits exchanged flags code press =
+    if exchanged then nat_eq code press.code && exchanged_fit flags press.mods else key_fits (key.Virtual flags code) press
+
+-- whether a key fits a press on a keyboard with these cased keys
+abbrev pub fits_cased : List ℕ → RuleKey → KeyPress → Bool
+fits_cased [] wanted press = key_fits wanted press
+fits_cased (first ∷ others) (key.Virtual flags code) press = virtual_fits (is_exchanged (first ∷ others) flags code) flags code press
+fits_cased (first ∷ others) wanted press = key_fits wanted press
+
+abbrev pub fits_press_with : List ℕ → KeyPress → Option RuleKey → Bool
+fits_press_with cased press None = false
+fits_press_with cased press (Some wanted) = fits_cased cased wanted press
 
 -- the first place of a key store that fits the press
-abbrev pub key_place : KeyPress → List Element → Option ℕ
-key_place press elements = position (λ e. fits_press press (key_of_element e)) elements
+abbrev pub key_place_with : List ℕ → KeyPress → List Element → Option ℕ
+key_place_with cased press elements = position (λ e. fits_press_with cased press (key_of_element e)) elements
 
 abbrev pub some_place : Option ℕ → Option (Option ℕ)
 some_place None = None
 some_place (Some place) = Some (Some place)
 
 -- a key that fits has no place where it is one key, and its first place where it is a store; None where none fits
-abbrev pub fitting_place : Content → KeyPress → KeyPattern → Option (Option ℕ)
-fitting_place content press (OneKey wanted) = if key_fits wanted press then Some None else None
-fitting_place content press (KeyIn store) = some_place (key_place press (content store))
+abbrev pub fitting_place_with : List ℕ → Content → KeyPress → KeyPattern → Option (Option ℕ)
+fitting_place_with cased content press (OneKey wanted) = if fits_cased cased wanted press then Some None else None
+fitting_place_with cased content press (KeyIn store) = some_place (key_place_with cased press (content store))
 
 -- what was caught, where both the context and the key were
 abbrev pub caught_by : Option (List Catch) → Option (Option ℕ) → Option Caught
@@ -64,10 +86,23 @@ caught_by (Some catches) (Some place) = Some (record { catches = catches; key_pl
 
 -- a rule holds on a left list: its conditions are true, the last items match its patterns place by place, the list has
 -- exactly these items where the context has a `nul`, and its key fits the press. Then this is what it caught
-abbrev pub holds : Content → List Item → KeyPress → RuleMeaning → Option Caught
-holds content left press rule =
+abbrev pub holds_with : List ℕ → Content → List Item → KeyPress → RuleMeaning → Option Caught
+holds_with cased content left press rule =
     if list_all (is_true content) rule.context && has_room rule.context left
     then caught_by
     (catches_from content [] rule.context (drop (length left - pattern_count rule.context) left))
-    (fitting_place content press rule.key)
+    (fitting_place_with cased content press rule.key)
     else None
+
+-- the same on a keyboard without cased keys, as that of a file
+abbrev pub fits_press : KeyPress → Option RuleKey → Bool
+fits_press = fits_press_with []
+
+abbrev pub key_place : KeyPress → List Element → Option ℕ
+key_place = key_place_with []
+
+abbrev pub fitting_place : Content → KeyPress → KeyPattern → Option (Option ℕ)
+fitting_place = fitting_place_with []
+
+abbrev pub holds : Content → List Item → KeyPress → RuleMeaning → Option Caught
+holds = holds_with []

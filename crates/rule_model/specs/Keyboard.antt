@@ -72,10 +72,11 @@ pub data Choice : Type 0 where
   First : Choice
 
 -- a keyboard: its Unicode start group, its stores and behind them the two system options, its groups, the names of its key
--- dictionary, and its choice
+-- dictionary, the codes of its cased keys, and its choice
 pub record Keyboard : Type 0 where
   pub start : Ref
   pub stores : List StoreMeaning
   pub groups : List GroupMeaning
   pub dictionary : List (List ℕ)
+  pub cased : List ℕ
   pub choice : Choice

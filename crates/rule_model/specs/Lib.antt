@@ -1,5 +1,7 @@
 pub mod Act
+pub mod CasedKeys
 pub mod Choose
+pub mod ChosenLines
 pub mod Content
 pub mod Enter
 pub mod Event

@@ -1,5 +1,5 @@
 -- The keyboard that the statements of a source mean.
-use Rattle.std.specs.Prelude.{ℕ, Bool, true, false, List, [], ◌∷◌, ◌++◌, map, flat_map, filter, find, Option, Some, None, option_map, option_to_list, position}
+use Rattle.std.specs.Prelude.{ℕ, Bool, true, false, nat_eq, List, [], ◌∷◌, ◌++◌, map, flat_map, filter, filter_map, find, Option, Some, None, option_map, option_to_list, position}
 use Rattle.kmn_base.specs.declared.items.Element.{Element}
 use Rattle.kmn_base.specs.declared.items.Element.TheVariants as element
 use Rattle.kmn_base.specs.declared.keys.RuleKey.TheVariants as key
@@ -15,8 +15,8 @@ use Rattle.rule_model.specs.declared.program.Program.{Program}
 use Rattle.rule_model.specs.declared.tables.Store.{Store}
 use Rattle.rule_model.specs.Keyboard.{Ref, Named, Pattern, IsChar, IsMark, IsAny, IsNotAny, IsIndex, IsContextAt, IfEqual, IfUnequal, AtStart, Output, PutChar, PutMark, PutIndex, PutContext, PutContextAt, PutStore, UseGroup, SetOption, SaveOption, ResetOption, MakeBeep, DoNothing, StopEvent, KeyPattern, OneKey, KeyIn, RuleMeaning, GroupMeaning, Keyboard, Best}
 use Rattle.rule_model.specs.Naming.{SourceNames, names_of, mark_number, key_number, stores_of}
-use Rattle.rule_model.specs.Tab.{with_options}
-use Rattle.rule_model.specs.System.{system_options}
+use Rattle.rule_model.specs.Tab.{with_options, store_elements}
+use Rattle.rule_model.specs.System.{system_ref, system_options}
 
 -- a value is its characters
 abbrev pub value_elements : List ℕ → List Element
@@ -32,6 +32,8 @@ src_pattern names (source.Index store offset) = IsIndex (Named store) offset
 src_pattern names (source.ContextAt offset) = IsContextAt offset
 src_pattern names (source.Equal store value) = IfEqual (Named store) (value_elements value)
 src_pattern names (source.Unequal store value) = IfUnequal (Named store) (value_elements value)
+src_pattern names (source.SystemEqual id value) = IfEqual (system_ref id) (value_elements value)
+src_pattern names (source.SystemUnequal id value) = IfUnequal (system_ref id) (value_elements value)
 src_pattern names item = AtStart
 
 -- an item of an output; one that may not stand there does nothing
@@ -46,6 +48,7 @@ src_output names (source.Enter group) = UseGroup (Named group)
 src_output names (source.Set store value) = SetOption (Named store) (value_elements value)
 src_output names (source.Save store) = SaveOption (Named store)
 src_output names (source.Reset store) = ResetOption (Named store)
+src_output names (source.SetSystem id value) = SetOption (system_ref id) (value_elements value)
 src_output names source.Beep = MakeBeep
 src_output names source.Stop = StopEvent
 src_output names item = DoNothing
@@ -136,6 +139,19 @@ src_options program = flat_map (numbers_named (stores_of program)) (flat_map gro
 abbrev pub is_unicode : BeginDef → Bool
 is_unicode start = start.unicode
 
+-- the code of an element that is a virtual key
+abbrev pub code_of_element : Element → Option ℕ
+code_of_element (element.Key flags code) = Some code
+code_of_element e = None
+
+-- whether a store is `&casedkeys`
+abbrev pub is_cased_keys : Store → Bool
+is_cased_keys store = nat_eq store.system 39
+
+-- the codes of the cased keys: those of the first `&casedkeys`
+unfoldable pub cased_keys : Program → List ℕ
+cased_keys program = filter_map code_of_element (store_elements (find is_cased_keys (stores_of program)))
+
 -- the group that the first `begin Unicode` names
 abbrev pub start_named : Option BeginDef → Ref
 start_named None = Named []
@@ -149,5 +165,6 @@ src program =
       stores = with_options (src_options program) 0 (stores_of program) ++ system_options;
       groups = map (src_group (names_of program)) program.groups;
       dictionary = (names_of program).keys;
+      cased = cased_keys program;
       choice = Best;
     }

@@ -138,5 +138,6 @@ tab tables =
       stores = with_options (tab_options tables) 0 tables.stores ++ system_options;
       groups = map (tab_group tables.stores) tables.groups;
       dictionary = tab_dictionary tables.stores;
+      cased = [];
       choice = First;
     }

@@ -4,7 +4,8 @@
 //! `Entry` a line of a script, and `EventState` what a key event acts on. Their meaning stands in `specs/`
 //! (`docs/MEANING.md` tells it in words): `src` and `tab` give the keyboard of a program and of tables, `trace` the steps
 //! that it takes, `transcript` what is printed of them, and `step_laws` has the laws of every step. The layers above use
-//! the definitions and the laws, and compare two texts by `common_prefix`. `proofs/` has lemmas for what computes the
+//! the definitions and the laws, compare two texts by `common_prefix`, and
+//! call system stores by the names in `system`. `proofs/` has lemmas for what computes the
 //! meaning over tables: option numbers, groups and caught items.
 #![tactic(auto)]
 
@@ -12,6 +13,7 @@ mod event_state;
 mod program;
 mod script;
 pub mod step_laws;
+pub mod system;
 mod tables;
 mod texts;
 

@@ -23,10 +23,15 @@ pub enum SrcItem {
     ContextAt(u32),
     Equal(Text, Seq<char>),
     Unequal(Text, Seq<char>),
+    /// The id of a system option, and the value.
+    SystemEqual(u32, Seq<char>),
+    SystemUnequal(u32, Seq<char>),
     Nul,
     Outs(Text),
     Enter(Text),
     Set(Text, Seq<char>),
+    /// The id of a system option, and the value.
+    SetSystem(u32, Seq<char>),
     Save(Text),
     Reset(Text),
     Beep,

@@ -3,6 +3,7 @@
 ghost use Rattle.rule_model.specs.StepLaws.{BeforeIsTransitive, BestGoesBeforeOthers, BestIsBest, BestIsNone, DefaultKeepsSound, EachEventHasItsStep, EditGivesTheText, EditIsShort, EventKeepsSound, EventKeepsTextInBounds, FirstIsFirst, FirstIsNone, GroupKeepsSound, GroupsKeepSound, ItemKeepsSound, NoMoreStepsThanEvents, NoneBeforeItself, OneGoesBefore, OneIsBest, OnlyKeysAct, OutputKeepsSound, PressAddsWhatItPuts, PressEditsTheText, PressInsertsAtMostWhatItPuts, PressIsWithinBudget, PressKeepsSound, RefusalFollowsTheSteps, StepsAreNumbered, StepsAreSound, StepsAreWithinBudget, StepsKeepTextInBounds};
 ghost use Rattle.rule_model.specs.Choose.{goes_before};
 ghost use Rattle.std.specs.Cmp.{IsStrictWeakOrder};
+ghost use Rattle.rule_model.specs.CasedKeys.{CasedKeysFitByHalves, CasedRulesHoldByHalves};
 
 /// Which of two rules goes before the other is an order, in which two rules with different lines are never alike.
 #[tactic(auto, using(crate::proofs::Choosing::goes_before_is_weak_order, crate::proofs::Choosing::none_before_itself, crate::proofs::Choosing::before_is_transitive, crate::proofs::Choosing::one_goes_before))]
@@ -79,4 +80,14 @@ pub fn text_stays_in_bounds()
     ensures press { PressAddsWhatItPuts }
     ensures event { EventKeepsTextInBounds }
     ensures steps { StepsKeepTextInBounds }
+{}
+
+/// A key that exchanges shift and caps lock fits by two keys that name one or the other state of caps lock.
+pub fn cased_keys_fit_by_halves()
+    ensures { CasedKeysFitByHalves }
+{}
+
+/// So a rule with such a key holds where one of two rules with these keys holds.
+pub fn cased_rules_hold_by_halves()
+    ensures { CasedRulesHoldByHalves }
 {}

@@ -40,8 +40,8 @@ pub enum Out {
     Stop,
 }
 
-/// A key record. `line` is the source's line, `place` the place in the key store of the source, else 0; a file does
-/// not keep the place.
+/// A key record. `line` is the source's line. `place` is twice the place in the key store of the source, else 0, and one more
+/// for the second record of a cased key; a file does not keep it.
 #[derive(Drop)]
 pub struct Rule {
     pub line: u32,

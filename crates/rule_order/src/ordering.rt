@@ -1,4 +1,5 @@
-//! The order of records: the longer context first, then the earlier line, then the earlier place in a key store.
+//! The order of records: the longer context first, then the earlier line, then the smaller place: that of the key in a key
+//! store and, of the two records of a cased key, that of the half.
 
 ghost use Rattle.std.specs.List.Sorted.{IsPermutation, IsSortedBy};
 ghost use Rattle.compile_laws.specs.Compiles.{stands_before, IsOrderedGroup, AreOrderedGroups};
@@ -33,8 +34,8 @@ fn order_groups(groups: &mut [Group])
     }
 }
 
-/// Puts the records of each group in order: by falling length of the context, then by rising line, then by the place in
-/// the key store. Version, start groups and stores stay.
+/// Puts the records of each group in order: by falling length of the context, then by rising line, then by rising place.
+/// Version, start groups and stores stay.
 pub fn order(tables: &mut Tables)
     ensures { IsOrdered tables.old tables.new }
 {

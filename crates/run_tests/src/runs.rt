@@ -1,8 +1,9 @@
-//! Runs of the commands over a folder and a sink in memory: the tables of `rows`, what is too long for a table, and faults
-//! and full sizes (`hostile`).
+//! Runs of the commands over a folder and a sink in memory: the tables of `rows` and `trace_rows`, what is too long for a
+//! table, and faults and full sizes (`hostile`).
 
 mod hostile;
 mod rows;
+mod trace_rows;
 
 use crate::fixtures::seq;
 use keyman_run::{Status, run};
@@ -12,6 +13,7 @@ use rows::{FILE, FILE_RUNS, LAYOUT_RUNS, LONG_RUNS, RUNS, SAMPLE, TEXT};
 use std::alloc::{Alloc, AllocError, Global};
 use std::process::Abort;
 use std::test::Fail;
+use trace_rows::TRACE_RUNS;
 
 /// A run as its row has it.
 #[derive(Drop)]
@@ -239,6 +241,11 @@ fn runs(rt: HostRuntime) -> Result<(), Fail> {
 #[test]
 fn layouts(rt: HostRuntime) -> Result<(), Fail> {
     check_runs(&rt, LAYOUT_RUNS)
+}
+
+#[test]
+fn traces(rt: HostRuntime) -> Result<(), Fail> {
+    check_runs(&rt, TRACE_RUNS)
 }
 
 #[test]

@@ -1,17 +1,17 @@
 //! Sections with blanks between their tokens, each with the number of its items, or the place and code of its first fault.
 
 use kmn_base::Code;
-use kmn_items::{Fault, LineTokens, Trouble, Where, read_items};
+use kmn_items::{LineError, LineTokens, TokenRefusal, Where, read_items};
 use kmn_lines::{Token, TokenKind};
 use std::alloc::Global;
 use std::test::Fail;
 
-const SECTIONS: &[(Where, &str, Result<usize, Fault>)] = &[
+const SECTIONS: &[(Where, &str, Result<usize, TokenRefusal>)] = &[
     (Where::Store, "dk ( a ) 'xy' [ SHIFT K_A ]", Ok(4)),
     (
         Where::Store,
         "any ( s )",
-        Err(Fault {
+        Err(TokenRefusal {
             at: 0,
             code: Code::S06,
         }),
@@ -19,7 +19,7 @@ const SECTIONS: &[(Where, &str, Result<usize, Fault>)] = &[
     (
         Where::Context,
         "index ( s , 01 ) nul",
-        Err(Fault {
+        Err(TokenRefusal {
             at: 6,
             code: Code::S09,
         }),
@@ -27,8 +27,13 @@ const SECTIONS: &[(Where, &str, Result<usize, Fault>)] = &[
     (Where::Context, "if ( &x = 'v' ) nul any ( s )", Ok(3)),
     (
         Where::Context,
+        "layer ( 's' ) if ( &layer = 'v' ) platform ( 'web' )",
+        Ok(3),
+    ),
+    (
+        Where::Context,
         "if ( & = 'v' )",
-        Err(Fault {
+        Err(TokenRefusal {
             at: 2,
             code: Code::S02,
         }),
@@ -36,7 +41,7 @@ const SECTIONS: &[(Where, &str, Result<usize, Fault>)] = &[
     (
         Where::Key,
         "'a' 'b'",
-        Err(Fault {
+        Err(TokenRefusal {
             at: 1,
             code: Code::S05,
         }),
@@ -44,7 +49,7 @@ const SECTIONS: &[(Where, &str, Result<usize, Fault>)] = &[
     (
         Where::Key,
         "[ SHIFT ]",
-        Err(Fault {
+        Err(TokenRefusal {
             at: 2,
             code: Code::S11,
         }),
@@ -52,8 +57,16 @@ const SECTIONS: &[(Where, &str, Result<usize, Fault>)] = &[
     (Where::Output, "d65 x41 101 $& save ( & )", Ok(5)),
     (
         Where::Output,
+        "layer ( 's' ) layer ( s )",
+        Err(TokenRefusal {
+            at: 6,
+            code: Code::S02,
+        }),
+    ),
+    (
+        Where::Output,
         "index ( s , x )",
-        Err(Fault {
+        Err(TokenRefusal {
             at: 4,
             code: Code::L04,
         }),
@@ -61,7 +74,7 @@ const SECTIONS: &[(Where, &str, Result<usize, Fault>)] = &[
     (
         Where::Output,
         "beep outs ( a",
-        Err(Fault {
+        Err(TokenRefusal {
             at: 3,
             code: Code::S02,
         }),
@@ -103,7 +116,7 @@ fn is_read(
     alloc: Global,
     place: Where,
     source: &str,
-    wanted: Result<usize, Fault>,
+    wanted: Result<usize, TokenRefusal>,
 ) -> Result<bool, Fail> {
     let tokens = tokens(alloc, source)?;
     let last = tokens.len().saturating_sub(1);
@@ -113,8 +126,8 @@ fn is_read(
     };
     Ok(match read_items(alloc, place, last, 0, line) {
         Ok(items) => wanted == Ok(items.len()),
-        Err(Trouble::Broken(fault)) => wanted == Err(fault),
-        Err(Trouble::NoMemory) => false,
+        Err(LineError::Refused(fault)) => wanted == Err(fault),
+        Err(LineError::Memory) => false,
     })
 }
 

@@ -1,7 +1,8 @@
 //! Sources, each with the first refusal that it gets or with what it states. In a row, what stands before the first `:`
 //! opens the source: `K` two lines with the group `main` that uses keys, `G` one line with a group that uses none, `A`
 //! nothing. Then comes the source's text, whose signs `character` reads, and behind ` ⇒ ` the answer. What a source states
-//! is told without its opening, statement by statement with its line; characters are hexadecimal.
+//! is told without its opening, statement by statement with its line; characters are hexadecimal, and a system option stands
+//! by its id behind `&`.
 
 use crate::fixtures::character;
 use kmn_base::{Code, CompileError, Refusal, Seq};
@@ -206,7 +207,9 @@ A:STORE(A) 'x'¶Begin UNICODE > USE(A)¶begin ansi > use(B)¶GROUP(a) Using Keys
 A:store(&bitmap) 'a'¶store(&Copyright)¶store(&HOTKEY)¶store(&message) ⇒ 1 store 1: 61; 2 store 2:; 3 store 3:; 4 store 6:
 A:store(&name)¶store(&version)¶store(&mnemoniclayout) ⇒ 1 store 7:; 2 store 8:; 3 store 17:
 A:store(&visualkeyboard)¶store(&layoutfile)¶store(&keyboardversion)¶store(&targets) ⇒ 1 store 24:; 2 store 35:; 3 store 36:; 4 store 38:
-A:store(&casedkeys)¶store(&includecodes) ⇒ 1 store 65534:; 2 store 65534:
+A:store(&casedkeys)¶store(&includecodes) ⇒ 1 store 39:; 2 store 65534:
+A:store(&CasedKeys) [K_A] [K_B] [K_C] ⇒ 1 store 39: [4000 65] [4000 66] [4000 67]
+A:store(&casedkeys) [K_A]¶store(&casedkeys) [SHIFT K_A] dk(x) 'a' outs(k) ⇒ 1 store 39: [4000 65]; 2 store 39: [4010 65] dk(x) 61 outs(k)
 A:store(&capsalwaysoff)¶store(&capsononly)¶store(&shiftfreescaps) ⇒ 1 store 65534:; 2 store 65534:; 3 store 65534:
 A:store(&ethnologuecode)¶store(&windowslanguages)¶store(&language) ⇒ 1 store 65535:; 2 store 65535:; 3 store 65535:
 A:store(&layout)¶store(&languagename)¶store(&displaymap) ⇒ 1 store 65535:; 2 store 65535:; 3 store 65535:
@@ -252,6 +255,8 @@ K:+ dk(x) > 'c' ⇒ S05 3
 K:+ notany(s) > 'c' ⇒ S05 3
 K:+ index(s, 1) > 'c' ⇒ S05 3
 K:+ nul > 'c' ⇒ S05 3
+K:+ layer("s") > 'c' ⇒ S05 3
+K:match if(&layer = "s") > 'c' ⇒ S05 3
 K:+ any(s) 'a' > 'c' ⇒ S05 3
 K:+ [K_A] [K_B] > 'c' ⇒ S05 3
 K:+ 'a' > any(q) ⇒ S06 3
@@ -265,6 +270,8 @@ K:+ 'a' > dx ⇒ S06 3
 K:+ 'a' > notany(s) ⇒ S06 3
 K:+ 'a' > if(s = "v") ⇒ S06 3
 K:+ 'a' > platform(x) ⇒ S06 3
+K:+ 'a' > platform("x") ⇒ S06 3
+K:+ 'a' > if(&layer = "x") ⇒ S06 3
 K:+ 'a' > baselayout(x) ⇒ S06 3
 K:+ 'a' > 'b' > 'c' ⇒ S06 3
 K:+ 'a' > 'b' + 'c' ⇒ S06 3
@@ -276,6 +283,8 @@ A:store(v) beep ⇒ S06 1
 A:store(v) context ⇒ S06 1
 A:store(v) index(s, 1) ⇒ S06 1
 A:store(v) call(x) ⇒ S06 1
+A:store(v) layer("s") ⇒ S06 1
+A:store(&casedkeys) platform("x") ⇒ S06 1
 A:store(v) > ⇒ S06 1
 A:store(v) hello ⇒ S06 1
 A:store(v) 'a', 'b' ⇒ S06 1
@@ -319,6 +328,13 @@ K:+ 'a' > set(s) ⇒ S02 3
 K:+ 'a' > set(s = v) ⇒ S02 3
 K:+ 'a' > set(s != "v") ⇒ S02 3
 K:+ 'a' > set(s = "v" ⇒ S02 3
+K:+ 'a' > set(&x = v) ⇒ S02 3
+K:+ 'a' > set(&layer = v) ⇒ S02 3
+K:+ 'a' > layer(x) ⇒ S02 3
+K:+ 'a' > layer("s" "t") ⇒ S02 3
+K:+ 'a' > layer("s" ⇒ S02 3
+K:+ 'a' > layer() ⇒ S02 3
+K:+ 'a' > layer ⇒ S02 3
 K:+ 'a' > call ⇒ S02 3
 K:+ 'a' > call() ⇒ S02 3
 K:+ 'a' > call()) ⇒ S02 3
@@ -329,6 +345,10 @@ K:any() + 'a' > 'b' ⇒ S02 3
 K:if(s) + 'a' > 'b' ⇒ S02 3
 K:if(s = v) + 'a' > 'b' ⇒ S02 3
 K:if(s = "v" + 'a' > 'b' ⇒ S02 3
+K:if(&layer = v) + 'a' > 'b' ⇒ S02 3
+K:layer(x) + 'a' > 'b' ⇒ S02 3
+K:platform(x) + 'a' > 'b' ⇒ S02 3
+K:platform(U+0041) + 'a' > 'b' ⇒ S02 3
 K:platform(>) + 'a' > 'b' ⇒ S08 3
 G:platform(>) 'b' ⇒ S02 2
 K:dk('x') + 'a' > 'b' ⇒ S02 3
@@ -338,6 +358,7 @@ K:dk(x) nul + 'b' > 'c' ⇒ S09 3
 K:'a' context(1) nul + 'b' > 'c' ⇒ S09 3
 K:'a' if(s = "v") + 'ab' > 'c' ⇒ S09 3
 K:'a' platform('x') + 'b' > 'c' ⇒ S09 3
+K:'a' platform("web") + 'b' > 'c' ⇒ S09 3
 K:'a' layer(x) + 'b' > 'c' ⇒ S09 3
 K:'a' baselayout(x) + 'b' > 'c' ⇒ S09 3
 K:'a' if(&x = "v") + 'b' > 'c' ⇒ S09 3
@@ -369,8 +390,17 @@ K:if(s = "v") if(t != 'ab') nul + 'a' > nul ⇒ 3 if(s=76) if(t!=61 62) nul + 61
 K:if(s!="v") + 'a' > set(s="") ⇒ 3 if(s!=76) + 61 > set(s=)
 K:+ 'a' > outs(s) $t use(g) set(s = "1") save(s) reset(s) beep return ⇒ 3 + 61 > outs(s) outs(t) use(g) set(s=31) save(s) reset(s) beep return
 K:+ 'a' > call(x) call(() call(')') ⇒ 3 + 61 > call(x) call(() call(')')
-K:+ 'a' > switch(x) clearcontext fix layer('x') set(&x = "v") [K_A] ⇒ 3 + 61 > - - - - - -
-K:platform('x') layer(x) baselayout(x) if(&x = "v") if(&x != "v") nul + 'a' > 'b' ⇒ 3 - - - - - nul + 61 > 62
+K:+ 'a' > switch(x) clearcontext fix set(&x = "v") set(&platform = "v") [K_A] ⇒ 3 + 61 > - - - - - -
+K:baselayout(x) if(&x = "v") if(&x != "v") nul + 'a' > 'b' ⇒ 3 - - - nul + 61 > 62
+K:platform('x') layer('y') if(&platform = "v") if(&platform != "v") + 'a' > 'b' ⇒ 3 if(&31=78) if(&33=79) if(&31=76) if(&31!=76) + 61 > 62
+K:if(&LAYER = "v") if(&Layer != 'a b') PLATFORM("") + 'a' > set(&lAYER = "w") LAYER("") ⇒ 3 if(&33=76) if(&33!=61 20 62) if(&31=) + 61 > set(&33=77) set(&33=)
+K:if(o = "s") if(&layer = "s") platform('s') + 'a' > set(o = 's') layer("s") set(&layer = "t") ⇒ 3 if(o=73) if(&33=73) if(&31=73) + 61 > set(o=73) set(&33=73) set(&33=74)
+K:if(&layer = "s") + 'a' > layer("t") ⇒ 3 if(&33=73) + 61 > set(&33=74)
+K:nul layer("s") 'a' + 'a' > 'b' ⇒ 3 nul if(&33=73) 61 + 61 > 62
+K:match > layer("s")¶nomatch > set(&layer = "t") ⇒ 3 match > set(&33=73); 4 nomatch > set(&33=74)
+K:if(layer = "s") + 'a' > set(platform = "t") ⇒ 3 if(layer=73) + 61 > set(platform=74)
+K:if(&layers = "s") if(&&layer = "s") + 'a' > set(&&layer = "s") ⇒ 3 - - + 61 > -
+K:any(&layer) + 'a' > save(&layer) ⇒ 3 any(&layer) + 61 > save(&layer)
 K:+ [K_A] > 'b'¶+ [shift ctrl k_b] > 'b' ⇒ 3 + [4000 65] > 62; 4 + [4030 66] > 62
 K:+ [T_flip] > 'b'¶+ [CAPS U_0061_0301] > 'b' ⇒ 3 + [4000 0 T_flip] > 62; 4 + [4100 0 U_0061_0301] > 62
 K:+ [SHIFT SHIFT K_A] > 'b'¶+ [NCAPS RALT LALT RCTRL LCTRL ALT K_oE2] > 'b' ⇒ 3 + [4010 65] > 62; 4 + [424F 226] > 62
@@ -391,9 +421,9 @@ K:nul 'a' nul + 'a' > 'b' ⇒ S09 3
 K:+ 'a' > nul nul ⇒ 3 + 61 > nul nul
 K:+ 'a' '' > 'b' ⇒ 3 + 61 > 62
 K:any(s) + 'a' > context 'x' context(1) context(999999999) ⇒ 3 any(s) + 61 > context 78 context(1) context(999999999)
-K:platform("mac") if(s = "v") 'a' + 'a' > 'b' ⇒ 3 - if(s=76) 61 + 61 > 62
+K:platform("mac") if(s = "v") 'a' + 'a' > 'b' ⇒ 3 if(&31=6D 61 63) if(s=76) 61 + 61 > 62
 K:+ 'a' > call(x:y) ⇒ 3 + 61 > call(x:y)
-K:layer(x) nul + 'a' > 'b' ⇒ 3 - nul + 61 > 62"##;
+K:layer('x') nul + 'a' > 'b' ⇒ 3 if(&33=78) nul + 61 > 62"##;
 
 /// A keyboard of every kind of statement.
 const SAMPLE: &str = r##"c Acute and grave vowels
@@ -500,6 +530,13 @@ fn write_key(out: &mut String, key: &KeyName) -> Result<(), AllocError> {
     out.push(']')
 }
 
+/// Writes what ends an item with a value.
+fn write_end(out: &mut String, sign: &str, value: &Seq<char>) -> Result<(), AllocError> {
+    out.push_str(sign)?;
+    write_chars(out, value)?;
+    out.push(')')
+}
+
 fn write_value(
     out: &mut String,
     word: &str,
@@ -509,9 +546,20 @@ fn write_value(
 ) -> Result<(), AllocError> {
     out.push_str(word)?;
     out.push_str(name(store))?;
-    out.push_str(sign)?;
-    write_chars(out, value)?;
-    out.push(')')
+    write_end(out, sign, value)
+}
+
+/// Writes an item on a system option, by its id.
+fn write_system(
+    out: &mut String,
+    word: &str,
+    id: u32,
+    sign: &str,
+    value: &Seq<char>,
+) -> Result<(), AllocError> {
+    out.push_str(word)?;
+    write_number(out, id)?;
+    write_end(out, sign, value)
 }
 
 fn write_index(out: &mut String, store: &Seq<u8>, offset: u32) -> Result<(), AllocError> {
@@ -538,6 +586,9 @@ fn write_item(out: &mut String, item: &SrcItem) -> Result<(), AllocError> {
         SrcItem::Equal(store, value) => write_value(out, "if(", store, "=", value),
         SrcItem::Unequal(store, value) => write_value(out, "if(", store, "!=", value),
         SrcItem::Set(store, value) => write_value(out, "set(", store, "=", value),
+        SrcItem::SystemEqual(id, value) => write_system(out, "if(&", *id, "=", value),
+        SrcItem::SystemUnequal(id, value) => write_system(out, "if(&", *id, "!=", value),
+        SrcItem::SetSystem(id, value) => write_system(out, "set(&", *id, "=", value),
         other => write_named(out, other),
     }
 }

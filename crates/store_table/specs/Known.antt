@@ -8,6 +8,7 @@ use Rattle.rule_model.specs.declared.program.RuleDef.{RuleDef}
 use Rattle.rule_model.specs.declared.program.Program.{Program}
 use Rattle.rule_model.specs.declared.tables.Store.{Store}
 use Rattle.rule_model.specs.Naming.{SourceNames, names_of, stores_of, item_elements, rule_items, all_rules}
+use Rattle.rule_model.specs.Src.{cased_keys}
 
 -- the store that an item uses as an option
 abbrev pub option_named : SrcItem → List (List ℕ)
@@ -21,16 +22,22 @@ option_named item = []
 abbrev pub rule_options : RuleDef → List (List ℕ)
 rule_options rule = flat_map option_named (rule_items rule)
 
--- what a program's items are looked at with: the names of its deadkeys and keys, its stores with their elements, and the
--- names of its options
+-- what a program's items are looked at with: the names of its deadkeys and keys, its stores with their elements, the names
+-- of its options, and the codes of its cased keys
 pub record Known : Type 0 where
   pub names : SourceNames
   pub stores : List Store
   pub options : List (List ℕ)
+  pub cased : List ℕ
 
 unfoldable pub known : Program → Known
 known program =
-    record { names = names_of program; stores = stores_of program; options = flat_map rule_options (all_rules program) }
+    record {
+      names = names_of program;
+      stores = stores_of program;
+      options = flat_map rule_options (all_rules program);
+      cased = cased_keys program;
+    }
 
 -- the elements that an item of a store stands for, and those of all items of a store statement
 abbrev pub brought : Known → SrcItem → List Element

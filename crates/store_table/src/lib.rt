@@ -20,4 +20,3 @@ pub use by_line::parted_by_line;
 pub use first::{at_line, earlier};
 pub use name_table::NameTable;
 pub use names::{Names, number};
-pub use stating::DROPPED;

@@ -5,11 +5,9 @@ ghost use Rattle.store_table.specs.Names.{group_names, stated, store_names};
 
 use crate::name_table::NameTable;
 use kmn_base::Memory;
+use rule_model::system::DROPPED;
 use rule_model::{GroupDef, Program, StoreDef};
 use std::alloc::Global;
-
-/// The system id of a store statement that is read and dropped.
-pub const DROPPED: u32 = 0xFFFF;
 
 /// The names of all stores and groups that a program states, in their order.
 #[derive(Drop)]

@@ -11,7 +11,7 @@ use std::alloc::Global;
 use std::marker::Model;
 
 /// The code of a dictionary's first name. Codes below are those of the keys that every keyboard has.
-const FIRST_CODE: u16 = 256;
+pub const FIRST_OWN_CODE: u16 = 256;
 
 /// Names of at most so many bytes, as all of 80 characters are, are looked up by hash. A longer one, which only files
 /// have, is compared with each, since a look-up takes no memory and so folds a name in a buffer.
@@ -66,7 +66,7 @@ impl KeyDictionary {
             Some(place) => place,
             None => self.append(name)?,
         };
-        Ok(FIRST_CODE + place as u16)
+        Ok(FIRST_OWN_CODE + place as u16)
     }
 
     /// The code of a name.
@@ -76,14 +76,14 @@ impl KeyDictionary {
         ensures distinct { AreDistinct self.now }
     {
         let place = self.place_of(name)?;
-        Some(FIRST_CODE + place as u16)
+        Some(FIRST_OWN_CODE + place as u16)
     }
 
     /// The name of a code, as it was first added.
     pub fn name_at(&self, code: u16) -> Option<&[u8]>
         ensures { option_copied result ≡ name_in self.now code }
     {
-        let place = code.checked_sub(FIRST_CODE)?;
+        let place = code.checked_sub(FIRST_OWN_CODE)?;
         let (_, written) = self.names.get_index(usize::from(place))?;
         Some(written.as_slice())
     }

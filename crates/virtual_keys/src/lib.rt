@@ -16,7 +16,7 @@ mod presses;
 mod tables;
 mod unicode_names;
 
-pub use dictionary::KeyDictionary;
+pub use dictionary::{FIRST_OWN_CODE, KeyDictionary};
 pub use names::{key_named, modifier_named, name_of};
 pub use pressed::Pressed;
 pub use presses::{char_of, is_plain};

@@ -19,6 +19,34 @@ pub const RUNS: &str = r##"test a.kmn out a.keys
 [K_A]¶
 0 122
 1 del=0 ins=0062 pass=0 beep=0 ent=1 ctx=0062¶text 0062|-¶end events=1 failed=0¶
+compile a.kmn out
+store(&casedkeys) [K_A] [K_B] [K_C]¶@+ [K_B] > 'x'
+
+0 190
+compiled stores=1 groups=1 rules=2 bytes=190¶
+test a.kmn out a.keys
+store(&casedkeys) [K_A] [K_B] [K_C]¶@+ [K_B] > 'x'
+[K_B] [CAPS K_B] [SHIFT CAPS K_B] [SHIFT K_B]
+0 190
+1 del=0 ins=0078 pass=0 beep=0 ent=1 ctx=0078¶2 del=0 ins=0042 pass=0 beep=0 ent=1 ctx=0078.0042¶\
+3 del=0 ins=0078 pass=0 beep=0 ent=1 ctx=0078.0042.0078¶4 del=0 ins=0042 pass=0 beep=0 ent=1 ctx=0078.0042.0078.0042¶\
+text 0078.0042.0078.0042|-¶end events=4 failed=0¶
+compile a.kmn out
+@store(r) 'a' .. 'e'
+
+1
+refused S06 line 3¶
+compile a.kmn out
+@store(&casedkeys) 'a'
+
+1
+refused C25 line 3¶
+test a.kmn out a.keys
+@if(&layer = "s") + 'a' > layer("t")
+option &layer "s"¶[K_A] [K_A]
+0 172
+1 del=0 ins=- pass=0 beep=0 ent=0 ctx=-¶opt &layer 0073¶save &layer 0073¶2 del=0 ins=- pass=0 beep=0 ent=1 ctx=-¶\
+opt &layer 0074¶3 del=0 ins=0061 pass=0 beep=0 ent=1 ctx=0061¶text 0061|-¶end events=3 failed=0¶
 test a.kmn out a.keys
 @+ 'a' > 'b'¶
 [SHIFT K_B] [K_F5]
@@ -636,14 +664,14 @@ decompile a.kmx out
 @+ 'a' > 'b'¶ ⇒ 0-24 0001 0000 28-32 0040 0000 004C 0000 40-64 0000 0000 0000 0000 0078 0000 007C 0000 0064 0000 72-100 \
 0092 0000 0086 0000 0073 0000 108-118 FFFF 0017 0022 0002 0001 0000 118-122
 
-1
-refused X2 at 116¶
+0 107
+decompiled bytes=107¶
 decompile a.kmx out
 @+ 'a' > 'b'¶ ⇒ 0-24 0001 0000 28-32 0040 0000 004C 0000 40-64 0000 0000 0000 0000 008C 0000 0078 0000 0064 0000 72-100 \
 0082 0000 0000 0000 108-118 FFFF 0018 0022 0001 0000 0073 0000
 
-1
-refused X2 at 112¶"##;
+0 101
+decompiled bytes=101¶"##;
 
 /// Runs that check touch layouts, which stand as the script.
 pub const LAYOUT_RUNS: &str = r##"layout a.kmn a.keys

@@ -5,5 +5,5 @@ use Rattle.item_checker.proofs.stores.store_items_code.Given as goal
 
 abbrev pub invariant-loop-item : goal.invariant-loop-item
 invariant-loop-item l =
-    first_code (store_item_code l.facts l.characters) (drop l.item-index l.items)
-    ≡ first_code (store_item_code l.facts l.characters) l.items
+    first_code (store_item_code l.facts l.characters l.keys) (drop l.item-index l.items)
+    ≡ first_code (store_item_code l.facts l.characters l.keys) l.items

@@ -1,6 +1,6 @@
 use Rattle.std.proofs.Common.{◌≡◌, Some, None, refl, rules}
-use Rattle.keyman_run.specs.Command.{Request, request_of}
-use Rattle.keyman_run.specs.Command.Request.{Compile, Decompile, Layout, Load, Play, Test, Verify}
+use Rattle.keyman_words.specs.Command.{Request, request_of}
+use Rattle.keyman_words.specs.Command.Request.{Compile, Decompile, Layout, Load, Play, Test, Trace, Verify}
 use Rattle.keyman_run.proofs.LoadLaws.{load_runs}
 use Rattle.keyman_run.proofs.MeaningLaws.{compile_means, test_means}
 use Rattle.keyman_run.proofs.WordsLaws.{runs_asked, runs_nothing}
@@ -50,6 +50,12 @@ returns-in-Some-Load g c =
     let is : Some request ≡ request_of c.args.words.now = search rules in
     runs_asked c.args.words.now request g.F.Folder c.args.folder.now _ g.S.Sink _ _ c.load.result is
     (load_runs c.in-Some-Load.number (Some request) g.F.Folder c.args.folder.now g.S.Sink _ _ c.load.result refl c.load.ensures) (λ told. tt)
+
+pub returns-in-Some-Trace : goal.returns-in-Some-Trace
+returns-in-Some-Trace g c =
+    let request : Request = Trace c.in-Some-Trace.source c.in-Some-Trace.keys in
+    let is : Some request ≡ request_of c.args.words.now = search rules in
+    runs_asked c.args.words.now request g.F.Folder _ _ g.S.Sink _ _ c.trace_rules.result is c.trace_rules.ensures (λ told. tt)
 
 pub returns-in-None : goal.returns-in-None
 returns-in-None g c =

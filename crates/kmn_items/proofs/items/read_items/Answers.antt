@@ -1,7 +1,7 @@
 use Rattle.std.proofs.Common.{◌+◌, ◌<◌, List, length, Result, Err, sym, ap, subst, ◌∙◌, arith, length-drop}
 use Rattle.std.proofs.lemmas.Grind.{common_steps}
 use Rattle.rule_model.specs.declared.program.SrcItem.{SrcItem}
-use Rattle.kmn_items.specs.declared.syntax.Fault.{Fault}
+use Rattle.kmn_items.specs.declared.syntax.TokenRefusal.{TokenRefusal}
 use Rattle.kmn_items.specs.TokenTexts.{texts, Reads}
 use Rattle.kmn_items.specs.Item.{prepend, read_items}
 use Rattle.kmn_items.proofs.ItemLemmas.{items_step, items_stop, passed_on}
@@ -25,7 +25,7 @@ pub returns-in_err-taken : goal.returns-in_err-taken
 returns-in_err-taken c =
     let rest = texts c.items.rest in
     let many : 0 < length rest = let t = c.items-test in let e = c.is_empty.ensures in grind (arith, common_steps, t, e) in
-    let trouble = c.in_err-taken.field-0.0 in
-    let stops = items_stop c.args.place c.items.seen c.args.last c.items.next c.items.items rest trouble many c.in_err-taken.ensures.read in
-    let says = subst (λ (read : Result (List SrcItem) Fault). Reads read (Err trouble)) c.items.invariant.read stops in
-    passed_on _ trouble c.from_residual.result c.from_residual.ensures.1 says
+    let error = c.in_err-taken.field-0.0 in
+    let stops = items_stop c.args.place c.items.seen c.args.last c.items.next c.items.items rest error many c.in_err-taken.ensures.read in
+    let says = subst (λ (read : Result (List SrcItem) TokenRefusal). Reads read (Err error)) c.items.invariant.read stops in
+    passed_on _ error c.from_residual.result c.from_residual.ensures.1 says

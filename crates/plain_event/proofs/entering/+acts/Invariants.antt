@@ -1,13 +1,16 @@
 use Rattle.std.proofs.Common.{◌≡◌, ◌+◌, ◌*◌, drop, map}
 use Rattle.rule_model.specs.Act.{act}
 use Rattle.rule_model.specs.Tab.{tab_output}
-use Rattle.plain_event.specs.Entering.{keyboard_of, stores_of, enters}
+use Rattle.plain_event.specs.Entering.{keyboard_of, stores_of, enters, adds}
+use Rattle.rule_model.specs.ChosenLines.{lines_of}
 use Rattle.plain_event.proofs.entering.+acts.Given as goal
 
 abbrev pub invariant-act-loop-output : goal.invariant-act-loop-output
 invariant-act-loop-output l =
-    act (keyboard_of l.entering) (enters l.entering) l.caught (map (tab_output (stores_of l.entering)) (drop l.output-index l.outputs)) l.state
-    ≡ act (keyboard_of l.entering) (enters l.entering) l.caught (map (tab_output (stores_of l.entering)) l.outputs) l.fn.state
+    (act (keyboard_of l.entering) (enters l.entering) l.caught (map (tab_output (stores_of l.entering)) (drop l.output-index l.outputs)) l.state
+    ≡ act (keyboard_of l.entering) (enters l.entering) l.caught (map (tab_output (stores_of l.entering)) l.outputs) l.fn.state)
+    × (lines_of (keyboard_of l.entering) (enters l.entering) (adds l.entering) l.caught (map (tab_output (stores_of l.entering)) (drop l.output-index l.outputs)) l.state l.lines.items
+    ≡ lines_of (keyboard_of l.entering) (enters l.entering) (adds l.entering) l.caught (map (tab_output (stores_of l.entering)) l.outputs) l.fn.state l.fn.lines.items)
 
 abbrev pub decreases-act : goal.decreases-act
 decreases-act l = 8 * l.entering.now.depth + 4

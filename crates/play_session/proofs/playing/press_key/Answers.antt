@@ -28,3 +28,7 @@ returns-clause-state c =
 pub returns-clause-inserted : goal.returns-clause-inserted
 returns-clause-inserted c =
     (press_is_done c.args.engine.now c.args.editor.now c.args.press c.key-outcome.result c.key-outcome.new.self c.left.result.now c.requires.together c.left.ensures c.key-outcome.ensures.outcome c.key-outcome.ensures.engine).inserts
+
+pub returns-clause-chosen : goal.returns-clause-chosen
+returns-clause-chosen c =
+    (press_is_done c.args.engine.now c.args.editor.now c.args.press c.key-outcome.result c.key-outcome.new.self c.left.result.now c.requires.together c.left.ensures c.key-outcome.ensures.outcome c.key-outcome.ensures.engine).chooses

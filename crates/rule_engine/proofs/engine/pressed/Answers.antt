@@ -5,6 +5,7 @@ use Rattle.kmn_base.proofs.ReadingAgain.{reading_again_gives_the_text}
 use Rattle.option_store.specs.Meaning.{option_values, option_saves}
 use Rattle.rule_model.specs.declared.tables.Tables.{Tables}
 use Rattle.rule_model.specs.KeyEvent.{after_key, outcome_of, inserted}
+use Rattle.rule_model.specs.ChosenLines.{lines_of_press}
 use Rattle.rule_model.specs.Tab.{tab}
 use Rattle.rule_engine.specs.Event.{EventValue, keyboard_of}
 use Rattle.rule_engine.proofs.engine.pressed.Goals as goal
@@ -12,7 +13,7 @@ use Rattle.rule_engine.proofs.engine.pressed.Goals as goal
 pub returns-clause-outcome : goal.returns-clause-outcome
 returns-clause-outcome c =
     let before : List Item = read_again c.args.workspace.cache c.args.left.now in
-    let acts = c.press.ensures ∙ ap (λ (e : EventValue). record e { state = after_key (keyboard_of e) c.args.key e.state }) c.begin-event.ensures in
+    let acts = c.press.ensures ∙ ap (λ (e : EventValue). record e { state = after_key (keyboard_of e) c.args.key e.state; lines = lines_of_press (keyboard_of e) c.args.key e.state }) c.begin-event.ensures in
     let lent : characters before ≡ c.press.new.event.lent
     = reading_again_gives_the_text c.args.workspace.cache c.args.left.now ∙ sym (ap (λ (e : EventValue). e.lent) acts) in
     c.finish.ensures.outcome before lent ∙ ap (λ (e : EventValue). outcome_of before e.state) acts
@@ -20,7 +21,7 @@ returns-clause-outcome c =
 pub returns-clause-engine : goal.returns-clause-engine
 returns-clause-engine c =
     let before : List Item = read_again c.args.workspace.cache c.args.left.now in
-    let acts = c.press.ensures ∙ ap (λ (e : EventValue). record e { state = after_key (keyboard_of e) c.args.key e.state }) c.begin-event.ensures in
+    let acts = c.press.ensures ∙ ap (λ (e : EventValue). record e { state = after_key (keyboard_of e) c.args.key e.state; lines = lines_of_press (keyboard_of e) c.args.key e.state }) c.begin-event.ensures in
     let lent : characters before ≡ c.press.new.event.lent
     = reading_again_gives_the_text c.args.workspace.cache c.args.left.now ∙ sym (ap (λ (e : EventValue). e.lent) acts) in
     let tables : c.args.indexed.now ≡ c.press.new.event.tables = sym (ap (λ (e : EventValue). e.tables) acts) in
@@ -28,4 +29,5 @@ returns-clause-engine c =
     let current = ap (λ (t : Tables). option_values (tab t).stores c.finish.result.workspace.options) tables ∙ (c.finish.ensures.current ∙ ap (λ (e : EventValue). e.state.current) acts) in
     let saved = ap (λ (t : Tables). option_saves (tab t).stores c.finish.result.workspace.options) tables ∙ (c.finish.ensures.saved ∙ ap (λ (e : EventValue). e.state.saved) acts) in
     let inserts = c.finish.ensures.inserted before lent ∙ ap (λ (e : EventValue). inserted before e.state.left) acts in
-    λ i. record { tables = c.args.indexed.now; context = context i; current = current i; saved = saved i; inserted = inserts i }
+    let chose = c.finish.ensures.chosen ∙ ap (λ (e : EventValue). e.lines) acts in
+    λ i. record { tables = c.args.indexed.now; context = context i; current = current i; saved = saved i; inserted = inserts i; chosen = chose i }

@@ -1,14 +1,21 @@
 use Rattle.std.proofs.Common.{◌≡◌, ◌+◌, ◌*◌, length, map}
 use Rattle.rule_model.specs.Act.{act}
+use Rattle.rule_model.specs.ChosenLines.{lines_of}
 use Rattle.rule_model.specs.Tab.{tab_output}
-use Rattle.rule_engine.specs.Event.{AllChangeOwn, keyboard_of, enters}
+use Rattle.rule_engine.specs.Event.{AllChangeOwn, keyboard_of, enters, adds}
 use Rattle.rule_engine.proofs.entering.+acts.Given as goal
 
 abbrev pub invariant-act-loop-output : goal.invariant-act-loop-output
 invariant-act-loop-output l =
     record {
-      state : record l.event { state = act (keyboard_of l.event) (enters l.event l.entering) l.caught (map (tab_output l.event.tables.stores) l.output-iterator) l.event.state }
-          ≡ record l.fn.event { state = act (keyboard_of l.fn.event) (enters l.fn.event l.entering) l.caught (map (tab_output l.fn.event.tables.stores) l.fn.outputs) l.fn.event.state };
+      state : record l.event {
+        state = act (keyboard_of l.event) (enters l.event l.entering) l.caught (map (tab_output l.event.tables.stores) l.output-iterator) l.event.state;
+        lines = lines_of (keyboard_of l.event) (enters l.event l.entering) (adds l.event l.entering) l.caught (map (tab_output l.event.tables.stores) l.output-iterator) l.event.state l.event.lines;
+      }
+          ≡ record l.fn.event {
+            state = act (keyboard_of l.fn.event) (enters l.fn.event l.entering) l.caught (map (tab_output l.fn.event.tables.stores) l.fn.outputs) l.fn.event.state;
+            lines = lines_of (keyboard_of l.fn.event) (enters l.fn.event l.entering) (adds l.fn.event l.entering) l.caught (map (tab_output l.fn.event.tables.stores) l.fn.outputs) l.fn.event.state l.fn.event.lines;
+          };
       own : AllChangeOwn (length l.event.tables.stores) l.output-iterator;
     }
 

@@ -4,5 +4,5 @@ use Rattle.rule_expand.proofs.records.add_placed.Given as goal
 
 abbrev pub invariant-loop-place : goal.invariant-loop-place
 invariant-loop-place l =
-    l.records.items ++ template_records l.numbers.stores l.template l.place (drop l.place l.elements)
-    ≡ l.initial.records.items ++ template_records l.numbers.stores l.template 0 l.elements
+    l.records.items ++ template_records l.numbers l.template l.place (drop l.place l.elements)
+    ≡ l.initial.records.items ++ template_records l.numbers l.template 0 l.elements

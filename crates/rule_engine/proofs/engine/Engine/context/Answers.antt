@@ -8,4 +8,4 @@ pub returns-clause-engine : goal.returns-clause-engine
 returns-clause-engine c =
     subst IsEngine c.self.view_is
     (at_work_is_engine (arc_value c.self.inside.indexed) c.self.inside.workspace.cache c.self.inside.workspace.options c.self.inside.workspace.truths.items
-    c.self.inside.workspace.inserted c.self.invariant)
+    c.self.inside.workspace.inserted c.self.inside.workspace.chosen.items c.self.invariant)

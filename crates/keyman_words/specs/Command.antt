@@ -1,0 +1,54 @@
+-- What the words of a call ask for.
+use Rattle.std.specs.Prelude.{Bool, ◌&&◌, nat_lt, nat_le, length, if◌then◌else◌, List, [], ◌∷◌, codes, Option, Some, None, option_map, is_some, ℕ}
+use Rattle.std.specs.Str.{bytes_eq}
+use Rattle.kmn_base.specs.Digits.{are_digits, bounded_value}
+use Rattle.keyman_words.specs.declared.command.Command.{Command}
+use Rattle.keyman_words.specs.declared.command.Command.TheVariants as command
+
+-- a command with the names of its files, or its number
+pub data Request : Type 0 where
+  Compile : (source file : List ℕ) → Request
+  Test : (source file keys : List ℕ) → Request
+  Verify : (file : List ℕ) → Request
+  Decompile : (file source : List ℕ) → Request
+  Play : (file keys : List ℕ) → Request
+  Layout : (source layout : List ℕ) → Request
+  Load : (number : ℕ) → Request
+  Trace : (source keys : List ℕ) → Request
+
+-- the number that a word is: 1 to 9 decimal digits
+abbrev pub load_number : List ℕ → Option ℕ
+load_number word =
+    if nat_lt 0 (length word) && nat_le (length word) 9 && are_digits 10 word then Some (bounded_value 999999999 10 word) else None
+
+-- `verify FILE`, `load NUMBER`, `compile SOURCE FILE`, `decompile FILE SOURCE`, `play FILE KEYS`, `layout SOURCE LAYOUT`,
+-- `trace SOURCE KEYS` or `test SOURCE FILE KEYS`; all other words ask for nothing
+abbrev pub request_of : List (List ℕ) → Option Request
+request_of (word ∷ other ∷ []) =
+    if bytes_eq word (codes "verify") then Some (Verify other)
+    else if bytes_eq word (codes "load") then option_map Load (load_number other)
+    else None
+request_of (word ∷ first ∷ second ∷ []) =
+    if bytes_eq word (codes "compile") then Some (Compile first second)
+    else if bytes_eq word (codes "decompile") then Some (Decompile first second)
+    else if bytes_eq word (codes "play") then Some (Play first second)
+    else if bytes_eq word (codes "layout") then Some (Layout first second)
+    else if bytes_eq word (codes "trace") then Some (Trace first second)
+    else None
+request_of (word ∷ source ∷ file ∷ keys ∷ []) = if bytes_eq word (codes "test") then Some (Test source file keys) else None
+request_of _ = None
+
+-- whether the words are a command
+abbrev pub is_form : List (List ℕ) → Bool
+is_form words = is_some (request_of words)
+
+-- the request of a command as the program holds it
+abbrev pub requested : Command → Request
+requested (command.Compile source file) = Compile source file
+requested (command.Test source file keys) = Test source file keys
+requested (command.Verify file) = Verify file
+requested (command.Decompile file source) = Decompile file source
+requested (command.Play file keys) = Play file keys
+requested (command.Layout source layout) = Layout source layout
+requested (command.Load number) = Load number
+requested (command.Trace source keys) = Trace source keys

@@ -1,0 +1,145 @@
+ghost use Rattle.std.specs.Prelude.{◌≡◌, [], ◌∷◌, option_map};
+ghost use Rattle.keyman_words.specs.Command.{load_number, request_of, requested};
+ghost use Rattle.keyman_words.specs.Command.Request.{Load};
+
+use crate::file_name::FileName;
+use kmn_base::Text;
+use kmn_base::digits::{are_digits, bounded_value};
+
+/// A command with the names of its files, or its number.
+#[derive(Drop)]
+pub enum Command<'a> {
+    Compile {
+        source: FileName<'a>,
+        file: FileName<'a>,
+    },
+    Test {
+        source: FileName<'a>,
+        file: FileName<'a>,
+        keys: FileName<'a>,
+    },
+    Verify {
+        file: FileName<'a>,
+    },
+    Decompile {
+        file: FileName<'a>,
+        source: FileName<'a>,
+    },
+    Play {
+        file: FileName<'a>,
+        keys: FileName<'a>,
+    },
+    Layout {
+        source: FileName<'a>,
+        layout: FileName<'a>,
+    },
+    Load {
+        number: u32,
+    },
+    Trace {
+        source: FileName<'a>,
+        keys: FileName<'a>,
+    },
+}
+
+/// The command that the words are, None where they are none. Words compare exactly; those that are names of files become such
+/// here.
+pub fn command_of(words: &[Text]) -> Option<Command<'_>>
+    ensures { option_map requested result ≡ request_of words.now }
+{
+    match words {
+        [word, other] => command_of_one(word.as_slice(), other),
+        [word, first, second] => {
+            command_of_two(word.as_slice(), FileName::of(first), FileName::of(second))
+        }
+        [word, source, file, keys] => test_command(
+            word.as_slice(),
+            FileName::of(source),
+            FileName::of(file),
+            FileName::of(keys),
+        ),
+        _ => None,
+    }
+}
+
+/// The largest number of nine digits.
+const LARGEST_NUMBER: u32 = 999_999_999;
+
+/// The command of one file or number, `verify` or `load`, None for another word.
+fn command_of_one<'a>(word: &[u8], other: &'a Text) -> Option<Command<'a>>
+    ensures { option_map requested result ≡ request_of (word.now ∷ other.now ∷ []) }
+{
+    if word == b"verify".as_slice() {
+        return Some(Command::Verify {
+            file: FileName::of(other),
+        });
+    }
+    if word == b"load".as_slice() {
+        return load_command(other.as_slice());
+    }
+    None
+}
+
+/// The command `load` with its number, None where the word is none.
+fn load_command<'a>(word: &[u8]) -> Option<Command<'a>>
+    ensures { option_map requested result ≡ option_map Load (load_number word.now) }
+{
+    if word.is_empty() || word.len() > 9 || !are_digits(10, word) {
+        return None;
+    }
+    Some(Command::Load {
+        number: bounded_value(LARGEST_NUMBER, 10, word),
+    })
+}
+
+/// The command of two files, `compile`, `decompile`, `play`, `layout` or `trace`, None for another word.
+fn command_of_two<'a>(word: &[u8], first: FileName<'a>, second: FileName<'a>) -> Option<Command<'a>>
+    ensures { option_map requested result ≡ request_of (word.now ∷ first.entry ∷ second.entry ∷ []) }
+{
+    if word == b"compile".as_slice() {
+        return Some(Command::Compile {
+            source: first,
+            file: second,
+        });
+    }
+    if word == b"decompile".as_slice() {
+        return Some(Command::Decompile {
+            file: first,
+            source: second,
+        });
+    }
+    if word == b"play".as_slice() {
+        return Some(Command::Play {
+            file: first,
+            keys: second,
+        });
+    }
+    if word == b"layout".as_slice() {
+        return Some(Command::Layout {
+            source: first,
+            layout: second,
+        });
+    }
+    if word == b"trace".as_slice() {
+        return Some(Command::Trace {
+            source: first,
+            keys: second,
+        });
+    }
+    None
+}
+
+/// The command `test` with its files, None for another word.
+fn test_command<'a>(
+    word: &[u8],
+    source: FileName<'a>,
+    file: FileName<'a>,
+    keys: FileName<'a>,
+) -> Option<Command<'a>>
+    ensures { option_map requested result ≡ request_of (word.now ∷ source.entry ∷ file.entry ∷ keys.entry ∷ []) }
+{
+    if word != b"test".as_slice() {
+        return None;
+    }
+    Some(Command::Test { source, file, keys })
+}

@@ -1,0 +1,85 @@
+//! Names of files. They have a type of their own, so that a name and the contents of a file can't take each other's place.
+
+ghost use Rattle.std.specs.Prelude.{◌≡◌, IfOk, IsTrue};
+ghost use Rattle.kmn_outside.specs.Outside.{ReadCounts, Reads, WriteCounts, Writes};
+ghost use Rattle.keyman_words.specs.Beside.{beside, folder_part};
+
+use kmn_base::slices::before;
+use kmn_base::{Memory, Seq, Text};
+use kmn_outside::{Folder, ReadError, WriteError};
+use std::alloc::Global;
+use std::marker::Model;
+
+/// The name of a file. Contracts see it as its bytes.
+#[derive(Drop)]
+pub struct FileName<'a> {
+    bytes: &'a [u8],
+}
+
+impl<'a> Model for FileName<'a> {
+    ghost use Rattle.std.specs.Prelude.{ℕ, List};
+
+    ghost Value = { List ℕ };
+
+    ghost view = { λ name. name.bytes.now };
+}
+
+impl<'a> FileName<'a> {
+    /// The name that a text is.
+    pub fn of(text: &'a Text) -> FileName<'a>
+        ensures { result ≡ text.now }
+    {
+        FileName {
+            bytes: text.as_slice(),
+        }
+    }
+}
+
+/// Reads the file of a name.
+pub fn read<F: Folder>(
+    alloc: Global,
+    name: &FileName<'_>,
+    limit: usize,
+    folder: &mut F,
+) -> Result<Seq<u8>, ReadError>
+    ensures counts { ReadCounts (F.faults folder.old) (F.faults folder.new) result }
+    ensures told { F.told folder.new ≡ F.told folder.old }
+    ensures reads { IsTrue (F.told folder.old) → Reads (F.files folder.old) (F.files folder.new) (F.calls folder.old) (F.calls folder.new) name.now limit result }
+{
+    folder.read(alloc, name.bytes, limit)
+}
+
+/// Makes these bytes the file of a name.
+pub fn write<F: Folder>(
+    alloc: Global,
+    name: &FileName<'_>,
+    bytes: &[u8],
+    folder: &mut F,
+) -> Result<(), WriteError>
+    ensures counts { WriteCounts (F.faults folder.old) (F.faults folder.new) result }
+    ensures told { F.told folder.new ≡ F.told folder.old }
+    ensures writes { IsTrue (F.told folder.old) → Writes (F.files folder.old) (F.files folder.new) (F.calls folder.old) (F.calls folder.new) name.now bytes.now result }
+{
+    folder.write(alloc, name.bytes, bytes)
+}
+
+/// The name of a file that stands where the file of a name does.
+pub fn beside(alloc: Global, name: &FileName<'_>, other: &FileName<'_>) -> Result<Text, Memory>
+    ensures { IfOk result (λ text. text ≡ beside name.now other.now) }
+{
+    let mut text = Seq::from_slice(alloc, folder_part(name.bytes))?;
+    text.extend_from_slice(other.bytes)?;
+    Ok(text)
+}
+
+/// A name up to and including its last slash; nothing of a name without one.
+#[tactic(auto, using(crate::proofs::BesideLaws::without_last_at, crate::proofs::BesideLaws::whole_part_at))]
+fn folder_part(name: &[u8]) -> &[u8]
+    ensures { result.now ≡ folder_part name.now }
+{
+    let mut end = name.len();
+    while end > 0 && name[end - 1] != b'/' {
+        end -= 1;
+    }
+    before(name, end)
+}

@@ -1,0 +1,98 @@
+//! The lines of the rules that the events of a session choose.
+
+use crate::fixtures::press;
+use crate::sessions::event;
+use kmn_base::{Event, Memory};
+use kmn_compiler::compile;
+use kmx_verifier::verify;
+use play_session::Session;
+use std::alloc::Global;
+use std::fmt::Write;
+use std::test::Fail;
+
+/// Rules on the lines 4 to 8, 11, 13 and 15. One enters a group whose rule enters another, one a group that enters itself.
+const KEYBOARD: &[u8] = b"begin Unicode > use(main)\nstore(o) '0'\ngroup(main) using keys\n\
+    + 'a' > 'x' use(more) use(last)\n'x' + 'd' > 'y'\n+ 'd' > 'x'\n+ 'r' > 'x' use(round)\nif(o = '1') + 's' > 'n'\n\
+    match > use(last)\ngroup(more)\n'x' > 'y' use(last)\ngroup(last)\n'y' > 'z'\ngroup(round)\n'x' > 'x' use(round)\n";
+
+/// On each line the steps of a session, each with the lines of the rules that it chooses, `-` where there are none. A refused
+/// step leaves those of the step before.
+const CASES: &str = "\
+K_A 4,11,13 ; K_E - ; K_A 4,11,13 ; |0 -
+K_D 6 ; K_D 5,13 ; K_D 6 ; -0,0,u - ; K_D 5,13
+K_S - ; =o,1 - ; K_S 8 ; =o,0 -
+K_A 4,11,13 ; |9 4,11,13 ; =x,1 -";
+
+/// The lines that a session tells.
+fn shown(alloc: Global, session: &Session) -> Result<String, Memory> {
+    let mut text = String::new(alloc);
+    for line in session.chosen() {
+        if !text.is_empty() {
+            text.push(',')?;
+        }
+        write!(text, "{line}")?;
+    }
+    if text.is_empty() {
+        text.push('-')?;
+    }
+    Ok(text)
+}
+
+/// Does one step, which may be refused; whether the session tells what is wanted.
+fn shows(alloc: Global, session: &mut Session, step: &str) -> Result<bool, Fail> {
+    let (word, wanted) = step.split_once(' ').unwrap_or((step, ""));
+    let event = event(alloc, word)?;
+    let _ = session.step(alloc, &event);
+    Ok(shown(alloc, session)?.as_str() == wanted)
+}
+
+/// The first step of a session that chooses other rules.
+fn wrong_step(
+    alloc: Global,
+    session: &mut Session,
+    case: &'static str,
+) -> Result<Option<&'static str>, Fail> {
+    for step in case.split(" ; ") {
+        if !shows(alloc, session, step)? {
+            return Ok(Some(step));
+        }
+    }
+    Ok(None)
+}
+
+/// The first wrong step of the cases, each of which a fresh session plays.
+fn wrong_in(alloc: Global, session: &Session) -> Result<Option<&'static str>, Fail> {
+    for case in CASES.lines() {
+        let mut fresh = session.fresh(alloc)?;
+        if let Some(step) = wrong_step(alloc, &mut fresh, case)? {
+            return Ok(Some(step));
+        }
+    }
+    Ok(None)
+}
+
+/// Whether a press whose rule enters a group that enters itself tells a line for each group that may be entered.
+fn tells_all(alloc: Global, session: &mut Session) -> Result<bool, Fail> {
+    let begins = session.chosen().is_empty();
+    session.step(alloc, &Event::Key(press(b"K_R")))?;
+    let mut lines = session.chosen().iter();
+    Ok(begins && lines.len() == 50 && lines.next() == Some(&7) && lines.all(|line| *line == 15))
+}
+
+/// The first wrong step of the cases, or the press that enters all groups.
+fn wrong_with_keyboard(alloc: Global) -> Result<Option<&'static str>, Fail> {
+    let compiled = compile(alloc, KEYBOARD, &[])?;
+    let file = verify(alloc, compiled.bytes.as_slice())?;
+    let mut session = Session::start(alloc, &file)?;
+    if !tells_all(alloc, &mut session)? {
+        return Ok(Some("K_R"));
+    }
+    wrong_in(alloc, &session)
+}
+
+#[test]
+fn lines_of_chosen_rules(rt: HostRuntime) -> Result<(), Fail> {
+    let wrong = wrong_with_keyboard(rt.alloc())?;
+    assert!(rt; wrong.is_none(), "{}", wrong.unwrap_or(""));
+    Ok(())
+}

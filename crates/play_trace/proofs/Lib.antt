@@ -1,0 +1,5 @@
+pub mod ChosenLines
+pub mod Examples
+pub mod KeyboardLines
+pub mod RisingLaws
+pub mod TraceLaws

@@ -1,0 +1,26 @@
+use Rattle.std.proofs.Common.{◌≡◌, ◌≤◌, drop, IsTrue}
+use Rattle.rule_model.specs.Tab.{tab}
+use Rattle.rule_model.specs.Trace.{trace}
+use Rattle.rule_model.specs.Transcript.{events_of}
+use Rattle.rule_trace.specs.Coverage.{hit_lines}
+use Rattle.play_transcript.specs.Printing.{AppendsBut}
+use Rattle.play_trace.specs.EachEntry.{text_left, end_left}
+use Rattle.play_trace.specs.RisingLines.{lines_of_tables}
+use Rattle.play_trace.specs.TraceEnds.{trace_end}
+use Rattle.play_trace.specs.TraceText.{trace_text}
+use Rattle.play_trace.proofs.following.follow.Given as goal
+
+abbrev pub invariant-loop-entry : goal.invariant-loop-entry
+invariant-loop-entry g l =
+    record {
+      faults : g.S.Sink.faults l.out ≡ g.S.Sink.faults l.initial.out;
+      told : g.S.Sink.told l.out ≡ g.S.Sink.told l.initial.out;
+      tables : l.session.tables ≡ l.initial.session.tables;
+      lines : hit_lines l.coverage ≡ hit_lines l.initial.coverage;
+      number : l.session.number ≡ l.counts.number;
+      events : l.counts.events ≤ l.entry-index;
+      end : end_left l.session (drop l.entry-index l.entries) ≡ trace_end (trace (tab l.initial.session.tables) (events_of l.entries));
+      printed : IsTrue (g.S.Sink.told l.initial.out)
+          → AppendsBut (text_left l.session l.coverage l.counts (drop l.entry-index l.entries)) (g.S.Sink.written l.initial.out) (g.S.Sink.written l.out)
+          (trace_text (tab l.initial.session.tables) (lines_of_tables l.initial.session.tables) l.entries);
+    }

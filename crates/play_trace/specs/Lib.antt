@@ -1,0 +1,4 @@
+pub mod EachEntry
+pub mod RisingLines
+pub mod TraceEnds
+pub mod TraceText

@@ -1,0 +1,215 @@
+ghost use Rattle.std.specs.Prelude.{◌≡◌, ◌-◌, ◌<◌, ◌^◌, All, IsTrue, IfOk};
+ghost use Rattle.kmn_outside.specs.Outside.{WriteCounts};
+ghost use Rattle.rule_model.specs.Tab.{tab};
+ghost use Rattle.rule_model.specs.Trace.{trace};
+ghost use Rattle.rule_model.specs.Transcript.{events_of, refused_event_line};
+ghost use Rattle.rule_trace.specs.declared.coverage.Hit.{Hit};
+ghost use Rattle.rule_trace.specs.Coverage.{hit_lines, AreLinesOf};
+ghost use Rattle.play_session.specs.Session.{first_session};
+ghost use Rattle.play_transcript.specs.Printing.{Prints};
+ghost use Rattle.play_trace.specs.TraceEnds.{trace_end};
+ghost use Rattle.play_trace.specs.RisingLines.{lines_of_tables};
+ghost use Rattle.play_trace.specs.TraceText.{fired_line, hits_text, trace_text};
+ghost use Rattle.play_trace.specs.EachEntry.{no_counts, entry_line, event_line, Covers, Follows, FollowsEvent};
+
+use crate::fired::{fired_line, hits_text};
+use kmn_base::{Code, Event};
+use kmn_outside::{Sink, WriteError};
+use play_script::refused_event_line;
+use play_session::{Session, StepError};
+use play_transcript::put_all;
+use rule_model::Entry;
+use rule_trace::{Coverage, Hit};
+use std::alloc::Global;
+
+/// What was counted of a script: the number of its last step, and events that were done.
+#[derive(Clone, Copy, Debug, PartialEq, Eq)]
+pub(crate) struct Counts {
+    /// Stays at the end of its type.
+    pub number: u32,
+    pub events: usize,
+}
+
+/// What an entry makes of a script: it goes on, or an event was refused.
+#[derive(Clone, Copy, Debug, PartialEq, Eq)]
+pub(crate) enum Followed {
+    On(Counts),
+    Refused,
+}
+
+/// How a script that is traced ends.
+#[derive(Clone, Copy, Debug, PartialEq, Eq)]
+pub enum TraceEnd {
+    Done,
+    /// An event was refused.
+    Refused,
+}
+
+/// Plays a script in a session before its first event, with a coverage of nothing yet: prints the lines of the rules that each
+/// event chose, and in the end how often each line was chosen and which never was.
+pub fn trace_play<'a, S: Sink>(
+    alloc: Global,
+    mut session: Session<'a>,
+    mut coverage: Coverage,
+    entries: &[Entry],
+    out: &mut S,
+) -> Result<TraceEnd, WriteError>
+    requires first { session ≡ first_session session.tables }
+    requires none_chosen { All (λ (hit : Hit). hit.count ≡ 0) coverage }
+    requires lines { AreLinesOf session.tables coverage }
+    ensures counts { WriteCounts (S.faults out.old) (S.faults out.new) result }
+    ensures told { S.told out.new ≡ S.told out.old }
+    ensures ends { IfOk result (λ end. end ≡ trace_end (trace (tab session.entry.tables) (events_of entries.now))) }
+    ensures prints { IsTrue (S.told out.old)
+        → Prints (S.written out.old) (S.written out.new) (trace_text (tab session.entry.tables) (lines_of_tables session.entry.tables) entries.now) result }
+{
+    follow(alloc, &mut session, &mut coverage, entries, out)
+}
+
+/// The same on a session and a coverage that are lent.
+fn follow<S: Sink>(
+    alloc: Global,
+    session: &mut Session,
+    coverage: &mut Coverage,
+    entries: &[Entry],
+    out: &mut S,
+) -> Result<TraceEnd, WriteError>
+    requires first { session.old ≡ first_session session.old.tables }
+    requires none_chosen { All (λ (hit : Hit). hit.count ≡ 0) coverage.old }
+    requires lines { AreLinesOf session.old.tables coverage.old }
+    ensures counts { WriteCounts (S.faults out.old) (S.faults out.new) result }
+    ensures told { S.told out.new ≡ S.told out.old }
+    ensures ends { IfOk result (λ end. end ≡ trace_end (trace (tab session.old.tables) (events_of entries.now))) }
+    ensures prints { IsTrue (S.told out.old)
+        → Prints (S.written out.old) (S.written out.new) (trace_text (tab session.old.tables) (lines_of_tables session.old.tables) entries.now) result }
+{
+    let mut counts = no_counts();
+    for entry in entries {
+        match follow_entry(alloc, session, coverage, counts, entry, out)? {
+            Followed::On(next) => counts = next,
+            Followed::Refused => return Ok(TraceEnd::Refused),
+        }
+    }
+    put_end(alloc, counts.events, coverage.hits(), out)
+}
+
+/// Nothing is counted.
+fn no_counts() -> Counts
+    ensures { result ≡ no_counts }
+{
+    Counts {
+        number: 0,
+        events: 0,
+    }
+}
+
+/// Plays an entry of a script and prints its line. An expected text does nothing.
+#[tactic(auto, using(crate::proofs::TraceLaws::nothing_printed))]
+fn follow_entry<S: Sink>(
+    alloc: Global,
+    session: &mut Session,
+    coverage: &mut Coverage,
+    counts: Counts,
+    entry: &Entry,
+    out: &mut S,
+) -> Result<Followed, WriteError>
+    requires numbered { session.old.number ≡ counts.number }
+    requires events { counts.events < 2 ^ 64 - 1 }
+    requires covers { Covers session.old.tables (hit_lines coverage.old) }
+    ensures counts { WriteCounts (S.faults out.old) (S.faults out.new) result }
+    ensures told { S.told out.new ≡ S.told out.old }
+    ensures follows { IfOk result (Follows session.old session.new coverage.old coverage.new counts entry.now) }
+    ensures prints { IsTrue (S.told out.old) → Prints (S.written out.old) (S.written out.new) (entry_line session.old entry.now) result }
+{
+    match entry {
+        Entry::Act { event, .. } => follow_event(alloc, session, coverage, counts, event, out),
+        Entry::Expect { .. } => Ok(Followed::On(counts)),
+    }
+}
+
+/// Does an event, prints its line and counts the lines of the rules that it chose.
+#[tactic(auto, using(play_transcript::proofs::PrintingLaws::faults))]
+fn follow_event<S: Sink>(
+    alloc: Global,
+    session: &mut Session,
+    coverage: &mut Coverage,
+    counts: Counts,
+    event: &Event,
+    out: &mut S,
+) -> Result<Followed, WriteError>
+    requires numbered { session.old.number ≡ counts.number }
+    requires events { counts.events < 2 ^ 64 - 1 }
+    requires covers { Covers session.old.tables (hit_lines coverage.old) }
+    ensures counts { WriteCounts (S.faults out.old) (S.faults out.new) result }
+    ensures told { S.told out.new ≡ S.told out.old }
+    ensures follows { IfOk result (FollowsEvent session.old session.new coverage.old coverage.new counts event.now) }
+    ensures prints { IsTrue (S.told out.old) → Prints (S.written out.old) (S.written out.new) (event_line session.old event.now) result }
+{
+    match session.step(alloc, event) {
+        Ok(step) => {
+            put_fired(alloc, step.number, session.chosen(), out)?;
+            coverage.add(session.chosen());
+            Ok(Followed::On(Counts {
+                number: step.number,
+                events: counts.events + 1,
+            }))
+        }
+        Err(StepError::Place) => put_refusal(alloc, counts.number.saturating_add(1), Code::E1, out),
+        Err(StepError::Length) => {
+            put_refusal(alloc, counts.number.saturating_add(1), Code::E2, out)
+        }
+        Err(StepError::Memory) => Err(WriteError::Memory),
+    }
+}
+
+/// Prints the lines of the rules that an event chose.
+#[tactic(auto, using(play_transcript::proofs::PrintingLaws::faults))]
+fn put_fired<S: Sink>(
+    alloc: Global,
+    number: u32,
+    lines: &[u32],
+    out: &mut S,
+) -> Result<(), WriteError>
+    ensures counts { WriteCounts (S.faults out.old) (S.faults out.new) result }
+    ensures told { S.told out.new ≡ S.told out.old }
+    ensures prints { IsTrue (S.told out.old) → Prints (S.written out.old) (S.written out.new) (fired_line number lines.now) result }
+{
+    let line = fired_line(alloc, number, lines)?;
+    put_all(out, line.as_slice())
+}
+
+/// Prints the refusal of an event.
+#[tactic(auto, using(play_transcript::proofs::PrintingLaws::faults))]
+fn put_refusal<S: Sink>(
+    alloc: Global,
+    number: u32,
+    code: Code,
+    out: &mut S,
+) -> Result<Followed, WriteError>
+    ensures counts { WriteCounts (S.faults out.old) (S.faults out.new) result }
+    ensures told { S.told out.new ≡ S.told out.old }
+    ensures refused { IfOk result (λ followed. followed ≡ Followed.Refused) }
+    ensures prints { IsTrue (S.told out.old) → Prints (S.written out.old) (S.written out.new) (refused_event_line number code) result }
+{
+    let line = refused_event_line(alloc, number, code)?;
+    put_all(out, line.as_slice())?;
+    Ok(Followed::Refused)
+}
+
+/// Prints how often each line was chosen, which never was, and how many events there were.
+#[tactic(auto, using(play_transcript::proofs::PrintingLaws::faults))]
+fn put_end<S: Sink>(
+    alloc: Global,
+    events: usize,
+    hits: &[Hit],
+    out: &mut S,
+) -> Result<TraceEnd, WriteError>
+    ensures counts { WriteCounts (S.faults out.old) (S.faults out.new) result }
+    ensures told { S.told out.new ≡ S.told out.old }
+    ensures ends { IfOk result (λ end. end ≡ TraceEnd.Done) }
+    ensures prints { IsTrue (S.told out.old) → Prints (S.written out.old) (S.written out.new) (hits_text events hits.now) result }
+{
+    let text = hits_text(alloc, events, hits)?;
+    put_all(out, text.as_slice())?;
+    Ok(TraceEnd::Done)
+}

@@ -1,0 +1,26 @@
+-- The codes of cased keys, as they are found.
+use Rattle.std.specs.Prelude.{◌≡◌, ℕ, nat_eq, List, find, filter_map}
+use Rattle.std.specs.List.{list_any}
+use Rattle.indexmap.specs.IndexSet.{insert_key}
+use Rattle.kmn_base.specs.declared.items.Element.{Element}
+use Rattle.kmn_base.specs.declared.items.Element.TheVariants as element
+use Rattle.rule_model.specs.declared.tables.Store.{Store}
+use Rattle.rule_model.specs.Tab.{store_elements}
+use Rattle.rule_model.specs.Src.{code_of_element, is_cased_keys}
+
+-- the codes of the keys among elements
+abbrev pub codes_among : List Element → List ℕ
+codes_among elements = filter_map code_of_element elements
+
+-- the codes of the first `&casedkeys` of stores
+abbrev pub cased_codes : List Store → List ℕ
+cased_codes stores = codes_among (store_elements (find is_cased_keys stores))
+
+-- known codes, with that of a further element
+abbrev pub with_code : List ℕ → Element → List ℕ
+with_code known (element.Key flags code) = insert_key nat_eq known code
+with_code known e = known
+
+-- known codes are those of a list, which may have one more than once
+pub record HasCodes (known codes : List ℕ) : Type 0 where
+  pub each : (code : ℕ) → list_any (nat_eq code) known ≡ list_any (nat_eq code) codes
