@@ -1,5 +1,5 @@
 # Draws keys (place, width and name, row by row, a blank line between rows) with what they give: lines of modifiers, key, what
-# stands before the caret, whether the key is passed on, and beeps. The four cells of a key are plain below left, SHIFT above
+# is given, whether the key is passed on, beeps, and with `behind` how many characters are deleted first. The four cells of a key are plain below left, SHIFT above
 # left, RALT below right, and both above right. With `caps` a third row below them has caps lock, and caps lock with RALT.
 BEGIN {
     unit = 64; gap = 4; top = 44
@@ -18,7 +18,7 @@ BEGIN {
 /^#/ { next }
 FNR == NR && NF == 0 { line++; next }
 FNR == NR { place[$3] = 8 + $1 * unit; height[$3] = top + line * high; width[$3] = $2 * unit - gap; frame($3); next }
-{ cell($2, $1, $3, $4, $5) }
+{ cell($2, $1, $3, $4, $5, $6) }
 
 END {
     y = top + 5 * high + 22; x = caps == "" ? 0 : 110
@@ -27,6 +27,7 @@ END {
     print "<circle cx=\"" x + 284 "\" cy=\"" y - 5 "\" r=\"9\" fill=\"none\" stroke=\"#b04a00\" stroke-width=\"1.5\"/><text x=\"" x + 300 "\" y=\"" y "\">deadkey by its number</text>"
     bell(x + 484, y - 5); print "<text x=\"" x + 500 "\" y=\"" y "\">beep</text>"
     print "<rect x=\"" x + 560 "\" y=\"" y - 14 "\" width=\"18\" height=\"18\" fill=\"#dddddd\"/><text x=\"" x + 586 "\" y=\"" y "\">passed on to the application</text>"
+    if (behind != "") print "<text x=\"" x + 586 "\" y=\"" y + 16 "\" fill=\"#a00000\">&#x2212;1: deletes a character before</text>"
     print "</g>"
     print "</svg>"
 }
@@ -37,11 +38,12 @@ function frame(key) {
 }
 
 # What a key gives with some modifiers.
-function cell(key, mods, given, passed, beeps,    x, y, wide, tall) {
+function cell(key, mods, given, passed, beeps, deleted,    x, y, wide, tall) {
     wide = (width[key] - 4) / 2; tall = (high - gap - 4) / rows
     x = place[key] + 2 + column[mods] * wide; y = height[key] + 2 + row[mods] * tall
     if (passed) print "<rect x=\"" x "\" y=\"" y "\" width=\"" wide "\" height=\"" tall "\" rx=\"4\" fill=\"#dddddd\"/>"
     if (beeps > 0) bell(x + wide / 2, y + tall / 2)
+    if (deleted > 0) print "<text x=\"" x + 2 "\" y=\"" y + 9 "\" font-size=\"8\" text-anchor=\"start\" fill=\"#a00000\">&#x2212;" deleted "</text>"
     if (given != "-") items(given, x + wide / 2, y + tall / 2, wide)
 }
 

@@ -2,13 +2,12 @@
 use Rattle.std.proofs.Common.{◌≡◌, ℕ, suc, ◌+◌, ◌^◌, ◌<◌, ◌≤◌, Bool, true, false, List, [], ◌∷◌, ◌++◌, length, map, cond, Option, Some, None, is_some, unwrap_or, option_map, refl, sym, ap, ◌∙◌, arith, if◌then◌else◌, length-append, take_all}
 use Rattle.std.specs.Prelude.{nat_eq, flat_map, position, ◌||◌}
 use Rattle.std.specs.List.{list_all, list_any}
-use Rattle.std.specs.Str.{bytes_eq, str_to_ascii_lowercase}
-use Rattle.std.specs.Cmp.Lexicographic.{bytes_decides}
-use Rattle.std.proofs.lemmas.Bool.{and_parts, and_from, or_left, or_right}
+use Rattle.std.specs.Str.{bytes_eq}
+use Rattle.std.proofs.lemmas.Bool.{and_parts, and_from}
 use Rattle.std.proofs.lemmas.Bool.Decides.{nat_tests}
 use Rattle.std.proofs.lemmas.List.{length-map}
 use Rattle.std.proofs.lemmas.List.Concat.{flat_map-append}
-use Rattle.std.proofs.lemmas.List.Folds.{list_all-append, list_any-append}
+use Rattle.std.proofs.lemmas.List.Folds.{list_all-append}
 use Rattle.std.proofs.lemmas.List.Quantifiers.{position-Some}
 use Rattle.kmn_base.specs.declared.limits.TheConstants.{DEADKEYS, KEY_NAMES}
 use Rattle.kmn_base.specs.Names.{same_name}
@@ -20,7 +19,6 @@ use Rattle.rule_model.specs.declared.program.RuleDef.{RuleDef}
 use Rattle.rule_model.specs.declared.program.GroupDef.{GroupDef}
 use Rattle.rule_model.specs.declared.program.Program.{Program}
 use Rattle.rule_model.specs.declared.tables.Store.{Store}
-use Rattle.rule_model.specs.Tab.{distinct_onto}
 use Rattle.rule_model.specs.Naming.{names_of, stores_of, rule_items, all_rules, store_items, items_from, source_items, stores_before, stores_after, mark_names, key_names, mark_number, key_number}
 use Rattle.compile_laws.specs.Numbers.{numbers_of, number_of_store, number_of_group, number_of_value, compiled_stores, dictionary_stores, value_store, values_of}
 use Rattle.compile_laws.specs.WellNamed.{is_store, is_group}
@@ -29,8 +27,9 @@ use Rattle.compile_laws.proofs.Places.{position-map}
 use Rattle.compile_laws.proofs.Values.{list_all-flat_map}
 use Rattle.store_table.specs.Names.{group_names}
 use Rattle.store_table.specs.Numbering.{lists_of, below, number_in, mark_in}
-use Rattle.store_table.proofs.Naming.{position_cons, some_place, same_either_way}
+use Rattle.virtual_keys.proofs.NamePlaces.{position_cons, some_place, same_either_way}
 use Rattle.rule_checker.specs.Refused.{IsRead}
+use Rattle.item_checker.proofs.FoundKeys.{all_seen}
 use Rattle.checker_laws.proofs.Accepted.{IsUnrefused}
 use Rattle.checker_laws.proofs.Sizes.{parted}
 use Rattle.checker_laws.proofs.Within.{few_stores, few_groups, few_marks, few_keys}
@@ -94,30 +93,6 @@ module _ (test : SrcItem → Bool) where
 
   pub rule_items_pass : (program : Program) → list_all test (source_items program) ≡ true → list_all (λ (rule : RuleDef). list_all test (rule_items rule)) (all_rules program) ≡ true
   rule_items_pass program h = sym (list_all-flat_map test rule_items (all_rules program)) ∙ (of_statements program.stores (all_rules program) h).1
-
--- what is gathered once each is there for each
-seen_stays : (seen xs : List (List ℕ)) (name : List ℕ) → list_any (λ known. same_name known name) seen ≡ true → list_any (λ known. same_name known name) (distinct_onto same_name seen xs) ≡ true
-seen_stays seen [] name h = h
-seen_stays seen (x ∷ xs) name h = seen_stays (if list_any (λ known. same_name known x) seen then seen else seen ++ x ∷ []) xs name (by (list_any (λ known. same_name known x) seen))
-  where
-    by : (b : Bool) → list_any (λ known. same_name known name) (if b then seen else seen ++ x ∷ []) ≡ true
-    by true = h
-    by false = list_any-append (λ known. same_name known name) seen (x ∷ []) ∙ or_left (list_any (λ known. same_name known name) seen) (list_any (λ known. same_name known name) (x ∷ [])) h
-
-itself : (name : List ℕ) → same_name name name ≡ true
-unfolding same_name
-itself name = (bytes_decides (str_to_ascii_lowercase name) (str_to_ascii_lowercase name)).1 refl
-
-all_seen : (seen xs : List (List ℕ)) → list_all (λ name. list_any (λ known. same_name known name) (distinct_onto same_name seen xs)) xs ≡ true
-all_seen seen [] = refl
-all_seen seen (x ∷ xs) =
-    let next = if list_any (λ known. same_name known x) seen then seen else seen ++ x ∷ [] in
-    and_from _ _ (seen_stays next xs x (by (list_any (λ known. same_name known x) seen) refl)) (all_seen next xs)
-  where
-    by : (b : Bool) → list_any (λ known. same_name known x) seen ≡ b → list_any (λ known. same_name known x) (if b then seen else seen ++ x ∷ []) ≡ true
-    by true e = e
-    by false e = list_any-append (λ known. same_name known x) seen (x ∷ [])
-        ∙ or_right (list_any (λ known. same_name known x) seen) (same_name x x || false) (or_left (same_name x x) false (itself x))
 
 -- the names of an item are among those of the program
 abbrev pub are_among : List (List ℕ) → List (List ℕ) → Bool

@@ -22,7 +22,7 @@ use Rattle.compile_laws.specs.WellNamed.{is_fixed}
 use Rattle.store_table.specs.Names.{is_named}
 use Rattle.store_table.specs.Known.{known, option_named, rule_options}
 use Rattle.item_checker.specs.Items.{is_option}
-use Rattle.store_table.proofs.Naming.{position_cons, some_place}
+use Rattle.virtual_keys.proofs.NamePlaces.{position_cons, some_place}
 
 any_flat_map : {X Y : Type 0} (q : Y → Bool) (f : X → List Y) (xs : List X) → list_any q (flat_map f xs) ≡ list_any (λ x. list_any q (f x)) xs
 any_flat_map q f [] = refl

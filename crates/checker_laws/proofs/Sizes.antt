@@ -26,7 +26,7 @@ use Rattle.store_table.specs.First.{broken, first_code, first_of}
 use Rattle.store_table.specs.declared.stating.Stated.{Stated}
 use Rattle.store_table.specs.Names.{stated, is_named, kept_name, store_names, store_refusal, store_code, store_item_code, is_store_again, names_no_store, puts_later_store}
 use Rattle.store_table.specs.Known.{Known, known, brought, statement_elements}
-use Rattle.store_table.proofs.Naming.{some_place}
+use Rattle.virtual_keys.proofs.NamePlaces.{some_place}
 use Rattle.limit_checker.specs.Limits.{Statement, OfStore, OfRule, in_line_order, items_of, values_of_statement, statement_size, store_size, names_size, dictionary_size, sizes}
 use Rattle.rule_checker.specs.Refused.{IsRead}
 use Rattle.checker_laws.proofs.Unrefused.{none_both, none_earlier, none_at_line, none_broken}

@@ -37,7 +37,8 @@ use Rattle.compile_laws.proofs.Places.{position-map, FirstPlace, first_place, at
 use Rattle.compile_laws.proofs.Outputs.{SameEntry, outputs-same}
 use Rattle.compile_laws.proofs.Choices.{ChosenRule, best_now, best-map, best_known, BestKnown, src_chosen, tab_chosen, choice-kept}
 
-default-same : (a b : Keyboard) → a.dictionary ≡ b.dictionary → (press : KeyPress) (s : EventState) → by_default a press s ≡ by_default b press s
+-- what a key does by default hangs on the dictionary alone
+pub default-same : (a b : Keyboard) → a.dictionary ≡ b.dictionary → (press : KeyPress) (s : EventState) → by_default a press s ≡ by_default b press s
 unfolding by_default
 default-same a b e press s = λ i. default_of press (name_in (e i) press.code) s
 

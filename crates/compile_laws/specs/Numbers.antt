@@ -14,6 +14,7 @@ use Rattle.rule_model.specs.Match.{same_value}
 use Rattle.rule_model.specs.Tab.{distinct_onto}
 use Rattle.rule_model.specs.Naming.{SourceNames, names_of, stores_of, rule_items, all_rules}
 use Rattle.rule_model.specs.Src.{value_elements, cased_keys}
+use Rattle.rule_model.specs.declared.system.TheConstants.{KEY_DICTIONARY, VERSION}
 
 -- the value that an item compares with or sets
 abbrev pub item_values : SrcItem → List (List ℕ)
@@ -36,7 +37,7 @@ value_store value = record { system = 0; name = []; elements = value_elements va
 -- the store of the key dictionary, where there is a name: the names, parted by spaces
 abbrev pub dictionary_stores : List (List ℕ) → List Store
 dictionary_stores [] = []
-dictionary_stores (name ∷ names) = record { system = 34; name = []; elements = map element.Char (chars (join_with_byte 32 (name ∷ names))) } ∷ []
+dictionary_stores (name ∷ names) = record { system = KEY_DICTIONARY; name = []; elements = map element.Char (chars (join_with_byte 32 (name ∷ names))) } ∷ []
 
 -- the stores of a compiled file: those of the statements, the key dictionary, and one for each value
 abbrev pub compiled_stores : Program → List Store
@@ -90,7 +91,7 @@ stated_version (Some store) =
 
 -- whether a store is `&version`
 abbrev pub is_version : Store → Bool
-is_version store = nat_eq store.system 8
+is_version store = nat_eq store.system VERSION
 
 -- the version of the file: what the first `&version` states
 abbrev pub version_of : Program → ℕ

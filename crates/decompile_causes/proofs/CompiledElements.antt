@@ -21,7 +21,7 @@ use Rattle.rule_model.specs.declared.tables.Store.{Store}
 use Rattle.rule_model.specs.Tab.{store_elements}
 use Rattle.rule_model.specs.Naming.{names_of, stores_of, stores_onto, store_of, is_dropped, mark_number, key_number, elements_named, item_elements}
 use Rattle.compile_laws.proofs.Places.{first_place}
-use Rattle.store_table.proofs.Naming.{some_place}
+use Rattle.virtual_keys.proofs.NamePlaces.{some_place}
 use Rattle.checker_laws.proofs.Accepted.{IsUnrefused}
 use Rattle.checker_laws.proofs.Within.{few_marks}
 use Rattle.checker_laws.proofs.Numbers.{place_below, place_either_way, has_keys, has_marks, keys_appear, marks_appear, store_items_pass}

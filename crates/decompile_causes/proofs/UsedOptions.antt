@@ -18,7 +18,7 @@ use Rattle.rule_model.specs.Src.{pattern_uses, output_uses, rule_uses, group_use
 use Rattle.compile_laws.proofs.Places.{position-cons}
 use Rattle.store_table.specs.Names.{is_named}
 use Rattle.store_table.specs.Known.{known, option_named, rule_options}
-use Rattle.store_table.proofs.Naming.{some_place}
+use Rattle.virtual_keys.proofs.NamePlaces.{some_place}
 use Rattle.item_checker.specs.Items.{is_option}
 use Rattle.kmn_text.specs.Spelled.{IsSpelledName}
 use Rattle.decompile_laws.proofs.Choosing.{all_parts, all_join, all_split, all_weaker, all_both}

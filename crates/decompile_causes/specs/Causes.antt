@@ -23,6 +23,7 @@ use Rattle.kmn_text.specs.Names.{is_inner, is_source_name}
 use Rattle.decompile_laws.specs.Items.{Names, store_called}
 use Rattle.decompile_laws.specs.Names.{named_by_pattern, named_by_output}
 use Rattle.decompile_laws.specs.WrittenOut.{pattern_values, output_values, has_key_name}
+use Rattle.rule_model.specs.declared.system.TheConstants.{BITMAP, MNEMONIC_LAYOUT}
 
 -- a deadkey's number is past those of a source
 abbrev pub is_far_mark : ℕ → Bool
@@ -130,8 +131,8 @@ is_unspelled_option names n store =
 -- a system store: a bitmap with an element that is no character, a mnemonic layout other than `0`
 abbrev pub is_unspelled_system : Store → Bool
 is_unspelled_system store =
-    (nat_eq store.system 1 && list_any is_no_character store.elements)
-    || (nat_eq store.system 17 && not (is_layout_text store.elements))
+    (nat_eq store.system BITMAP && list_any is_no_character store.elements)
+    || (nat_eq store.system MNEMONIC_LAYOUT && not (is_layout_text store.elements))
 
 -- the store of a number: an element, the names of the dictionary, an option, a system store
 abbrev pub is_unspelled_store : Names → List ℕ → ℕ → Store → Bool

@@ -8,7 +8,6 @@ use Rattle.kmn_base.specs.declared.items.Element.{Element}
 use Rattle.kmn_base.specs.declared.keys.KeyPress.{KeyPress}
 use Rattle.kmn_base.specs.declared.limits.TheConstants.{EVENT_ENTRIES}
 use Rattle.kmn_base.specs.Lists.{without_last}
-use Rattle.virtual_keys.specs.Dictionary.{name_in}
 use Rattle.rule_model.specs.declared.event_state.EventState.{EventState}
 use Rattle.rule_model.specs.declared.event_state.Caught.{Caught}
 use Rattle.rule_model.specs.Keyboard.{Ref, Output, RuleMeaning, GroupMeaning, Keyboard, First}
@@ -16,18 +15,15 @@ use Rattle.rule_model.specs.Content.{content, group_at}
 use Rattle.rule_model.specs.Hold.{holds, holds_with, caught_by, fitting_place}
 use Rattle.rule_model.specs.Act.{act, items_caught}
 use Rattle.rule_model.specs.Choose.{Chosen, first, first_with, best, best_with, goes_before, choose}
-use Rattle.rule_model.specs.Enter.{by_default, default_of, nothing, act_if_any, do_unmatched, do_group, in_group, enter_group}
+use Rattle.rule_model.specs.Enter.{nothing, act_if_any, do_unmatched, do_group, in_group, enter_group}
 use Rattle.rule_model.specs.KeyEvent.{begin_event, after_key}
 use Rattle.rule_model.specs.Event.{State, happening_of, happening, event_refusal, unless_refused, event_of}
 use Rattle.rule_model.specs.Trace.{trace, trace_of, steps_from, first_state}
 use Rattle.compile_laws.proofs.Patterns.{context_caught, context_caught-same, holds-parts}
 use Rattle.compile_laws.proofs.Traces.{steps_from-same}
 use Rattle.compile_laws.proofs.Keyboards.{after_key-enters, trace-steps}
+use Rattle.compile_laws.proofs.Groups.{default-same}
 use Rattle.decompile_laws.proofs.Alike.{SameEntry, SameOptional, SameRule, SameGroup, SameIfAny, Alike}
-
-default-same : (a b : Keyboard) → a.dictionary ≡ b.dictionary → (press : KeyPress) (s : EventState) → by_default a press s ≡ by_default b press s
-unfolding by_default
-default-same a b e press s = λ i. default_of press (name_in (e i) press.code) s
 
 module _ (a b : Keyboard) (groups : Ref → Ref → Type 0) where
   holds-same : (values : List (List Element)) (left : List Item) (press : KeyPress) (x y : RuleMeaning) → SameRule a b groups x y

@@ -21,6 +21,7 @@ use Rattle.compile_laws.specs.Numbers.{file_versions}
 use Rattle.decompile_laws.specs.Names.{named_stores, free_names, store_names, group_names}
 use Rattle.decompile_laws.specs.Marks.{greatest_mark}
 use Rattle.decompile_laws.specs.Items.{Names, group_called, back_element, back_pattern, back_output, back_key, some_items}
+use Rattle.rule_model.specs.declared.system.TheConstants.{VERSION}
 
 abbrev pub back_rule : Names → ℕ → Rule → RuleDef
 back_rule names line rule = record {
@@ -100,7 +101,7 @@ abbrev pub version_text : ℕ → List ℕ
 version_text version = unwrap_or (option_map (λ row. row.0) (find (λ row. nat_eq row.1 version) file_versions)) []
 
 abbrev pub version_store : ℕ → ℕ → StoreDef
-version_store version line = record { line = line; system = 8; name = []; items = map source.Char (version_text version) }
+version_store version line = record { line = line; system = VERSION; name = []; items = map source.Char (version_text version) }
 
 -- the begin statements, from a line on
 abbrev pub back_begins : Names → ℕ → Tables → List BeginDef

@@ -16,6 +16,7 @@ use Rattle.rule_model.specs.declared.tables.Out.{Out}
 use Rattle.rule_model.specs.declared.tables.Out.TheVariants as output
 use Rattle.rule_model.specs.declared.tables.Store.{Store}
 use Rattle.rule_model.specs.Tab.{elements_of, element_char}
+use Rattle.virtual_keys.specs.declared.dictionary.TheConstants.{FIRST_OWN_CODE}
 
 -- by which names a text calls the stores, groups and dictionary keys of tables, and the stores, for the values
 pub record Names : Type 0 where
@@ -42,7 +43,7 @@ abbrev pub key_by_name : Names → ℕ → ℕ → KeyName
 key_by_name names flags code = record { flags = bit_or flags 0x4000; code = 0; name = unwrap_or (name_in names.keys code) [] }
 
 abbrev pub key_called : Names → ℕ → ℕ → KeyName
-key_called names flags code = if nat_lt code 256 then key_by_code flags code else key_by_name names flags code
+key_called names flags code = if nat_lt code FIRST_OWN_CODE then key_by_code flags code else key_by_name names flags code
 
 -- a deadkey is called by its number
 abbrev pub back_element : Names → Element → SrcItem

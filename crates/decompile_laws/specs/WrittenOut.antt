@@ -19,6 +19,7 @@ use Rattle.rule_model.specs.Tab.{elements_of, element_char, tab_dictionary, tab_
 use Rattle.decompile_laws.specs.Names.{named_stores}
 use Rattle.decompile_laws.specs.Items.{store_called}
 use Rattle.decompile_laws.specs.Back.{names_for}
+use Rattle.virtual_keys.specs.declared.dictionary.TheConstants.{FIRST_OWN_CODE}
 
 -- the contexts of records are at most so long, and none is longer than the one before it
 abbrev pub fall_from : ℕ → List Rule → Bool
@@ -75,7 +76,7 @@ table_values tables = flat_map group_values tables.groups
 
 -- a code is that of a key in the table, or of a name in the dictionary
 abbrev pub has_key_name : List (List ℕ) → ℕ → Bool
-has_key_name keys code = is_some (if nat_lt code 256 then key_name code else name_in keys code)
+has_key_name keys code = is_some (if nat_lt code FIRST_OWN_CODE then key_name code else name_in keys code)
 
 -- the store of a number is an ordinary one
 abbrev pub is_ordinary : Option Store → Bool

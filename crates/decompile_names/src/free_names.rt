@@ -19,7 +19,7 @@ fn numbered_name(alloc: Global, letter: &[u8], number: usize) -> Result<Text, Me
 }
 
 /// Whether a name is the same as none of these.
-#[tactic(auto, using(store_table::proofs::Naming::some_place), unfolding(store_table::specs::Names::is_named))]
+#[tactic(auto, using(virtual_keys::proofs::NamePlaces::some_place), unfolding(store_table::specs::Names::is_named))]
 fn is_free(taken: &NameTable, name: &[u8]) -> bool
     ensures { result ≡ is_free taken.now name.now }
 {

@@ -25,7 +25,7 @@ fn is_system_name(name: &[u8]) -> bool
 }
 
 /// Whether a name can be kept behind these.
-#[tactic(auto, using(store_table::proofs::Naming::some_place), unfolding(store_table::specs::Names::is_named))]
+#[tactic(auto, using(virtual_keys::proofs::NamePlaces::some_place), unfolding(store_table::specs::Names::is_named))]
 fn keeps_name(earlier: &NameTable, name: &[u8]) -> bool
     ensures { result ≡ keeps_name earlier.now name.now }
 {

@@ -1,6 +1,6 @@
 //! The tests of the crates that write and open files and of those below them: `codec` of `item_codec`, `views` of `kmx_view`,
 //! `parts` of `kmx_parts`, `candidates` of `rule_index`, `writing` of `kmx_writer`, `verifying` of `kmx_verifier`, `sources` of
-//! `kmx_decompiler`, which makes its texts by `decompile_text`, and `layouts` of `touch_layout`.
+//! `kmx_decompiler`, which makes its texts by `decompile_text`, `layouts` of `touch_layout`, and `exporting` of `core_export`.
 //!
 //! They stand here because a crate with tests is proved twice, once with them and once without: so each of those crates is
 //! proved once, and the tests are proved over them. `fixtures` has what several of them take. No layer stands above.
@@ -10,6 +10,8 @@
 mod candidates;
 #[cfg(test)]
 mod codec;
+#[cfg(test)]
+mod exporting;
 pub mod fixtures;
 #[cfg(test)]
 mod layouts;

@@ -5,6 +5,7 @@ ghost use Rattle.rule_model.specs.Keyboard.{Numbered};
 ghost use Rattle.rule_model.specs.Content.{option_number, elements_at};
 ghost use Rattle.rule_model.specs.Event.{has_name};
 ghost use Rattle.rule_model.specs.Plain.{option_numbers, option_names, option_named};
+ghost use Rattle.rule_model.specs.declared.system.TheConstants.{PLATFORM};
 ghost use Rattle.rule_model.specs.System.{system_ref, system_options};
 ghost use Rattle.rule_model.specs.Tab.{elements_of, tab, tab_options, with_options};
 
@@ -138,7 +139,7 @@ impl<'a> IndexedTables<'a> {
     #[tactic(auto, using(crate::proofs::SystemNumbers::system_read, crate::proofs::SystemNumbers::system_counted))]
     pub fn system_option(&self, id: u32) -> usize
         ensures is { option_number (tab self.now).stores (system_ref id) ≡ Some result }
-        ensures number { result ≡ length (option_names (with_options (tab_options self.now) 0 self.now.stores)) + (if nat_eq id 31 then 1 else 0) }
+        ensures number { result ≡ length (option_names (with_options (tab_options self.now) 0 self.now.stores)) + (if nat_eq id PLATFORM then 1 else 0) }
     {
         match system_number(self.numbers.as_slice(), id) {
             Some(option) => option,

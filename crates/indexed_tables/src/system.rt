@@ -3,6 +3,7 @@
 ghost use Rattle.std.specs.Prelude.{◌≡◌, ◌-◌, Some, if◌then◌else◌, nat_eq, length, slice_get};
 ghost use Rattle.std.specs.Option.{option_flatten};
 ghost use Rattle.rule_model.specs.Content.{elements_at};
+ghost use Rattle.rule_model.specs.declared.system.TheConstants.{PLATFORM};
 ghost use Rattle.rule_model.specs.System.{system_options};
 
 use kmn_base::Element;
@@ -78,7 +79,7 @@ fn number_from_end(numbers: &[Option<usize>], back: usize) -> Option<usize>
 /// The number of the system option of an id among those of all stores: the platform's is the last, the layer's stands before it.
 #[tactic(auto, using(std::proofs::lemmas::Bool::Decides::nat_tests))]
 pub fn system_number(numbers: &[Option<usize>], id: u32) -> Option<usize>
-    ensures { result ≡ option_flatten (slice_get numbers.now (length numbers.now - (if nat_eq id 31 then 1 else 2))) }
+    ensures { result ≡ option_flatten (slice_get numbers.now (length numbers.now - (if nat_eq id PLATFORM then 1 else 2))) }
 {
     if id == PLATFORM {
         number_from_end(numbers, 1)

@@ -22,7 +22,7 @@ use Rattle.rule_model.specs.declared.program.RuleDef.{RuleDef}
 use Rattle.rule_model.specs.declared.program.Program.{Program}
 use Rattle.rule_model.specs.Tab.{distinct_onto}
 use Rattle.rule_model.specs.Naming.{SourceNames, names_of, rule_items, all_rules, store_items, items_from, source_items, stores_before, stores_after, key_names, key_number}
-use Rattle.store_table.proofs.Naming.{some_place, same_either_way}
+use Rattle.virtual_keys.proofs.NamePlaces.{some_place, same_either_way}
 use Rattle.item_checker.specs.Items.{is_no_plain_key}
 use Rattle.item_checker.specs.Summaries.{are_found_keys, is_found_key, is_other_key}
 
@@ -86,10 +86,10 @@ itself : (name : List ℕ) → same_name name name ≡ true
 unfolding same_name
 itself name = (bytes_decides (str_to_ascii_lowercase name) (str_to_ascii_lowercase name)).1 refl
 
-abbrev is_among : List (List ℕ) → List ℕ → Bool
+abbrev pub is_among : List (List ℕ) → List ℕ → Bool
 is_among names name = list_any (λ known. same_name known name) names
 
-all_seen : (seen xs : List (List ℕ)) → list_all (is_among (distinct_onto same_name seen xs)) xs ≡ true
+pub all_seen : (seen xs : List (List ℕ)) → list_all (is_among (distinct_onto same_name seen xs)) xs ≡ true
 all_seen seen [] = refl
 all_seen seen (x ∷ xs) =
     let next = if list_any (λ known. same_name known x) seen then seen else seen ++ x ∷ [] in

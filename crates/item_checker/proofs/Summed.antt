@@ -19,7 +19,7 @@ use Rattle.rule_model.specs.declared.program.Program.{Program}
 use Rattle.rule_model.specs.declared.tables.Store.{Store}
 use Rattle.rule_model.specs.Tab.{store_elements}
 use Rattle.rule_model.specs.Naming.{SourceNames, names_of, stores_of, stores_onto, store_of, is_dropped, item_elements, all_rules, key_number, mark_number}
-use Rattle.store_table.proofs.Naming.{position_cons, same_either_way}
+use Rattle.virtual_keys.proofs.NamePlaces.{position_cons, same_either_way}
 use Rattle.item_checker.proofs.FoundKeys.{other_key, stores_found}
 use Rattle.item_checker.specs.declared.summaries.Summary.{Summary}
 use Rattle.item_checker.specs.declared.summaries.Summaries.{Summaries}

@@ -22,6 +22,8 @@ use Rattle.compile_laws.specs.Numbers.{file_versions}
 use Rattle.store_table.specs.First.{or_else, broken, first_code, at_line, earlier, first_of}
 use Rattle.store_table.specs.Known.{Known, known, brought, statement_elements}
 use Rattle.store_table.specs.Names.{is_named}
+use Rattle.rule_model.specs.declared.system.TheConstants.{CASED_KEYS, MNEMONIC_LAYOUT, VERSION}
+use Rattle.virtual_keys.specs.declared.dictionary.TheConstants.{FIRST_OWN_CODE}
 
 -- some rule uses the store of a name as an option
 abbrev pub is_option : Known → List ℕ → Bool
@@ -112,8 +114,8 @@ is_layout_text elements = same_value (element.Char 48 ∷ []) elements
 
 abbrev pub is_system_text : ℕ → List Element → Bool
 is_system_text system elements =
-    if nat_eq system 8 then is_version_text elements
-    else (if nat_eq system 17 then is_layout_text elements else true)
+    if nat_eq system VERSION then is_version_text elements
+    else (if nat_eq system MNEMONIC_LAYOUT then is_layout_text elements else true)
 
 abbrev pub is_other_text : Known → StoreDef → Bool
 is_other_text known store =
@@ -136,11 +138,11 @@ brings_no_character known item = list_any is_no_character (brought known item)
 
 -- C25: an element of `&casedkeys` is no virtual key of the key table without modifiers
 abbrev pub is_no_plain_key : Element → Bool
-is_no_plain_key (element.Key flags code) = not (nat_eq flags 0x4000 && nat_lt code 256)
+is_no_plain_key (element.Key flags code) = not (nat_eq flags 0x4000 && nat_lt code FIRST_OWN_CODE)
 is_no_plain_key other = true
 
 abbrev pub wants_plain_keys : StoreDef → Bool
-wants_plain_keys store = nat_eq store.system 39
+wants_plain_keys store = nat_eq store.system CASED_KEYS
 
 abbrev pub brings_no_plain_key : Known → SrcItem → Bool
 brings_no_plain_key known item = list_any is_no_plain_key (brought known item)

@@ -18,6 +18,8 @@ use Rattle.item_checker.specs.declared.summaries.Summaries.{Summaries}
 use Rattle.item_checker.specs.declared.summaries.TheConstants.{FRONT_CHARACTERS}
 use Rattle.store_table.specs.Known.{Known}
 use Rattle.item_checker.specs.Items.{is_key_element, is_no_plain_key}
+use Rattle.rule_model.specs.declared.system.TheConstants.{MNEMONIC_LAYOUT, VERSION}
+use Rattle.virtual_keys.specs.declared.dictionary.TheConstants.{FIRST_OWN_CODE}
 
 abbrev pub is_nothing : List Element → Bool
 is_nothing [] = true
@@ -85,7 +87,7 @@ found_summary stores name = summary_at stores.summaries (place_in stores.names n
 
 -- a key of a source is no plain key; the keyboard's own keys have no code in a source, and one from 256 on in a file
 abbrev pub is_other_key : KeyName → Bool
-is_other_key key = not (nat_eq key.flags 0x4000 && (nat_lt 0 key.code && nat_lt key.code 256))
+is_other_key key = not (nat_eq key.flags 0x4000 && (nat_lt 0 key.code && nat_lt key.code FIRST_OWN_CODE))
 
 -- keys of the keyboard's own, which items name, are among its names
 abbrev pub is_found_key : SourceNames → SrcItem → Bool
@@ -163,5 +165,5 @@ is_layout_front front = bytes_eq (48 ∷ []) front
 
 abbrev pub is_system_front : ℕ → List ℕ → Bool
 is_system_front system front =
-    if nat_eq system 8 then is_version_front front
-    else (if nat_eq system 17 then is_layout_front front else true)
+    if nat_eq system VERSION then is_version_front front
+    else (if nat_eq system MNEMONIC_LAYOUT then is_layout_front front else true)

@@ -14,14 +14,15 @@ use Rattle.kmx_verifier.specs.declared.faults.VerifyError.TheVariants as verify
 use Rattle.kmx_verifier.specs.FaultOf.{fault_of, IsRefusal}
 use Rattle.kmx_verifier.proofs.FileValid.{file_valid}
 use Rattle.keyman_run.specs.declared.preparing.Stop.{Stop}
-use Rattle.keyman_run.specs.declared.reason.Reason.{Reason}
-use Rattle.keyman_run.specs.declared.reason.Reason.TheVariants as reason
+use Rattle.keyman_lines.specs.declared.reason.Reason.{Reason}
+use Rattle.keyman_lines.specs.declared.reason.Reason.TheVariants as reason
 use Rattle.keyman_run.specs.declared.status.Status.{Status}
 use Rattle.keyman_run.specs.declared.status.Status.TheVariants as status
-use Rattle.keyman_run.specs.Endings.{Ending, play_ending, play_status, refused_ending, valid_line, verify_ending}
+use Rattle.keyman_run.specs.Endings.{Ending, play_ending, play_status, refused_ending, verify_ending}
+use Rattle.keyman_lines.specs.Lines.{valid_line}
 use Rattle.keyman_run.specs.Inputs.{tables_of_file, unless_faulty}
 use Rattle.keyman_run.specs.Orders.{bytes_play_work, tables_play_work}
-use Rattle.keyman_run.specs.Reasons.{fault_line}
+use Rattle.keyman_lines.specs.Reasons.{fault_line}
 use Rattle.keyman_run.specs.Run.{Does}
 use Rattle.keyman_run.specs.Seen.{FolderView, SinkView}
 use Rattle.keyman_run.specs.Steps.{Tells, TellsFile, TellsStop, verify_stop}
@@ -101,27 +102,42 @@ does_no_memory work folders folder sinks out = record {
   leaves = λ told. inl (record { asked = first_none (reads (folders.files folder) work) (folders.calls folder) (folders.calls folder) refl; files = λ name. refl }, λ told_sink. refl);
 }
 
--- playing on the bytes of a valid file, and of one with a fault
-pub plays_valid : {F S : Type 0} (bytes file keys : List ℕ) (folders : FolderView F) (folder after : F) (sinks : SinkView S) (out out_after : S) (how : Status) → fault_of bytes ≡ None → file ≡ bytes
-    → Does (tables_play_work (tables_of file) keys) folders folder after sinks out out_after how → Does (bytes_play_work bytes keys) folders folder after sinks out out_after how
-plays_valid bytes file keys folders folder after sinks out out_after how none same does =
-    subst (λ (found : Option Fault). Does (and_then (given (unless_faulty (tables_of bytes) found)) (λ tables. tables_play_work tables keys)) folders folder after sinks out out_after how) (sym none)
-    (subst (λ (b : List ℕ). Does (tables_play_work (tables_of b) keys) folders folder after sinks out out_after how) same does)
+-- the work on bytes, by the work on the tables of their file
+abbrev on_bytes : (Tables → Work Ending) → List ℕ → Work Ending
+on_bytes on bytes = and_then (given (tables_of_file bytes)) on
 
-plays_faulty : {F S : Type 0} (bytes keys : List ℕ) (fault : Fault) (folders : FolderView F) (folder : F) (sinks : SinkView S) (out out_after : S) (how : Status) → fault_of bytes ≡ Some fault
-    → Tells status.Refused (fault_line fault) sinks out out_after how → Does (bytes_play_work bytes keys) folders folder folder sinks out out_after how
-plays_faulty bytes keys fault folders folder sinks out out_after how is tells =
-    subst (λ (found : Option Fault). Does (and_then (given (unless_faulty (tables_of bytes) found)) (λ tables. tables_play_work tables keys)) folders folder folder sinks out out_after how) (sym is)
+-- work on the bytes of a valid file, and of one with a fault
+pub does_valid : {F S : Type 0} (on : Tables → Work Ending) (bytes file : List ℕ) (folders : FolderView F) (folder after : F) (sinks : SinkView S) (out out_after : S) (how : Status) → fault_of bytes ≡ None → file ≡ bytes
+    → Does (on (tables_of file)) folders folder after sinks out out_after how → Does (on_bytes on bytes) folders folder after sinks out out_after how
+does_valid on bytes file folders folder after sinks out out_after how none same does =
+    subst (λ (found : Option Fault). Does (and_then (given (unless_faulty (tables_of bytes) found)) on) folders folder after sinks out out_after how) (sym none)
+    (subst (λ (b : List ℕ). Does (on (tables_of b)) folders folder after sinks out out_after how) same does)
+
+does_faulty : {F S : Type 0} (on : Tables → Work Ending) (bytes : List ℕ) (fault : Fault) (folders : FolderView F) (folder : F) (sinks : SinkView S) (out out_after : S) (how : Status) → fault_of bytes ≡ Some fault
+    → Tells status.Refused (fault_line fault) sinks out out_after how → Does (on_bytes on bytes) folders folder folder sinks out out_after how
+does_faulty on bytes fault folders folder sinks out out_after how is tells =
+    subst (λ (found : Option Fault). Does (and_then (given (unless_faulty (tables_of bytes) found)) on) folders folder folder sinks out out_after how) (sym is)
     (does_told (Refuse (reason.File fault)) (refused_ending (reason.File fault)) folders folder folder sinks out out_after how refl refl
     (λ told. (refl, record { asked = sym (append-nil (folders.calls folder)); files = λ name. refl })) tells)
 
 -- and on bytes whose opening stopped
+pub does_unread : {F S : Type 0} (on : Tables → Work Ending) (bytes : List ℕ) (error : VerifyError) (folders : FolderView F) (folder : F) (sinks : SinkView S) (out out_after : S) (how : Status)
+    → IsRefusal error (λ fault. fault_of bytes ≡ Some fault) → TellsStop (verify_stop error) sinks out out_after how → Does (on_bytes on bytes) folders folder folder sinks out out_after how
+does_unread on bytes (verify.Refused fault) folders folder sinks out out_after how is tells = does_faulty on bytes fault folders folder sinks out out_after how is tells
+does_unread {F} {S} on bytes verify.Memory folders folder sinks out out_after how is tells =
+    subst (λ (o : S). Does (on_bytes on bytes) folders folder folder sinks out o how) (sym tells.1)
+    (subst (λ (s : Status). Does (on_bytes on bytes) folders folder folder sinks out out s) (sym tells.0) (does_no_memory (on_bytes on bytes) folders folder sinks out))
+
+-- playing on the bytes of a valid file, and on bytes whose opening stopped
+pub plays_valid : {F S : Type 0} (bytes file keys : List ℕ) (folders : FolderView F) (folder after : F) (sinks : SinkView S) (out out_after : S) (how : Status) → fault_of bytes ≡ None → file ≡ bytes
+    → Does (tables_play_work (tables_of file) keys) folders folder after sinks out out_after how → Does (bytes_play_work bytes keys) folders folder after sinks out out_after how
+plays_valid bytes file keys folders folder after sinks out out_after how none same does =
+    does_valid (λ tables. tables_play_work tables keys) bytes file folders folder after sinks out out_after how none same does
+
 pub plays_unread : {F S : Type 0} (bytes keys : List ℕ) (error : VerifyError) (folders : FolderView F) (folder : F) (sinks : SinkView S) (out out_after : S) (how : Status)
     → IsRefusal error (λ fault. fault_of bytes ≡ Some fault) → TellsStop (verify_stop error) sinks out out_after how → Does (bytes_play_work bytes keys) folders folder folder sinks out out_after how
-plays_unread bytes keys (verify.Refused fault) folders folder sinks out out_after how is tells = plays_faulty bytes keys fault folders folder sinks out out_after how is tells
-plays_unread {F} {S} bytes keys verify.Memory folders folder sinks out out_after how is tells =
-    subst (λ (o : S). Does (bytes_play_work bytes keys) folders folder folder sinks out o how) (sym tells.1)
-    (subst (λ (s : Status). Does (bytes_play_work bytes keys) folders folder folder sinks out out s) (sym tells.0) (does_no_memory (bytes_play_work bytes keys) folders folder sinks out))
+plays_unread bytes keys error folders folder sinks out out_after how is tells =
+    does_unread (λ tables. tables_play_work tables keys) bytes error folders folder sinks out out_after how is tells
 
 -- playing the entries of a script
 pub plays_entries : {F S : Type 0} (kb : Keyboard) (slice entries : List Entry) (folders : FolderView F) (folder : F) (sinks : SinkView S) (out out_after : S) (how : Status) → slice ≡ entries

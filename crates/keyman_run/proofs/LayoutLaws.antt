@@ -8,7 +8,8 @@ use Rattle.touch_layout.specs.declared.faults.LayoutError.TheVariants as layout_
 use Rattle.touch_layout.specs.declared.faults.LayoutFault.{LayoutFault}
 use Rattle.keyman_run.specs.declared.status.Status.{Status}
 use Rattle.keyman_run.specs.declared.status.Status.TheVariants as status
-use Rattle.keyman_run.specs.Endings.{Ending, layout_ending, sound_line}
+use Rattle.keyman_run.specs.Endings.{Ending, layout_ending}
+use Rattle.keyman_lines.specs.Lines.{sound_line}
 use Rattle.keyman_run.specs.Inputs.{keys_of, unless_broken}
 use Rattle.keyman_run.specs.Orders.{compiled_work, layout_work, tables_layout_work}
 use Rattle.keyman_run.specs.Run.{Does}

@@ -1,11 +1,12 @@
 pub mod AskedLaws
 pub mod FileRuns
-pub mod Hexadecimal
+pub mod HostRuns
 pub mod InputLaws
 mod LayoutLaws
 mod LoadLaws
 pub mod MeaningLaws
 pub mod RunLaws
+pub mod ShadowLaws
 mod StatedLoads
 mod TextLaws
 pub mod TraceLaws

@@ -29,8 +29,8 @@ use Rattle.keyman_run.specs.declared.loading.Progress.{Progress}
 use Rattle.keyman_run.specs.declared.loading.Sums.{Sums}
 use Rattle.keyman_run.specs.declared.preparing.Stop.{Stop}
 use Rattle.keyman_run.specs.declared.preparing.Stop.TheVariants as stop
-use Rattle.keyman_run.specs.declared.reason.Reason.{Reason}
-use Rattle.keyman_run.specs.declared.reason.Reason.TheVariants as reason
+use Rattle.keyman_lines.specs.declared.reason.Reason.{Reason}
+use Rattle.keyman_lines.specs.declared.reason.Reason.TheVariants as reason
 use Rattle.keyman_run.specs.Inputs.{file_from, pictured_within, unless_large}
 use Rattle.load_laws.specs.Plays.{items_put, last_state}
 use Rattle.load_maker.specs.declared.load.LoadError.{LoadError}

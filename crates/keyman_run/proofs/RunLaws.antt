@@ -7,7 +7,7 @@ use Rattle.kmn_outside.specs.declared.traits.WriteError.{WriteError}
 use Rattle.kmn_outside.specs.declared.traits.WriteError.TheVariants as write
 use Rattle.keyman_run.specs.declared.preparing.Stop.{Stop}
 use Rattle.keyman_run.specs.declared.preparing.Stop.TheVariants as stop
-use Rattle.keyman_run.specs.declared.reason.Reason.{Reason}
+use Rattle.keyman_lines.specs.declared.reason.Reason.{Reason}
 use Rattle.keyman_run.specs.declared.status.Status.{Status}
 use Rattle.keyman_run.specs.declared.status.Status.TheVariants as status
 use Rattle.keyman_run.specs.Asked.{Ask, write_of, answered, failed}

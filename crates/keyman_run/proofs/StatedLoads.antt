@@ -27,8 +27,8 @@ use Rattle.load_laws.proofs.LoadFiles.{files_have_sizes}
 use Rattle.load_laws.proofs.LoadPlays.{files_play}
 use Rattle.load_laws.proofs.LoadScripts.{scripts_are_read}
 use Rattle.keyman_run.specs.declared.loading.Sums.{Sums}
-use Rattle.keyman_run.specs.declared.reason.Reason.{Reason}
-use Rattle.keyman_run.specs.declared.reason.Reason.TheVariants as reason
+use Rattle.keyman_lines.specs.declared.reason.Reason.{Reason}
+use Rattle.keyman_lines.specs.declared.reason.Reason.TheVariants as reason
 use Rattle.keyman_run.specs.Endings.{Job}
 use Rattle.keyman_run.specs.Inputs.{Pictured, by_line, file_from, unless_large}
 use Rattle.keyman_run.specs.Loads.{job_of, load_line, load_text, played_load, program_job, script_job, sums_of, unless_stopped}

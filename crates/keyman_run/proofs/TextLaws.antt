@@ -16,7 +16,7 @@ use Rattle.decompile_causes.specs.Unspelled.{unspelled}
 use Rattle.round_trips.proofs.Texts.{texts_compile}
 use Rattle.keyman_run.specs.declared.preparing.Stop.{Stop}
 use Rattle.keyman_run.specs.declared.preparing.Stop.TheVariants as stop
-use Rattle.keyman_run.specs.declared.reason.Reason.{Reason}
+use Rattle.keyman_lines.specs.declared.reason.Reason.{Reason}
 use Rattle.keyman_run.specs.Inputs.{IsTextOf, bytes_of, tables_of_file, unless_faulty}
 use Rattle.keyman_run.specs.Orders.{bytes_work}
 use Rattle.keyman_run.specs.Run.{TextMeans}

@@ -12,6 +12,7 @@ use Rattle.keyman_run.specs.Seen.{FolderView, SinkView, seen_folder, seen_sink}
 use Rattle.keyman_run.specs.Work.{Work, reads}
 use Rattle.keyman_run.proofs.LoadLaws.{is_asked}
 use Rattle.keyman_run.proofs.MeaningLaws.{asks_by, ends_as_wanted}
+use Rattle.keyman_run.proofs.ShadowLaws.{fields_are_alone, lines_are_dead}
 
 -- words that ask for a command run as it does
 pub runs_asked : {F S : Type 0} (said : List (List ℕ)) (request : Request) (folders : FolderView F) (folder after : F) (sinks : SinkView S) (out out_after : S) (how : Status)
@@ -31,6 +32,8 @@ runs_asked said request folders folder after sinks out out_after how is does mea
       complete = λ told no_folder no_sink.
           ends_as_wanted (reads (folders.files folder) work) (ends (folders.files folder) work) (seen_folder folders folder) (seen_folder folders after) (seen_sink sinks out) (seen_sink sinks out_after) how (d.leaves told) no_folder no_sink;
       means = λ told. subst (λ (r : Option Request). FileMeans (seen_folder folders folder) (seen_folder folders after) r) is (means told);
+      shadows = λ told. lines_are_dead (folders.files folder) (request_of said);
+      hosts = λ told. fields_are_alone (folders.files folder) (request_of said);
     }
 
 -- other words ask for nothing: the run ends at once
@@ -57,4 +60,6 @@ runs_nothing said folders folder sinks out is =
       complete = λ told no_folder no_sink.
           ends_as_wanted (reads (folders.files folder) work) (ends (folders.files folder) work) (seen_folder folders folder) (seen_folder folders folder) (seen_sink sinks out) (seen_sink sinks out) status.Words (leaves told) no_folder no_sink;
       means = λ told. subst (λ (r : Option Request). FileMeans (seen_folder folders folder) (seen_folder folders folder) r) is tt;
+      shadows = λ told. lines_are_dead (folders.files folder) (request_of said);
+      hosts = λ told. fields_are_alone (folders.files folder) (request_of said);
     }

@@ -1,17 +1,15 @@
 -- How work on files ends: with which status, which file it writes, and what it prints.
-use Rattle.std.specs.Prelude.{ℕ, List, [], ◌∷◌, ◌++◌, length, codes, Option, Some, None, option_map, Result, Ok, Err}
-use Rattle.std.specs.List.{concat}
-use Rattle.std.specs.Fmt.{decimal}
+use Rattle.std.specs.Prelude.{ℕ, List, [], ◌∷◌, ◌++◌, Option, Some, None, option_map, Result, Ok, Err}
 use Rattle.kmn_outside.specs.Outside.{Files}
-use Rattle.kmx_format.specs.File.{all_rules}
 use Rattle.rule_model.specs.Keyboard.{Keyboard}
-use Rattle.rule_model.specs.Lines.{hexadecimal}
 use Rattle.rule_model.specs.declared.tables.Tables.{Tables}
 use Rattle.rule_model.specs.Trace.{Trace, trace}
 use Rattle.rule_model.specs.Transcript.{events_of, transcript}
 use Rattle.rule_model.specs.declared.script.Entry.{Entry}
 use Rattle.kmn_compiler.specs.declared.compiling.Compiled.{Compiled}
-use Rattle.keyman_run.specs.declared.reason.Reason.{Reason}
+use Rattle.keyman_lines.specs.declared.reason.Reason.{Reason}
+use Rattle.keyman_lines.specs.Lines.{compiled_line, decompiled_line, sound_line, valid_line}
+use Rattle.keyman_lines.specs.Reasons.{reason_line}
 use Rattle.keyman_run.specs.declared.status.Status.{Status}
 use Rattle.keyman_run.specs.declared.status.Status.TheVariants as status
 use Rattle.keyman_run.specs.Asked.{Ask, write_of}
@@ -22,7 +20,9 @@ use Rattle.play_trace.specs.TraceEnds.{trace_end}
 use Rattle.play_trace.specs.TraceText.{trace_text}
 use Rattle.play_trace.specs.declared.following.TraceEnd.{TraceEnd}
 use Rattle.play_trace.specs.declared.following.TraceEnd.TheVariants as followed
-use Rattle.keyman_run.specs.Reasons.{reason_line}
+use Rattle.shadow_text.specs.DeadLines.{dead_text}
+use Rattle.host_script.specs.declared.entries.HostEntry.{HostEntry}
+use Rattle.play_host.specs.HostText.{host_end, host_text}
 use Rattle.keyman_run.specs.Work.{Work, reads, comes_to}
 
 -- how work ends where nothing fails: its status, the file that it writes by name and bytes, and all that it prints
@@ -39,43 +39,17 @@ refused_ending why = record { status = status.Refused; file = None; printed = re
 abbrev pub words_ending : Ending
 words_ending = record { status = status.Words; file = None; printed = [] }
 
--- what is printed of a compiled file: its counts and its size
-unfoldable pub compiled_line : Compiled → List ℕ
-compiled_line compiled = concat (
-    codes "compiled stores=" ∷ decimal (length compiled.tables.stores)
-    ∷ codes " groups=" ∷ decimal (length compiled.tables.groups)
-    ∷ codes " rules=" ∷ decimal (length (all_rules compiled.tables))
-    ∷ codes " bytes=" ∷ decimal (length compiled.bytes)
-    ∷ codes "\n" ∷ [])
-
 -- a compilation writes the file and prints its line
 abbrev pub compile_ending : List ℕ → Compiled → Ending
 compile_ending name compiled = record { status = status.Done; file = Some (name, compiled.bytes); printed = compiled_line compiled }
-
--- what is printed of a valid file: its version and its counts
-unfoldable pub valid_line : Tables → List ℕ
-valid_line tables = concat (
-    codes "valid version=" ∷ hexadecimal tables.version
-    ∷ codes " stores=" ∷ decimal (length tables.stores)
-    ∷ codes " groups=" ∷ decimal (length tables.groups)
-    ∷ codes " rules=" ∷ decimal (length (all_rules tables))
-    ∷ codes "\n" ∷ [])
 
 -- a verification prints the line of the file
 abbrev pub verify_ending : Tables → Ending
 verify_ending tables = record { status = status.Done; file = None; printed = valid_line tables }
 
--- what is printed of a text that a file was decompiled to: its size
-unfoldable pub decompiled_line : List ℕ → List ℕ
-decompiled_line source = concat (codes "decompiled bytes=" ∷ decimal (length source) ∷ codes "\n" ∷ [])
-
 -- a decompilation writes the text and prints its line
 abbrev pub decompile_ending : List ℕ → List ℕ → Ending
 decompile_ending name source = record { status = status.Done; file = Some (name, source); printed = decompiled_line source }
-
--- what is printed of a layout that keeps all rules: the count of its keys
-unfoldable pub sound_line : ℕ → List ℕ
-sound_line count = concat (codes "layout sound keys=" ∷ decimal count ∷ codes "\n" ∷ [])
 
 -- the check of a layout prints its line
 abbrev pub layout_ending : ℕ → Ending
@@ -123,6 +97,14 @@ trace_status traced = end_of_trace (trace_end traced)
 -- a trace prints which lines fire where a keyboard does the script, and which of these never do, and writes no file
 abbrev pub trace_ending : Keyboard → List ℕ → List Entry → Ending
 trace_ending kb lines entries = record { status = trace_status (trace kb (events_of entries)); file = None; printed = trace_text kb lines entries }
+
+-- a search for rules that never fire prints the lines that it found, and writes no file
+abbrev pub shadow_ending : Tables → Ending
+shadow_ending tables = record { status = status.Done; file = None; printed = dead_text tables }
+
+-- a host prints what its fields over tables do with a script, and writes no file
+abbrev pub host_ending : Tables → List HostEntry → Ending
+host_ending tables entries = record { status = end_status (host_end tables entries); file = None; printed = host_text tables entries }
 
 -- work that is refused ends with the reason's line
 abbrev pub conclusion : Result Ending Reason → Ending

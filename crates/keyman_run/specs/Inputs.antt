@@ -1,5 +1,5 @@
 -- What the inputs of a command state.
-use Rattle.std.specs.Prelude.{◌≡◌, ℕ, List, Option, Some, None, Result, Ok, Err}
+use Rattle.std.specs.Prelude.{◌≡◌, ℕ, nat_lt, length, if◌then◌else◌, List, Option, Some, None, Result, Ok, Err}
 use Rattle.kmn_base.specs.Answers.{and_then}
 use Rattle.kmn_base.specs.declared.codes.Code.{Code}
 use Rattle.kmn_base.specs.declared.codes.Code.TheVariants.{C24, L05, P06, T7, V15}
@@ -8,11 +8,13 @@ use Rattle.rule_model.specs.declared.program.Program.{Program}
 use Rattle.rule_model.specs.declared.script.Entry.{Entry}
 use Rattle.rule_model.specs.declared.tables.Tables.{Tables}
 use Rattle.compile_laws.specs.Ordered.{compiled_tables}
-use Rattle.kmx_format.specs.File.{file_of}
+use Rattle.kmx_format.specs.File.{all_rules, file_of}
 use Rattle.kmx_writer.specs.Excess.{excess}
 use Rattle.rule_checker.specs.Refused.{checked}
 use Rattle.kmn_compiler.specs.declared.compiling.Compiled.{Compiled}
 use Rattle.play_script.specs.Entries.{entries}
+use Rattle.host_script.specs.HostEntries.{host_entries}
+use Rattle.host_script.specs.declared.entries.HostEntry.{HostEntry}
 use Rattle.kmx_format.specs.TablesOf.{tables_of}
 use Rattle.kmx_verifier.specs.declared.faults.Fault.{Fault}
 use Rattle.kmx_verifier.specs.FaultOf.{fault_of}
@@ -21,11 +23,12 @@ use Rattle.decompile_laws.specs.Back.{back}
 use Rattle.decompile_causes.specs.Laws.{HasText}
 use Rattle.decompile_causes.specs.Unspelled.{unspelled}
 use Rattle.decompile_causes.specs.declared.no_spelling.NoSpelling.{NoSpelling}
+use Rattle.shadow_text.specs.declared.printing.TheConstants.{SHADOW_RECORDS}
 use Rattle.touch_layout.specs.Faults.{fault, whole_layout}
 use Rattle.touch_layout.specs.Layout.{key_count, layout_fault}
 use Rattle.touch_layout.specs.declared.faults.LayoutFault.{LayoutFault}
-use Rattle.keyman_run.specs.declared.reason.Reason.{Reason}
-use Rattle.keyman_run.specs.declared.reason.Reason.TheVariants as reason
+use Rattle.keyman_lines.specs.declared.reason.Reason.{Reason}
+use Rattle.keyman_lines.specs.declared.reason.Reason.TheVariants as reason
 use Rattle.keyman_run.specs.Work.{Reading}
 use Rattle.keyman_run.specs.Work.Reading.{Bytes, Over}
 
@@ -79,6 +82,15 @@ unless_faulty tables (Some fault) = Err (reason.File fault)
 -- the tables of a valid file, or the first fault
 abbrev pub tables_of_file : List ℕ → Result Tables Reason
 tables_of_file bytes = unless_faulty (tables_of bytes) (fault_of bytes)
+
+-- tables, unless they have more records than are searched for dead rules
+abbrev pub few_records : Tables → Result Tables Reason
+few_records tables = if nat_lt SHADOW_RECORDS (length (all_rules tables)) then Err (reason.Records (length (all_rules tables))) else Ok tables
+
+-- the entries of a host's script for a keyboard with this dictionary of keys, or the first rule that the script breaks
+abbrev pub host_script_of : List (List ℕ) → Reading → Result (List HostEntry) Reason
+host_script_of dictionary (Bytes script) = by_line (host_entries dictionary script)
+host_script_of dictionary (Over size) = Err (reason.Line (record { line = 1; code = P06 }))
 
 -- the text that tables go back to, unless their file has none
 abbrev pub unless_unspelled : Tables → Option NoSpelling → Result (List ℕ) Reason

@@ -3,7 +3,6 @@ pub mod Endings
 pub mod Inputs
 pub mod Loads
 pub mod Orders
-pub mod Reasons
 pub mod Run
 pub mod Runs
 pub mod Seen

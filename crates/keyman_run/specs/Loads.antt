@@ -20,8 +20,8 @@ use Rattle.keyman_run.specs.declared.loading.Progress.{Progress}
 use Rattle.keyman_run.specs.declared.loading.Sums.{Sums}
 use Rattle.keyman_run.specs.declared.preparing.Stop.{Stop}
 use Rattle.keyman_run.specs.declared.preparing.Stop.TheVariants as stop
-use Rattle.keyman_run.specs.declared.reason.Reason.{Reason}
-use Rattle.keyman_run.specs.declared.reason.Reason.TheVariants as reason
+use Rattle.keyman_lines.specs.declared.reason.Reason.{Reason}
+use Rattle.keyman_lines.specs.declared.reason.Reason.TheVariants as reason
 use Rattle.keyman_run.specs.Endings.{Job}
 use Rattle.keyman_run.specs.Inputs.{file_from, pictured_within, program_of, script_of}
 use Rattle.play_transcript.specs.Playing.{steps_left}

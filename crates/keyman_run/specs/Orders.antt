@@ -12,9 +12,10 @@ use Rattle.kmn_compiler.specs.declared.compiling.Compiled.{Compiled}
 use Rattle.play_trace.specs.RisingLines.{lines_of_tables}
 use Rattle.keyman_words.specs.Beside.{beside}
 use Rattle.keyman_words.specs.Command.{Request}
-use Rattle.keyman_words.specs.Command.Request.{Compile, Decompile, Layout, Load, Play, Test, Trace, Verify}
-use Rattle.keyman_run.specs.Endings.{Ending, Job, compile_ending, decompile_ending, layout_ending, load_ending, play_ending, test_ending, trace_ending, verify_ending, words_ending}
-use Rattle.keyman_run.specs.Inputs.{Pictured, file_from, keys_of, picture_of, pictured_within, program_of, script_of, bytes_of, tables_of_file, text_of_file}
+use Rattle.keyman_words.specs.Command.Request.{Compile, Decompile, Host, Layout, Load, Play, Shadow, Test, Trace, Verify}
+use Rattle.host_script.specs.declared.entries.HostEntry.{HostEntry}
+use Rattle.keyman_run.specs.Endings.{Ending, Job, compile_ending, decompile_ending, host_ending, layout_ending, load_ending, play_ending, shadow_ending, test_ending, trace_ending, verify_ending, words_ending}
+use Rattle.keyman_run.specs.Inputs.{Pictured, few_records, file_from, host_script_of, keys_of, picture_of, pictured_within, program_of, script_of, bytes_of, tables_of_file, text_of_file}
 use Rattle.keyman_run.specs.Loads.{load_text}
 use Rattle.keyman_run.specs.Work.{Work, given, and_then}
 use Rattle.keyman_run.specs.Work.Work.{Give, Read}
@@ -72,6 +73,10 @@ test_work source file keys =
 abbrev pub bytes_work : (file : List ℕ) → Work (List ℕ)
 bytes_work file = Read file FILE_BYTES (λ reading. given (bytes_of reading))
 
+-- read a compiled file, and see that it is valid
+abbrev pub tables_work : (file : List ℕ) → Work Tables
+tables_work file = and_then (bytes_work file) (λ bytes. given (tables_of_file bytes))
+
 -- `verify FILE`: read the file, print its version and counts
 abbrev pub verify_work : (file : List ℕ) → Work Ending
 verify_work file =
@@ -125,6 +130,30 @@ trace_work source keys =
     and_then (script_work (src pictured.program).dictionary keys) (λ entries.
     Give (trace_ending (src pictured.program) (lines_of_tables (compiled_tables pictured.program)) entries)))
 
+-- `shadow SOURCE`: read and compile the source with its picture, see that it has few enough records, print which lines of the
+-- source never fire
+abbrev pub shadow_work : (source : List ℕ) → Work Ending
+shadow_work source =
+    and_then (program_work source) (λ pictured.
+    and_then (given (few_records (compiled_tables pictured.program))) (λ tables.
+    Give (shadow_ending tables)))
+
+-- read a host's script for a keyboard with this dictionary of keys
+abbrev pub host_script_work : (dictionary : List (List ℕ)) → (keys : List ℕ) → Work (List HostEntry)
+host_script_work dictionary keys = Read keys TEXT_BYTES (λ reading. given (host_script_of dictionary reading))
+
+-- read a host's script for the keyboard of tables, print what the host's fields do with it
+abbrev pub tables_host_work : Tables → (keys : List ℕ) → Work Ending
+tables_host_work tables keys = and_then (host_script_work (tab tables).dictionary keys) (λ entries. Give (host_ending tables entries))
+
+-- see that bytes are a valid file, and play a host's script in fields over it
+abbrev pub bytes_host_work : (bytes keys : List ℕ) → Work Ending
+bytes_host_work bytes keys = and_then (given (tables_of_file bytes)) (λ tables. tables_host_work tables keys)
+
+-- `host FILE KEYS`: read the file, read the script, print what the fields of a host over the file do with the script
+abbrev pub host_work : (file keys : List ℕ) → Work Ending
+host_work file keys = and_then (bytes_work file) (λ bytes. bytes_host_work bytes keys)
+
 -- the work that words ask for
 abbrev pub work_of : Option Request → Work Ending
 work_of None = Give words_ending
@@ -136,3 +165,5 @@ work_of (Some (Play file keys)) = play_work file keys
 work_of (Some (Layout source layout)) = layout_work source layout
 work_of (Some (Load number)) = load_work number
 work_of (Some (Trace source keys)) = trace_work source keys
+work_of (Some (Shadow source)) = shadow_work source
+work_of (Some (Host file keys)) = host_work file keys

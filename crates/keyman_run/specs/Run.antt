@@ -1,20 +1,26 @@
 -- What a run of work does to a folder and a sink.
-use Rattle.std.specs.Prelude.{◌≡◌, ◌≢◌, ◌⊎◌, ℕ, false, IsTrue, List, [], ◌∷◌, ◌++◌, map, Option, Some, None, IsSomeAnd, Result, Ok}
+use Rattle.std.specs.Prelude.{◌≡◌, ◌≢◌, ◌⊎◌, ℕ, false, IsTrue, All, List, [], ◌∷◌, ◌++◌, map, Option, Some, None, IsSomeAnd, Result, Ok}
 use Rattle.kmn_base.specs.declared.refusals.CompileError.{CompileError}
 use Rattle.kmn_outside.specs.Outside.{Files, Rose, SameFiles, SameOthers}
+use Rattle.rule_model.specs.Tab.{tab}
+use Rattle.rule_model.specs.declared.tables.Tables.{Tables}
 use Rattle.compile_laws.specs.Means.{Means}
+use Rattle.compile_laws.specs.Ordered.{compiled_tables}
 use Rattle.rule_checker.specs.Refused.{checked}
 use Rattle.kmn_compiler.specs.Source.{CompilesTo}
 use Rattle.kmn_compiler.specs.declared.compiling.Compiled.{Compiled}
 use Rattle.round_trips.specs.Laws.{TakesStepsOf}
+use Rattle.shadow_text.specs.DeadLines.{IsDeadLine, dead_lines}
+use Rattle.host_script.specs.declared.entries.HostEntry.{HostEntry}
+use Rattle.play_host.specs.Fields.{FieldsAreTraces}
 use Rattle.keyman_run.specs.declared.status.Status.{Status}
 use Rattle.keyman_run.specs.declared.status.Status.TheVariants as status
 use Rattle.keyman_run.specs.Asked.{Ask, write_of, answered, failed, AsksAll, AsksFirst, AsksUntil, HasWritten}
 use Rattle.keyman_words.specs.Command.{Request}
-use Rattle.keyman_words.specs.Command.Request.{Compile, Decompile, Layout, Load, Play, Test, Trace, Verify}
+use Rattle.keyman_words.specs.Command.Request.{Compile, Decompile, Host, Layout, Load, Play, Shadow, Test, Trace, Verify}
 use Rattle.keyman_run.specs.Endings.{Ending, ends, file_asks}
 use Rattle.keyman_run.specs.Inputs.{Pictured}
-use Rattle.keyman_run.specs.Orders.{program_work}
+use Rattle.keyman_run.specs.Orders.{host_script_work, program_work, tables_work}
 use Rattle.play_transcript.specs.Printing.{IsBegun}
 use Rattle.keyman_run.specs.Seen.{FolderView, SinkView, FolderState, SinkState, seen_folder, seen_sink}
 use Rattle.keyman_run.specs.Work.{Work, reads, comes_to}
@@ -132,3 +138,17 @@ FileMeans before after (Some (Play file keys)) = Unit {0}
 FileMeans before after (Some (Layout source layout)) = Unit {0}
 FileMeans before after (Some (Load number)) = Unit {0}
 FileMeans before after (Some (Trace source keys)) = Unit {0}
+FileMeans before after (Some (Shadow source)) = Unit {0}
+FileMeans before after (Some (Host file keys)) = Unit {0}
+
+-- where the source of a search for dead rules has a program, no rule of a line that is told ever fires in it
+abbrev pub LinesAreDead : Files → Option Request → Type 0
+LinesAreDead files (Some (Shadow source)) = (pictured : Pictured) → comes_to files (program_work source) ≡ Some (Ok pictured)
+    → All (IsDeadLine pictured.program) (dead_lines (compiled_tables pictured.program))
+LinesAreDead files _ = Unit {0}
+
+-- where the file of a host is valid and the script is read for it, each field takes the steps of its own events alone
+abbrev pub FieldsAreAlone : Files → Option Request → Type 0
+FieldsAreAlone files (Some (Host file keys)) = (tables : Tables) → (entries : List HostEntry) → comes_to files (tables_work file) ≡ Some (Ok tables)
+    → comes_to files (host_script_work (tab tables).dictionary keys) ≡ Some (Ok entries) → FieldsAreTraces tables entries
+FieldsAreAlone files _ = Unit {0}

@@ -7,12 +7,13 @@ use Rattle.keyman_run.specs.Asked.{AsksBy}
 use Rattle.keyman_words.specs.Command.{is_form, request_of}
 use Rattle.keyman_run.specs.Endings.{asked, ends}
 use Rattle.keyman_run.specs.Orders.{work_of}
-use Rattle.keyman_run.specs.Run.{FaultCounts, FileMeans, Leaves}
+use Rattle.keyman_run.specs.Run.{FaultCounts, FieldsAreAlone, FileMeans, Leaves, LinesAreDead}
 use Rattle.keyman_run.specs.Seen.{FolderView, SinkView, seen_folder, seen_sink}
 
 -- a run of words from one state of a folder and a sink to another, with this status; the order of its work is `work_of` of
 -- what they ask for. Where no count of faults rose, the run ends as its words and files want it (`complete`). The file that
--- was written means its source, whatever events come and however the run ended (`means`)
+-- was written means its source, whatever events come and however the run ended (`means`). No line that a search tells ever fires
+-- (`shadows`), and no field of a host knows of another (`hosts`)
 pub record Runs {F S : Type 0} (said : List (List ℕ)) (folders : FolderView F) (folder folder_after : F) (sinks : SinkView S) (out out_after : S) (how : Status) : Type 0 where
   pub words : (how ≡ status.Words) ↔ (is_form said ≡ false)
   pub counts : FaultCounts (folders.faults folder) (folders.faults folder_after) (sinks.faults out) (sinks.faults out_after) how
@@ -26,3 +27,5 @@ pub record Runs {F S : Type 0} (said : List (List ℕ)) (folders : FolderView F)
       → (how ≡ status.Memory) ⊎ IsSomeAnd (ends (folders.files folder) (work_of (request_of said))) (λ ending. how ≡ ending.status)
   pub means : IsTrue (folders.told folder)
       → FileMeans (seen_folder folders folder) (seen_folder folders folder_after) (request_of said)
+  pub shadows : IsTrue (folders.told folder) → LinesAreDead (folders.files folder) (request_of said)
+  pub hosts : IsTrue (folders.told folder) → FieldsAreAlone (folders.files folder) (request_of said)

@@ -26,14 +26,16 @@ use Rattle.kmn_compiler.specs.declared.compiling.Compiled.{Compiled}
 use Rattle.keyman_run.specs.declared.preparing.Prepared.{Prepared}
 use Rattle.keyman_run.specs.declared.preparing.Stop.{Stop}
 use Rattle.keyman_run.specs.declared.preparing.Stop.TheVariants as stop
-use Rattle.keyman_run.specs.declared.reason.Reason.{Reason}
-use Rattle.keyman_run.specs.declared.reason.Reason.TheVariants as reason
+use Rattle.keyman_lines.specs.declared.reason.Reason.{Reason}
+use Rattle.keyman_lines.specs.declared.reason.Reason.TheVariants as reason
 use Rattle.keyman_run.specs.declared.status.Status.{Status}
 use Rattle.keyman_run.specs.declared.status.Status.TheVariants as status
+use Rattle.shadow_text.specs.DeadLines.{dead_text}
 use Rattle.keyman_run.specs.Asked.{Ask}
-use Rattle.keyman_run.specs.Endings.{Job, valid_line}
+use Rattle.keyman_run.specs.Endings.{Job}
+use Rattle.keyman_lines.specs.Lines.{valid_line}
 use Rattle.play_transcript.specs.Printing.{IsBegun}
-use Rattle.keyman_run.specs.Reasons.{reason_line}
+use Rattle.keyman_lines.specs.Reasons.{reason_line}
 use Rattle.keyman_run.specs.Run.{HasRead, HasBegunToRead, HasFailedToRead}
 use Rattle.keyman_run.specs.Seen.{FolderView, SinkView, FolderState, seen_folder}
 use Rattle.keyman_run.specs.Work.{Work, reads, comes_to}
@@ -153,6 +155,11 @@ TellsFile (Err why) sinks out out_after s = Tells status.Refused (reason_line wh
 abbrev pub TellsLoad : {S : Type 0} → Result (List ℕ) Reason → SinkView S → S → S → Status → Type 0
 TellsLoad (Ok line) sinks out out_after s = Tells status.Done line sinks out out_after s
 TellsLoad (Err why) sinks out out_after s = Tells status.Refused (reason_line why) sinks out out_after s
+
+-- what is printed of a search for dead rules: what it found, or the line of a reason
+abbrev pub TellsDead : {S : Type 0} → Result Tables Reason → SinkView S → S → S → Status → Type 0
+TellsDead (Ok tables) sinks out out_after s = Tells status.Done (dead_text tables) sinks out out_after s
+TellsDead (Err why) sinks out out_after s = Tells status.Refused (reason_line why) sinks out out_after s
 
 -- the status of a run that ends with a write or a put that didn't succeed
 abbrev pub write_status : WriteError → Status

@@ -1,16 +1,14 @@
-//! Touch layouts: reading one, and the lines of its check.
+//! Touch layouts: reading one and checking it.
 
-ghost use Rattle.std.specs.Prelude.{◌≡◌, IfOk};
-ghost use Rattle.keyman_run.specs.Endings.{sound_line};
+ghost use Rattle.std.specs.Prelude.{◌≡◌};
 ghost use Rattle.keyman_run.specs.Orders.{keys_work};
-ghost use Rattle.keyman_run.specs.Reasons.{place_line};
 ghost use Rattle.keyman_run.specs.Steps.{Gives, itself};
 
 use crate::preparing::{Stop, read_stop};
-use crate::reason::Reason;
+use keyman_lines::Reason;
 use keyman_words::{FileName, read};
+use kmn_base::Code;
 use kmn_base::limits::TEXT_BYTES;
-use kmn_base::{Code, Memory, Seq, Text};
 use kmn_outside::Folder;
 use rule_model::Tables;
 use std::alloc::Global;
@@ -52,32 +50,4 @@ impl From<LayoutError> for Stop {
             LayoutError::Memory => Stop::Memory,
         }
     }
-}
-
-/// The line of a rule that a layout breaks, with its place.
-#[tactic(auto, unfolding(crate::specs::Reasons::place_line))]
-pub fn place_line(alloc: Global, fault: LayoutFault) -> Result<Text, Memory>
-    ensures { IfOk result (λ line. line ≡ place_line fault) }
-{
-    let mut line = Seq::from_slice(alloc, b"refused ")?;
-    line.extend_from_slice(fault.code.text())?;
-    let LayoutFault {
-        platform,
-        layer,
-        row,
-        key,
-        ..
-    } = fault;
-    let rest = format!(in alloc; " platform {platform} layer {layer} row {row} key {key}\n")?;
-    line.extend_from_slice(rest.as_bytes())?;
-    Ok(line)
-}
-
-/// The line of a layout that keeps all rules.
-#[tactic(auto, unfolding(crate::specs::Endings::sound_line))]
-pub fn sound_line(alloc: Global, count: usize) -> Result<Text, Memory>
-    ensures { IfOk result (λ line. line ≡ sound_line count) }
-{
-    let line = format!(in alloc; "layout sound keys={count}\n")?;
-    Ok(Seq::from_vec(line.into_bytes()))
 }

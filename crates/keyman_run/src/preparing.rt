@@ -5,7 +5,7 @@ ghost use Rattle.kmn_compiler.specs.Picture.{picture_name};
 ghost use Rattle.keyman_run.specs.Orders.{bytes_work, compiled_work, file_work, job_work, picture_work, script_work, source_work};
 ghost use Rattle.keyman_run.specs.Steps.{Gives, IsCompiled, itself, prepared_job, first_line, read_stop};
 
-use crate::reason::Reason;
+use keyman_lines::Reason;
 use keyman_words::{FileName, beside, read};
 use kmn_base::limits::{FILE_BYTES, PICTURE_BYTES, TEXT_BYTES};
 use kmn_base::{Code, CompileError, Memory, Refusal, Seq};
@@ -237,7 +237,7 @@ pub fn read_file<F: Folder>(
 }
 
 /// The names of the own keys of a session's file.
-fn own_names<'s>(session: &'s Session<'_>) -> &'s KeyDictionary
+pub fn own_names<'s>(session: &'s Session<'_>) -> &'s KeyDictionary
     ensures { result.now ≡ (tab session.now.tables).dictionary }
 {
     session.engine().names()
@@ -256,7 +256,7 @@ pub fn read_own_entries<F: Folder>(
 }
 
 /// A refusal at line 1.
-fn first_line(code: Code) -> Reason
+pub fn first_line(code: Code) -> Reason
     ensures { result ≡ first_line code }
 {
     Reason::Line(Refusal { line: 1, code })

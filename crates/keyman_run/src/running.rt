@@ -5,24 +5,25 @@ ghost use Rattle.rule_model.specs.Trace.{trace};
 ghost use Rattle.rule_model.specs.Transcript.{events_of, transcript};
 ghost use Rattle.play_session.specs.Session.{first_session};
 ghost use Rattle.keyman_run.specs.Asked.{HasWritten};
-ghost use Rattle.keyman_run.specs.Endings.{compiled_line, decompiled_line, sound_line, valid_line, end_status, play_status};
+ghost use Rattle.keyman_run.specs.Endings.{end_status, play_status};
+ghost use Rattle.keyman_lines.specs.Lines.{compiled_line, decompiled_line, sound_line, valid_line};
 ghost use Rattle.keyman_run.specs.Orders.{bytes_play_work, compile_work, decompile_work, layout_work, play_work, tables_layout_work, tables_play_work, test_work, verify_work};
 ghost use Rattle.keyman_run.specs.Inputs.{tables_of_file};
 ghost use Rattle.keyman_run.specs.Loads.{load_text};
-ghost use Rattle.keyman_run.specs.Reasons.{reason_line};
+ghost use Rattle.keyman_lines.specs.Reasons.{reason_line};
 ghost use Rattle.keyman_run.specs.Run.{Does, TextMeans};
 ghost use Rattle.keyman_run.specs.Runs.{Runs};
 ghost use Rattle.keyman_run.specs.Steps.{IsCompiled, Tells, TellsFile, TellsLoad, TellsStop, write_status};
 
-use crate::file_lines::valid_line;
-use crate::layouts::{read_keys, sound_line};
-use crate::lines::{compiled_line, reason_line};
+use crate::hosting::host_on_file;
+use crate::layouts::read_keys;
 use crate::loading::played_load;
 use crate::preparing::{Prepared, Stop, prepare, read_and_compile, read_file, read_own_entries};
-use crate::reason::Reason;
+use crate::shadowing::shadow_rules;
 use crate::status::Status;
-use crate::texts::{decompiled_line, read_text};
+use crate::texts::read_text;
 use crate::tracing::trace_rules;
+use keyman_lines::{Reason, compiled_line, decompiled_line, reason_line, sound_line, valid_line};
 use keyman_words::{Command, FileName, command_of, write};
 use kmn_base::{Memory, Text};
 use kmn_compiler::Compiled;
@@ -50,6 +51,8 @@ pub fn run<F: Folder, S: Sink>(alloc: Global, words: &[Text], folder: &mut F, ou
         }
         Some(Command::Load { number }) => load(alloc, number, out),
         Some(Command::Trace { source, keys }) => trace_rules(alloc, &source, &keys, folder, out),
+        Some(Command::Shadow { source }) => shadow_rules(alloc, &source, folder, out),
+        Some(Command::Host { file, keys }) => host_on_file(alloc, &file, &keys, folder, out),
         None => Status::Words,
     }
 }
@@ -282,8 +285,8 @@ fn load<S: Sink>(alloc: Global, number: u32, out: &mut S) -> Status
     }
 }
 
-/// Prints a line, and ends with this status.
-fn tell_line<S: Sink>(line: &[u8], status: Status, out: &mut S) -> Status
+/// Prints a line, or several, and ends with this status.
+pub fn tell_line<S: Sink>(line: &[u8], status: Status, out: &mut S) -> Status
     requires { (status ≡ Status.Done) ⊎ (status ≡ Status.Refused) }
     ensures { Tells status line.now S.Sink out.old out.new result }
 {
@@ -376,7 +379,7 @@ fn refuse<S: Sink>(alloc: Global, why: Reason, out: &mut S) -> Status
 }
 
 /// The status of a run that ends with a play.
-fn end_status(end: PlayEnd) -> Status
+pub fn end_status(end: PlayEnd) -> Status
     ensures { result ≡ end_status end }
 {
     match end {

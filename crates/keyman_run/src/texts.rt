@@ -1,17 +1,14 @@
-//! The texts of compiled files: the one that a file is decompiled to, and the lines of it.
+//! The texts that compiled files are decompiled to.
 
 ghost use Rattle.std.specs.Prelude.{◌≡◌, IfOk, IsSomeAnd, IsTrue};
-ghost use Rattle.keyman_run.specs.Endings.{decompiled_line};
 ghost use Rattle.keyman_run.specs.Inputs.{IsTextOf, text_of_file};
 ghost use Rattle.keyman_run.specs.Orders.{text_work};
-ghost use Rattle.keyman_run.specs.Reasons.{spelling_line};
 ghost use Rattle.keyman_run.specs.Steps.{Gives, States, itself};
 
 use crate::preparing::{Stop, read_file};
-use crate::reason::Reason;
-use decompile_causes::NoSpelling;
+use keyman_lines::Reason;
 use keyman_words::FileName;
-use kmn_base::{Memory, Seq, Text};
+use kmn_base::Text;
 use kmn_outside::Folder;
 use kmx_decompiler::{DecompileError, decompile};
 use kmx_verifier::verify;
@@ -50,23 +47,4 @@ impl From<DecompileError> for Stop {
             DecompileError::Memory => Stop::Memory,
         }
     }
-}
-
-/// The line of why a file has no text.
-#[tactic(auto, unfolding(crate::specs::Reasons::spelling_line))]
-pub fn spelling_line(alloc: Global, why: NoSpelling) -> Result<Text, Memory>
-    ensures { IfOk result (λ line. line ≡ spelling_line why) }
-{
-    let line = format!(in alloc; "refused {why}\n")?;
-    Ok(Seq::from_vec(line.into_bytes()))
-}
-
-/// The line of a text that was written: its size in bytes.
-#[tactic(auto, unfolding(crate::specs::Endings::decompiled_line))]
-pub fn decompiled_line(alloc: Global, text: &Text) -> Result<Text, Memory>
-    ensures { IfOk result (λ line. line ≡ decompiled_line text.now) }
-{
-    let size = text.len();
-    let line = format!(in alloc; "decompiled bytes={size}\n")?;
-    Ok(Seq::from_vec(line.into_bytes()))
 }

@@ -7,14 +7,12 @@
 ghost use Rattle.std.specs.Prelude.{◌≡◌, IfErr, IfOk};
 ghost use Rattle.keyman_run.specs.Runs.{Runs};
 
-mod words;
-
 use keyman_run::{Status, run};
 use kmn_base::{Memory, Seq, Text};
 use kmn_outside::{DiskFolder, Folder, Sink, StreamSink};
+use program_words::words;
 use std::alloc::Global;
 use std::process::ExitCode;
-use words::words;
 
 /// Does what the words ask for. Without memory for the words nothing is asked for and nothing printed.
 fn run_words<F: Folder, S: Sink>(

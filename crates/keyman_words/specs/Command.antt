@@ -15,26 +15,35 @@ pub data Request : Type 0 where
   Layout : (source layout : List ℕ) → Request
   Load : (number : ℕ) → Request
   Trace : (source keys : List ℕ) → Request
+  Shadow : (source : List ℕ) → Request
+  Host : (file keys : List ℕ) → Request
 
 -- the number that a word is: 1 to 9 decimal digits
 abbrev pub load_number : List ℕ → Option ℕ
 load_number word =
     if nat_lt 0 (length word) && nat_le (length word) 9 && are_digits 10 word then Some (bounded_value 999999999 10 word) else None
 
--- `verify FILE`, `load NUMBER`, `compile SOURCE FILE`, `decompile FILE SOURCE`, `play FILE KEYS`, `layout SOURCE LAYOUT`,
+-- `play FILE KEYS` or `host FILE KEYS`
+abbrev pub play_request : (word file keys : List ℕ) → Option Request
+play_request word file keys =
+    if bytes_eq word (codes "play") then Some (Play file keys)
+    else if bytes_eq word (codes "host") then Some (Host file keys)
+    else None
+
+-- these, `verify FILE`, `shadow SOURCE`, `load NUMBER`, `compile SOURCE FILE`, `decompile FILE SOURCE`, `layout SOURCE LAYOUT`,
 -- `trace SOURCE KEYS` or `test SOURCE FILE KEYS`; all other words ask for nothing
 abbrev pub request_of : List (List ℕ) → Option Request
 request_of (word ∷ other ∷ []) =
     if bytes_eq word (codes "verify") then Some (Verify other)
+    else if bytes_eq word (codes "shadow") then Some (Shadow other)
     else if bytes_eq word (codes "load") then option_map Load (load_number other)
     else None
 request_of (word ∷ first ∷ second ∷ []) =
     if bytes_eq word (codes "compile") then Some (Compile first second)
     else if bytes_eq word (codes "decompile") then Some (Decompile first second)
-    else if bytes_eq word (codes "play") then Some (Play first second)
     else if bytes_eq word (codes "layout") then Some (Layout first second)
     else if bytes_eq word (codes "trace") then Some (Trace first second)
-    else None
+    else play_request word first second
 request_of (word ∷ source ∷ file ∷ keys ∷ []) = if bytes_eq word (codes "test") then Some (Test source file keys) else None
 request_of _ = None
 
@@ -52,3 +61,5 @@ requested (command.Play file keys) = Play file keys
 requested (command.Layout source layout) = Layout source layout
 requested (command.Load number) = Load number
 requested (command.Trace source keys) = Trace source keys
+requested (command.Shadow source) = Shadow source
+requested (command.Host file keys) = Host file keys

@@ -1,5 +1,5 @@
 ghost use Rattle.std.specs.Prelude.{◌≡◌, [], ◌∷◌, option_map};
-ghost use Rattle.keyman_words.specs.Command.{load_number, request_of, requested};
+ghost use Rattle.keyman_words.specs.Command.{load_number, play_request, request_of, requested};
 ghost use Rattle.keyman_words.specs.Command.Request.{Load};
 
 use crate::file_name::FileName;
@@ -40,6 +40,13 @@ pub enum Command<'a> {
         source: FileName<'a>,
         keys: FileName<'a>,
     },
+    Shadow {
+        source: FileName<'a>,
+    },
+    Host {
+        file: FileName<'a>,
+        keys: FileName<'a>,
+    },
 }
 
 /// The command that the words are, None where they are none. Words compare exactly; those that are names of files become such
@@ -65,13 +72,18 @@ pub fn command_of(words: &[Text]) -> Option<Command<'_>>
 /// The largest number of nine digits.
 const LARGEST_NUMBER: u32 = 999_999_999;
 
-/// The command of one file or number, `verify` or `load`, None for another word.
+/// The command of one file or number, `verify`, `shadow` or `load`, None for another word.
 fn command_of_one<'a>(word: &[u8], other: &'a Text) -> Option<Command<'a>>
     ensures { option_map requested result ≡ request_of (word.now ∷ other.now ∷ []) }
 {
     if word == b"verify".as_slice() {
         return Some(Command::Verify {
             file: FileName::of(other),
+        });
+    }
+    if word == b"shadow".as_slice() {
+        return Some(Command::Shadow {
+            source: FileName::of(other),
         });
     }
     if word == b"load".as_slice() {
@@ -92,7 +104,7 @@ fn load_command<'a>(word: &[u8]) -> Option<Command<'a>>
     })
 }
 
-/// The command of two files, `compile`, `decompile`, `play`, `layout` or `trace`, None for another word.
+/// The command of two files, `compile`, `decompile`, `layout`, `trace`, `play` or `host`, None for another word.
 fn command_of_two<'a>(word: &[u8], first: FileName<'a>, second: FileName<'a>) -> Option<Command<'a>>
     ensures { option_map requested result ≡ request_of (word.now ∷ first.entry ∷ second.entry ∷ []) }
 {
@@ -108,12 +120,6 @@ fn command_of_two<'a>(word: &[u8], first: FileName<'a>, second: FileName<'a>) ->
             source: second,
         });
     }
-    if word == b"play".as_slice() {
-        return Some(Command::Play {
-            file: first,
-            keys: second,
-        });
-    }
     if word == b"layout".as_slice() {
         return Some(Command::Layout {
             source: first,
@@ -125,6 +131,19 @@ fn command_of_two<'a>(word: &[u8], first: FileName<'a>, second: FileName<'a>) ->
             source: first,
             keys: second,
         });
+    }
+    play_command(word, first, second)
+}
+
+/// The command of a compiled file and a script, `play` or `host`, None for another word.
+fn play_command<'a>(word: &[u8], file: FileName<'a>, keys: FileName<'a>) -> Option<Command<'a>>
+    ensures { option_map requested result ≡ play_request word.now file.entry keys.entry }
+{
+    if word == b"play".as_slice() {
+        return Some(Command::Play { file, keys });
+    }
+    if word == b"host".as_slice() {
+        return Some(Command::Host { file, keys });
     }
     None
 }

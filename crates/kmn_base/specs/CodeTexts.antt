@@ -1,6 +1,6 @@
 use Rattle.std.specs.Prelude.{List, ℕ, codes}
 use Rattle.kmn_base.specs.declared.codes.Code.{Code}
-use Rattle.kmn_base.specs.declared.codes.Code.TheVariants.{L01, L02, L03, L04, L05, S01, S02, S03, S04, S05, S06, S07, S08, S09, S10, S11, S12, C01, C02, C03, C04, C05, C06, C07, C08, C09, C10, C11, C12, C13, C14, C15, C16, C17, C18, C19, C20, C21, C22, C23, C24, C25, V01, V02, V03, V04, V05, V06, V07, V08, V09, V10, V11, V12, V13, V14, V15, V16, P01, P02, P03, P04, P05, P06, P07, P08, X1, X2, X3, T1, T2, T3, T4, T5, T6, T7, G1, E1, E2}
+use Rattle.kmn_base.specs.declared.codes.Code.TheVariants.{L01, L02, L03, L04, L05, S01, S02, S03, S04, S05, S06, S07, S08, S09, S10, S11, S12, C01, C02, C03, C04, C05, C06, C07, C08, C09, C10, C11, C12, C13, C14, C15, C16, C17, C18, C19, C20, C21, C22, C23, C24, C25, V01, V02, V03, V04, V05, V06, V07, V08, V09, V10, V11, V12, V13, V14, V15, V16, P01, P02, P03, P04, P05, P06, P07, P08, X1, X2, X3, T1, T2, T3, T4, T5, T6, T7, G1, G2, H1, H2, E1, E2}
 
 -- the code as a refusal line prints it: its name
 abbrev pub code_text : Code → List ℕ
@@ -81,5 +81,8 @@ code_text T5 = codes "T5"
 code_text T6 = codes "T6"
 code_text T7 = codes "T7"
 code_text G1 = codes "G1"
+code_text G2 = codes "G2"
+code_text H1 = codes "H1"
+code_text H2 = codes "H2"
 code_text E1 = codes "E1"
 code_text E2 = codes "E2"

@@ -84,6 +84,9 @@ pub enum Code {
     T6,
     T7,
     G1,
+    G2,
+    H1,
+    H2,
     E1,
     E2,
 }
@@ -114,7 +117,7 @@ impl Code {
             C13 C14 C15 C16 C17 C18 C19 C20 C21 C22 C23 C24 C25
             V01 V02 V03 V04 V05 V06 V07 V08 V09 V10 V11 V12 V13 V14 V15 V16
             P01 P02 P03 P04 P05 P06 P07 P08
-            X1 X2 X3 T1 T2 T3 T4 T5 T6 T7 G1 E1 E2)
+            X1 X2 X3 T1 T2 T3 T4 T5 T6 T7 G1 G2 H1 H2 E1 E2)
     }
 }
 

@@ -5,10 +5,11 @@ use Rattle.rule_model.specs.declared.program.Program.{Program}
 use Rattle.rule_model.specs.declared.tables.Store.{Store}
 use Rattle.rule_model.specs.Naming.{stores_of}
 use Rattle.rule_model.specs.Tab.{element_char, store_elements}
+use Rattle.rule_model.specs.declared.system.TheConstants.{BITMAP}
 
 -- whether a store is `&bitmap`
 abbrev pub is_bitmap : Store → Bool
-is_bitmap store = nat_eq store.system 1
+is_bitmap store = nat_eq store.system BITMAP
 
 -- the characters among elements, as a text; there is none where there are no elements
 abbrev pub picture_text : List Element → Option (List ℕ)

@@ -12,6 +12,7 @@ use Rattle.kmn_items.specs.declared.syntax.Slot.TheVariants as slot
 use Rattle.kmn_items.specs.TokenTexts.{LineToken, text_at, is_equal, quoted}
 use Rattle.kmn_items.specs.Words.{is_system_name, bare_name}
 use Rattle.kmn_items.specs.Numbers.{offset_value}
+use Rattle.rule_model.specs.declared.system.TheConstants.{LAYER, PLATFORM}
 
 -- the form of the item of each word, its own word first
 abbrev pub word_slots : ItemWord → List Slot
@@ -53,7 +54,7 @@ option_id name = named_in option_ids (bare_name name)
 
 -- whether an id is that of a system option
 abbrev pub is_option_id : ℕ → Bool
-is_option_id id = nat_eq id 31 || nat_eq id 33
+is_option_id id = nat_eq id PLATFORM || nat_eq id LAYER
 
 -- a condition on a system option, which is left out for other system stores
 abbrev pub system_condition : Option ℕ → Bool → List ℕ → SrcItem
@@ -69,7 +70,7 @@ condition name equal value =
 -- a set of a system option, which is left out but for the layer
 abbrev pub system_setting : Option ℕ → List ℕ → SrcItem
 system_setting None value = source.OutOfProfile
-system_setting (Some id) value = if nat_eq id 33 then source.SetSystem id value else source.OutOfProfile
+system_setting (Some id) value = if nat_eq id LAYER then source.SetSystem id value else source.OutOfProfile
 
 -- a set of a store or of the layer
 abbrev pub setting : List ℕ → List ℕ → SrcItem

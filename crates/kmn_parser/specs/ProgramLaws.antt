@@ -16,6 +16,7 @@ use Rattle.rule_model.specs.declared.program.Program.{Program}
 use Rattle.kmn_items.specs.Words.{is_own_key}
 use Rattle.kmn_items.specs.Forms.{is_option_id}
 use Rattle.kmn_parser.specs.Source.{parsed}
+use Rattle.rule_model.specs.declared.system.TheConstants.{LAYER}
 
 -- a character of a keyboard: a scalar value other than U+0000 and U+FFFF
 pub record IsCharacter (c : ℕ) : Type 0 where
@@ -55,7 +56,7 @@ IsReadItem (source.Unequal name value) = All IsCharacter value
 IsReadItem (source.Set name value) = All IsCharacter value
 IsReadItem (source.SystemEqual id value) = (is_option_id id ≡ true) × All IsCharacter value
 IsReadItem (source.SystemUnequal id value) = (is_option_id id ≡ true) × All IsCharacter value
-IsReadItem (source.SetSystem id value) = (nat_eq id 33 ≡ true) × All IsCharacter value
+IsReadItem (source.SetSystem id value) = (nat_eq id LAYER ≡ true) × All IsCharacter value
 IsReadItem other = Unit {0}
 
 -- what stands as the key of a rule: a character, a virtual key, or `any`

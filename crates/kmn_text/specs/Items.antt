@@ -9,6 +9,7 @@ use Rattle.rule_model.specs.declared.program.SrcItem.{SrcItem}
 use Rattle.rule_model.specs.declared.program.SrcItem.TheVariants as source
 use Rattle.kmn_items.specs.TokenTexts.{LineToken}
 use Rattle.kmn_text.specs.Texts.{word, name_token, char_token, quoted_token, opening, closing, bracket_opening, bracket_closing, comma, equal, unequal}
+use Rattle.rule_model.specs.declared.system.TheConstants.{PLATFORM}
 
 -- a word and a token in parentheses
 abbrev pub call : List ℕ → LineToken → List (Option LineToken)
@@ -47,7 +48,7 @@ compared lead name sign value =
 
 -- the name of a system option, with its &
 abbrev pub option_name : ℕ → List ℕ
-option_name id = if nat_eq id 31 then codes "&platform" else codes "&layer"
+option_name id = if nat_eq id PLATFORM then codes "&platform" else codes "&layer"
 
 -- an item; those that no compiled file has are not written
 abbrev pub item_pieces : SrcItem → List (Option LineToken)

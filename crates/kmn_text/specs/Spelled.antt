@@ -29,6 +29,7 @@ use Rattle.kmn_parser.specs.Line.{system_stores}
 use Rattle.kmn_parser.specs.ProgramLaws.{IsCharacter}
 use Rattle.kmn_text.specs.Names.{is_inner, is_source_name}
 use Rattle.kmn_text.specs.Programs.{program_text}
+use Rattle.rule_model.specs.declared.system.TheConstants.{LAYER}
 
 -- a name: UTF-8, which a source reads as it is
 pub record IsSpelledName (name : List ℕ) : Type 0 where
@@ -79,7 +80,7 @@ IsSpelledItem place (source.SystemUnequal id value) = (is_option_id id ≡ true)
 IsSpelledItem place source.Nul = Unit {0}
 IsSpelledItem place (source.Enter name) = IsSpelledName name
 IsSpelledItem place (source.Set name value) = IsStoreName name × IsSpelledValue value
-IsSpelledItem place (source.SetSystem id value) = (nat_eq id 33 ≡ true) × IsSpelledValue value
+IsSpelledItem place (source.SetSystem id value) = (nat_eq id LAYER ≡ true) × IsSpelledValue value
 IsSpelledItem place (source.Save name) = IsSpelledName name
 IsSpelledItem place (source.Reset name) = IsSpelledName name
 IsSpelledItem place source.Beep = Unit {0}

@@ -12,6 +12,7 @@ use Rattle.kmn_items.specs.TokenTexts.{LineToken}
 use Rattle.kmn_parser.specs.Line.{system_stores}
 use Rattle.kmn_text.specs.Texts.{word, name_token, opening, closing, plus, arrow}
 use Rattle.kmn_text.specs.Items.{item_pieces, spaced_items, joined_items, value_token}
+use Rattle.rule_model.specs.declared.system.TheConstants.{VERSION}
 
 -- the name of a system store of an id, with its &
 abbrev pub system_name : ℕ → List ℕ
@@ -29,7 +30,7 @@ item_char i = None
 -- what stands behind a store's name: the characters of a version in quotes, else the items
 abbrev pub content_pieces : StoreDef → List (Option LineToken)
 content_pieces store =
-    if nat_eq store.system 8 then None ∷ Some (value_token (filter_map item_char store.items)) ∷ [] else joined_items store.items
+    if nat_eq store.system VERSION then None ∷ Some (value_token (filter_map item_char store.items)) ∷ [] else joined_items store.items
 
 -- store(name) and its content
 abbrev pub store_pieces : StoreDef → List (Option LineToken)

@@ -18,6 +18,7 @@ use Rattle.rule_model.specs.declared.tables.Group.{Group}
 use Rattle.rule_model.specs.declared.tables.Tables.{Tables}
 use Rattle.kmx_format.specs.FileUnits.{unit_item_of_element, unit_item_of_pattern, unit_item_of_output, name_units}
 use Rattle.kmx_format.specs.File.{all_rules, file_of}
+use Rattle.rule_model.specs.declared.system.TheConstants.{LAYER, PLATFORM}
 
 -- the versions of the format: 6.0, 7.0, 8.0, 9.0, 10.0, 14.0, 15.0, 16.0, 17.0
 abbrev pub is_version : ℕ → Bool
@@ -63,12 +64,12 @@ groups_of_output _ = []
 
 -- whether an item asks for a system option that a file can ask for: the platform or the layer, which alone is set
 abbrev pub has_system_id : Pat → Bool
-has_system_id (pattern.SystemEqual id value) = nat_eq id 31 || nat_eq id 33
-has_system_id (pattern.SystemUnequal id value) = nat_eq id 31 || nat_eq id 33
+has_system_id (pattern.SystemEqual id value) = nat_eq id PLATFORM || nat_eq id LAYER
+has_system_id (pattern.SystemUnequal id value) = nat_eq id PLATFORM || nat_eq id LAYER
 has_system_id _ = true
 
 abbrev pub sets_system_id : Out → Bool
-sets_system_id (output.SetSystem id value) = nat_eq id 33
+sets_system_id (output.SetSystem id value) = nat_eq id LAYER
 sets_system_id _ = true
 
 -- whether an item of a context is `any`

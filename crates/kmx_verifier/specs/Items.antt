@@ -1,7 +1,8 @@
 -- What the items of a file's strings may be, name and point at.
-use Rattle.std.specs.Prelude.{ℕ, zero, suc, ◌<◌, ◌||◌, Bool, true, false, nat_eq, List, [], ◌∷◌, Option, Some, None, slice_get, take}
+use Rattle.std.specs.Prelude.{ℕ, zero, suc, ◌+◌, ◌<◌, ◌||◌, Bool, true, false, nat_eq, List, [], ◌∷◌, Option, Some, None, slice_get, take}
 use Rattle.kmn_base.specs.declared.units.UnitItem.{UnitItem}
 use Rattle.kmn_base.specs.declared.units.UnitItem.TheVariants.{Char, Any, Index, Context, Nul, Enter, Stop, Beep, Dead, Key, ContextAt, NotAny, Set, Test, SystemTest, SetSystem, Save, Reset}
+use Rattle.rule_model.specs.declared.system.TheConstants.{LAYER, PLATFORM}
 use Rattle.kmx_verifier.specs.declared.faults.StringKind.{StringKind}
 use Rattle.kmx_verifier.specs.declared.faults.StringKind.TheVariants as of
 use Rattle.kmx_verifier.specs.declared.faults.Target.{Target}
@@ -14,8 +15,8 @@ stands_in_store (Dead mark) = true
 stands_in_store (Key flags code) = true
 stands_in_store _ = false
 
--- in a context: character, deadkey, any, notany, index, context(n), if, nul, and a condition on the platform, 31, or the
--- layer, 33; a file counts these numbers from 1
+-- in a context: character, deadkey, any, notany, index, context(n), if, nul, and a condition on the platform or the layer;
+-- a file counts their ids from 1, as it counts stores
 abbrev pub stands_in_context : UnitItem → Bool
 stands_in_context (Char c) = true
 stands_in_context (Dead mark) = true
@@ -24,7 +25,7 @@ stands_in_context (NotAny store) = true
 stands_in_context (Index store offset) = true
 stands_in_context (ContextAt offset) = true
 stands_in_context (Test store comparison value) = true
-stands_in_context (SystemTest system comparison value) = nat_eq system 32 || nat_eq system 34
+stands_in_context (SystemTest system comparison value) = nat_eq system (PLATFORM + 1) || nat_eq system (LAYER + 1)
 stands_in_context Nul = true
 stands_in_context _ = false
 
@@ -34,7 +35,7 @@ stands_in_match (Char c) = true
 stands_in_match (Dead mark) = true
 stands_in_match (Enter group) = true
 stands_in_match (Set store value) = true
-stands_in_match (SetSystem system value) = nat_eq system 34
+stands_in_match (SetSystem system value) = nat_eq system (LAYER + 1)
 stands_in_match (Save store) = true
 stands_in_match (Reset store) = true
 stands_in_match Nul = true

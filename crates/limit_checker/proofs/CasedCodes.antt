@@ -23,7 +23,7 @@ use Rattle.limit_checker.specs.declared.key_codes.KeyCodes.{KeyCodes}
 use Rattle.limit_checker.specs.declared.cased.StoreCodes.{StoreCodes}
 use Rattle.limit_checker.specs.KeyCodes.{is_table_code, has_mark, has_code, no_codes, with_code, either_marks, joined}
 use Rattle.limit_checker.specs.Cased.{codes_at, codes_named, with_item_codes, with_items_codes, with_store_codes, is_cased, codes_from, no_stores, codes_of_cased}
-use Rattle.store_table.proofs.Naming.{position_cons, same_either_way}
+use Rattle.virtual_keys.proofs.NamePlaces.{position_cons, same_either_way}
 
 -- the codes of the key table among codes, and whether a code is one of them
 abbrev pub is_among : List ℕ → ℕ → Bool

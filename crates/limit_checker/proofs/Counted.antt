@@ -22,7 +22,7 @@ use Rattle.limit_checker.specs.Cased.{codes_of_cased}
 use Rattle.limit_checker.specs.Counting.{capped, count_at, count_named, records_named, virtual_count_of, count_of, records_of, output_count_of, total, with_store, with_stores, no_counts}
 use Rattle.limit_checker.specs.Limits.{item_size, output_size, virtual_count, element_count}
 use Rattle.limit_checker.proofs.CasedCodes.{is_among, number_is_among, program_codes}
-use Rattle.store_table.proofs.Naming.{position_cons, same_either_way}
+use Rattle.virtual_keys.proofs.NamePlaces.{position_cons, same_either_way}
 
 pub from_zero : (n : ℕ) → 0 + n ≡ n
 from_zero n = omega arith

@@ -13,7 +13,7 @@ use Rattle.rule_model.specs.Tab.{distinct_onto}
 use Rattle.rule_model.specs.Naming.{mark_names, key_names}
 use Rattle.compile_laws.specs.Numbers.{item_values}
 use Rattle.store_table.specs.Names.{is_named}
-use Rattle.store_table.proofs.Naming.{with_name_new}
+use Rattle.virtual_keys.proofs.NamePlaces.{with_name_new}
 use Rattle.limit_checker.specs.declared.totals.Totals.{Totals}
 use Rattle.limit_checker.specs.Limits.{names_size}
 use Rattle.limit_checker.specs.Counting.{capped}

@@ -9,6 +9,7 @@ use Rattle.rule_model.specs.Naming.{is_dropped}
 use Rattle.limit_checker.specs.declared.key_codes.KeyCodes.{KeyCodes}
 use Rattle.limit_checker.specs.declared.cased.StoreCodes.{StoreCodes}
 use Rattle.limit_checker.specs.KeyCodes.{no_codes, with_code, joined}
+use Rattle.rule_model.specs.declared.system.TheConstants.{CASED_KEYS}
 
 abbrev pub codes_at : List KeyCodes → Option ℕ → KeyCodes
 codes_at codes None = no_codes
@@ -36,7 +37,7 @@ with_store_codes before store =
 
 -- whether a statement is of `&casedkeys`
 abbrev pub is_cased : StoreDef → Bool
-is_cased store = nat_eq store.system 39
+is_cased store = nat_eq store.system CASED_KEYS
 
 -- the codes of the first `&casedkeys`, behind other stores
 abbrev pub codes_from : StoreCodes → List StoreDef → KeyCodes

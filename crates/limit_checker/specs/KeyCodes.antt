@@ -1,10 +1,11 @@
 -- Sets of codes of the key table.
 use Rattle.std.specs.Prelude.{ℕ, Bool, true, false, ◌&&◌, ◌||◌, if◌then◌else◌, nat_lt, List, [], ◌∷◌, replicate, slice_get, slice_set, unwrap_or}
 use Rattle.limit_checker.specs.declared.key_codes.KeyCodes.{KeyCodes}
+use Rattle.virtual_keys.specs.declared.dictionary.TheConstants.{FIRST_OWN_CODE}
 
 -- whether a code is one of the key table: an own key has none of them
 abbrev pub is_table_code : ℕ → Bool
-is_table_code code = nat_lt 0 code && nat_lt code 256
+is_table_code code = nat_lt 0 code && nat_lt code FIRST_OWN_CODE
 
 -- whether a code is in a set
 abbrev pub has_mark : List Bool → ℕ → Bool
@@ -15,7 +16,7 @@ has_code codes code = has_mark codes.marks code
 
 -- the empty set
 unfoldable pub no_codes : KeyCodes
-no_codes = record { marks = replicate 256 false }
+no_codes = record { marks = replicate FIRST_OWN_CODE false }
 
 -- a set with a code more, where it is one of the key table
 abbrev pub with_code : KeyCodes → ℕ → KeyCodes

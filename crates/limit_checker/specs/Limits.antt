@@ -24,6 +24,7 @@ use Rattle.rule_model.specs.Hold.{is_exchanged}
 use Rattle.compile_laws.specs.Numbers.{item_values}
 use Rattle.store_table.specs.First.{broken, at_line, earlier, first_of}
 use Rattle.store_table.specs.Known.{Known, known, statement_elements}
+use Rattle.virtual_keys.specs.declared.dictionary.TheConstants.{FIRST_OWN_CODE}
 
 -- a statement that has items
 pub data Statement : Type 0 where
@@ -59,7 +60,7 @@ output_size stores output = sum (map (item_size stores) output)
 
 -- the codes of the cased keys: those of the key table, since others are refused before the limits
 abbrev pub cased_codes : Known → List ℕ
-cased_codes known = filter (λ code. nat_lt 0 code && nat_lt code 256) known.cased
+cased_codes known = filter (λ code. nat_lt 0 code && nat_lt code FIRST_OWN_CODE) known.cased
 
 -- how many records a key of these flags and this code has: two where it exchanges shift and caps lock
 abbrev pub virtual_count : List ℕ → ℕ → ℕ → ℕ

@@ -3,7 +3,8 @@
 //! It stands on `virtual_keys` for the names of keys and on `rule_model`, whose `Entry` is what a script has and whose
 //! definitions say what is printed. `specs/Entries` defines the entries of a script, or its first refusal, line by line
 //! over the words of each line. The layer above uses `read_script`, which answers exactly these, and a function for each
-//! line of a transcript.
+//! line of a transcript. Scripts that have further lines read theirs by the readers of words, numbers and presses, and hand
+//! all other lines to `read_line`.
 #![tactic(auto)]
 
 mod errors;
@@ -16,5 +17,8 @@ mod transcript;
 mod words;
 
 pub use errors::ScriptError;
-pub use lines::read_script;
+pub use lines::{first_line, read_line, read_script, without_mark};
+pub use presses::{first_piece, needed_press, opened};
+pub use reader::{Reader, needed_number, nothing_more, refused};
 pub use transcript::{end_line, expect_line, line_of, refused_event_line, text_line, value_line};
+pub use words::{behind_word, first_word, without_blanks};

@@ -104,8 +104,8 @@ fn read_text(
     }
 }
 
-/// Reads a line.
-fn read_line(
+/// Reads a line, with all codes but P01 and P06, which are of a whole script.
+pub fn read_line(
     alloc: Global,
     dictionary: &KeyDictionary,
     line: u32,
@@ -148,7 +148,7 @@ fn end_size(text: &[u8]) -> usize
 
 /// The first line of a text that isn't empty, and what stands behind its line end.
 #[tactic(auto, using(crate::proofs::TextLaws::first_steps))]
-fn first_line(text: &[u8]) -> (&[u8], &[u8])
+pub fn first_line(text: &[u8]) -> (&[u8], &[u8])
     requires { 0 < length text.now }
     ensures parts { text_lines text.now ≡ result.0.now ∷ text_lines result.1.now }
     ensures nearer { length result.1.now < length text.now }
@@ -181,7 +181,7 @@ fn read_lines(
 }
 
 /// The text without a first U+FEFF.
-fn without_mark(bytes: &[u8]) -> &[u8]
+pub fn without_mark(bytes: &[u8]) -> &[u8]
     ensures is { result.now ≡ without_mark bytes.now }
     ensures within { length result.now ≤ length bytes.now }
 {

@@ -60,8 +60,8 @@ fn press_of(dictionary: &KeyDictionary, words: TextWords<'_>) -> Option<KeyPress
     Some(KeyPress { code, mods })
 }
 
-/// What stands inside the bracket that a text begins with; P08 where none begins.
-fn opened(line: u32, text: &[u8]) -> Result<&[u8], ScriptError>
+/// What stands behind the `[` that a text begins with; P08 where none begins.
+pub fn opened(line: u32, text: &[u8]) -> Result<&[u8], ScriptError>
     ensures { MatchResult result (λ inside. text.now ≡ 91 ∷ inside.now) (λ error. (begins_bracket text.now ≡ false) × (error ≡ ScriptError.Refused (record { line = line; code = P08 }))) }
 {
     match text {
@@ -70,8 +70,8 @@ fn opened(line: u32, text: &[u8]) -> Result<&[u8], ScriptError>
     }
 }
 
-/// The press of a bracket; P03 where its words are none.
-fn needed_press(
+/// The press that the words of a bracket are; P03 where they are none.
+pub fn needed_press(
     dictionary: &KeyDictionary,
     line: u32,
     inside: &[u8],
@@ -106,9 +106,9 @@ fn first_closing(text: &[u8]) -> Option<usize>
     text.iter().position(|byte| *byte == b']')
 }
 
-/// What stands before the first `]` of a text, and what stands behind it.
+/// What stands before the first `]` of a text, and what stands behind it; None where it has none.
 #[tactic(auto, using(crate::proofs::LineLaws::piece_steps))]
-fn first_piece(text: &[u8]) -> Option<(&[u8], &[u8])>
+pub fn first_piece(text: &[u8]) -> Option<(&[u8], &[u8])>
     ensures parts { MatchOption result (slice_split is_closing text.now ≡ text.now ∷ []) (λ parts. slice_split is_closing text.now ≡ parts.0.now ∷ slice_split is_closing parts.1.now) }
     ensures nearer { MatchOption result (Unit {0}) (λ parts. length parts.1.now < length text.now) }
 {

@@ -18,9 +18,9 @@ use rule_model::Entry;
 use std::alloc::Global;
 use std::marker::Model;
 
-/// The entries that were read so far, and how many events are among them.
+/// The entries that were read so far, and how many events were read, those before them included.
 #[derive(Drop)]
-pub(crate) struct Reader {
+pub struct Reader {
     entries: Seq<Entry>,
     events: usize,
 }
@@ -44,8 +44,25 @@ impl Reader {
         }
     }
 
+    /// Before a line that has so many events before it, no entry of which is wanted.
+    pub fn behind(alloc: Global, events: usize) -> Reader
+        ensures { result ≡ record { entries = []; events = events } }
+    {
+        Reader {
+            entries: Seq::new(alloc),
+            events,
+        }
+    }
+
+    /// How many events were read, those before the reader's first line included.
+    pub fn events(&self) -> usize
+        ensures { result ≡ self.now.events }
+    {
+        self.events
+    }
+
     /// The entries.
-    pub(crate) fn into_entries(self) -> Seq<Entry>
+    pub fn into_entries(self) -> Seq<Entry>
         ensures { result ≡ self.entries }
     {
         self.entries
@@ -76,14 +93,14 @@ impl Reader {
 }
 
 /// A rule that a line breaks.
-pub(crate) fn refused(line: u32, code: Code) -> ScriptError
+pub fn refused(line: u32, code: Code) -> ScriptError
     ensures { result ≡ ScriptError.Refused (record { line = line; code = code }) }
 {
     ScriptError::Refused(Refusal { line, code })
 }
 
-/// The number that stands first.
-fn needed_number(line: u32, text: &[u8]) -> Result<u32, ScriptError>
+/// The number that stands first, of one to seven digits; P05 where none does.
+pub fn needed_number(line: u32, text: &[u8]) -> Result<u32, ScriptError>
     ensures { Needs line P05 (number (first_word text.now)) result }
 {
     match number(first_word(text)) {
@@ -112,8 +129,8 @@ fn needed_name<'a>(line: u32, text: &'a [u8]) -> Result<&'a [u8], ScriptError>
     }
 }
 
-/// Nothing stands behind a line that is complete.
-fn nothing_more(line: u32, rest: &[u8]) -> Result<(), ScriptError>
+/// Nothing stands behind a line that is complete; P08 where something does.
+pub fn nothing_more(line: u32, rest: &[u8]) -> Result<(), ScriptError>
     ensures { Passes (nothing_more line rest.now) result }
 {
     match rest {

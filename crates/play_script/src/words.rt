@@ -12,7 +12,7 @@ use kmn_base::slices::behind;
 use kmn_base::texts::character_count;
 
 /// The text from its first byte that is no blank.
-pub(crate) fn without_blanks(text: &[u8]) -> &[u8]
+pub fn without_blanks(text: &[u8]) -> &[u8]
     ensures is { result.now ≡ without_blanks text.now }
     ensures within { length result.now ≤ length text.now }
     ensures tight { IsTight result.now }
@@ -44,14 +44,14 @@ pub(crate) fn word_length(text: &[u8]) -> usize
 }
 
 /// The word that a text begins with.
-pub(crate) fn first_word(text: &[u8]) -> &[u8]
+pub fn first_word(text: &[u8]) -> &[u8]
     ensures { result.now ≡ first_word text.now }
 {
     &text[..word_length(text)]
 }
 
 /// What stands behind it and the blanks that follow.
-pub(crate) fn behind_word(text: &[u8]) -> &[u8]
+pub fn behind_word(text: &[u8]) -> &[u8]
     ensures { result.now ≡ behind_word text.now }
 {
     without_blanks(behind(text, word_length(text)))

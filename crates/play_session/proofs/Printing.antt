@@ -79,16 +79,16 @@ sessions_go_on session event is =
 
 -- ---- the lines of changes
 
-module _ (line : Change → List ℕ) (change : Change) where
+module _ (front : List ℕ) (line : Change → List ℕ) (change : Change) where
   line_unless : (test : Bool) → flat_map line (if test then [] else change ∷ []) ≡ (if test then [] else line change)
   line_unless true = refl
   line_unless false = append-nil (line change)
 
-  line_of_saved : (name : List ℕ) (before after : Option (List Element)) → line change ≡ value_line true name (unwrap_or after [])
-      → flat_map line (if is_newly_saved before after then change ∷ [] else []) ≡ transcript.saved_change name before after
+  line_of_saved : (name : List ℕ) (before after : Option (List Element)) → line change ≡ front ++ value_line true name (unwrap_or after [])
+      → flat_map line (if is_newly_saved before after then change ∷ [] else []) ≡ transcript.saved_change front name before after
   line_of_saved name before None is = refl
   line_of_saved name None (Some after) is = append-nil (line change) ∙ is
-  line_of_saved name (Some before) (Some after) is = elim (same_value before after) as (λ t. flat_map line (if not t then change ∷ [] else []) ≡ (if t then [] else value_line true name after)) [
+  line_of_saved name (Some before) (Some after) is = elim (same_value before after) as (λ t. flat_map line (if not t then change ∷ [] else []) ≡ (if t then [] else front ++ value_line true name after)) [
     | true ↦ refl
     | false ↦ append-nil (line change) ∙ is
   ]
@@ -100,7 +100,7 @@ current_left values k within = drop_more values k [] within ∙ ap (λ value. va
 saved_left : (saves : List (Option (List Element))) (k : ℕ) → k < length saves → drop k saves ≡ option_flatten (slice_get saves k) ∷ drop (k + 1) saves
 saved_left saves k within = drop_more saves k None within ∙ ap (λ saved. saved ∷ drop (k + 1) saves) (sym (ap option_flatten (slice_get-get_or saves k None within)))
 
-module _ (session : SessionState) (before : Values) where
+module _ (front : List ℕ) (session : SessionState) (before : Values) where
   abbrev pub stores : List StoreMeaning
   stores = (tab session.tables).stores
 
@@ -120,33 +120,33 @@ module _ (session : SessionState) (before : Values) where
     numbers : (i : ℕ) → option_number stores (Numbered (n + i)) ≡ option_flatten (slice_get (option_numbers k rest) i)
 
   abbrev pub lines_left : ℕ → List StoreMeaning → List ℕ
-  lines_left k rest = transcript.changes (map (λ (store : StoreMeaning). store.name) (options_of rest)) (drop k before.current) (drop k before.saved) (drop k after.current) (drop k after.saved)
+  lines_left k rest = transcript.changes front (map (λ (store : StoreMeaning). store.name) (options_of rest)) (drop k before.current) (drop k before.saved) (drop k after.current) (drop k after.saved)
 
   abbrev Printed : ℕ → ℕ → List StoreMeaning → Type 0
-  Printed n k rest = lines_left k rest ≡ flat_map (change_line session) (changes_from before after n (option_numbers k rest))
+  Printed n k rest = lines_left k rest ≡ flat_map (change_line front session) (changes_from before after n (option_numbers k rest))
 
   -- the lines of one option, and those behind it
   option_printed : (n k : ℕ) (name : List ℕ) (numbers : List (Option ℕ)) → name_of session.tables n ≡ name → option_number stores (Numbered n) ≡ Some k
-      → transcript.current_change name (current_at before k) (current_at after k)
-      ++ (transcript.saved_change name (saved_at before k) (saved_at after k) ++ flat_map (change_line session) (changes_from before after (n + 1) numbers))
-      ≡ flat_map (change_line session) (changes_from before after n (Some k ∷ numbers))
+      → transcript.current_change front name (current_at before k) (current_at after k)
+      ++ (transcript.saved_change front name (saved_at before k) (saved_at after k) ++ flat_map (change_line front session) (changes_from before after (n + 1) numbers))
+      ≡ flat_map (change_line front session) (changes_from before after n (Some k ∷ numbers))
   option_printed n k name numbers named number =
-      let line : Change → List ℕ = change_line session in
+      let line : Change → List ℕ = change_line front session in
       let rest : List Change = changes_from before after (n + 1) numbers in
       let current : Change = record { store = n; saved = false } in
       let saved : Change = record { store = n; saved = true } in
-      let current_line : line current ≡ value_line false name (current_at after k)
-      = λ i. value_line false (named i) (content_of_option after.current _ k _ number i) in
-      let saved_line : line saved ≡ value_line true name (unwrap_or (saved_at after k) [])
-      = λ i. value_line true (named i) (unwrap_or (saved_by (number i)) []) in
-      let of_current : flat_map line (current_change before after n k) ≡ transcript.current_change name (current_at before k) (current_at after k)
-      = line_unless line current (same_value (current_at before k) (current_at after k))
+      let current_line : line current ≡ front ++ value_line false name (current_at after k)
+      = λ i. front ++ value_line false (named i) (content_of_option after.current _ k _ number i) in
+      let saved_line : line saved ≡ front ++ value_line true name (unwrap_or (saved_at after k) [])
+      = λ i. front ++ value_line true (named i) (unwrap_or (saved_by (number i)) []) in
+      let of_current : flat_map line (current_change before after n k) ≡ transcript.current_change front name (current_at before k) (current_at after k)
+      = line_unless front line current (same_value (current_at before k) (current_at after k))
       ∙ ap (λ (l : List ℕ). if same_value (current_at before k) (current_at after k) then [] else l) current_line in
-      let of_saved : flat_map line (saved_change before after n k) ≡ transcript.saved_change name (saved_at before k) (saved_at after k)
-      = line_of_saved line saved name (saved_at before k) (saved_at after k) saved_line in
+      let of_saved : flat_map line (saved_change before after n k) ≡ transcript.saved_change front name (saved_at before k) (saved_at after k)
+      = line_of_saved front line saved name (saved_at before k) (saved_at after k) saved_line in
       sym (flat_map-append line (current_change before after n k ++ saved_change before after n k) rest
       ∙ ap (λ (l : List ℕ). l ++ flat_map line rest) (flat_map-append line (current_change before after n k) (saved_change before after n k) ∙ (λ i. of_current i ++ of_saved i))
-      ∙ append_assoc (transcript.current_change name (current_at before k) (current_at after k)) (transcript.saved_change name (saved_at before k) (saved_at after k)) (flat_map line rest))
+      ∙ append_assoc (transcript.current_change front name (current_at before k) (current_at after k)) (transcript.saved_change front name (saved_at before k) (saved_at after k)) (flat_map line rest))
     where
       saved_by : Option ℕ → Option (List Element)
       saved_by None = None
@@ -164,10 +164,10 @@ module _ (session : SessionState) (before : Values) where
         numbers = λ i. ap (λ m. option_number stores (Numbered m)) (next i) ∙ left.numbers (suc i);
       }) in
       let here : n + 0 ≡ n = omega arith in
-      (λ i. transcript.changes (name ∷ map (λ (store : StoreMeaning). store.name) (options_of rest))
+      (λ i. transcript.changes front (name ∷ map (λ (store : StoreMeaning). store.name) (options_of rest))
       (current_left before.current k (omega (arith, has.current)) i) (saved_left before.saved k (omega (arith, has.saved)) i)
       (current_left after.current k (omega (arith, has.current_after)) i) (saved_left after.saved k (omega (arith, has.saved_after)) i))
-      ∙ ap (λ (l : List ℕ). transcript.current_change name (current_at before k) (current_at after k) ++ (transcript.saved_change name (saved_at before k) (saved_at after k) ++ l)) behind
+      ∙ ap (λ (l : List ℕ). transcript.current_change front name (current_at before k) (current_at after k) ++ (transcript.saved_change front name (saved_at before k) (saved_at after k) ++ l)) behind
       ∙ option_printed n k name (option_numbers (k + 1) rest)
       (ap (name_of session.tables) (sym here) ∙ left.names 0) (ap (λ m. option_number stores (Numbered m)) (sym here) ∙ left.numbers 0)
     where
@@ -188,7 +188,7 @@ module _ (session : SessionState) (before : Values) where
   printed_from n k (store ∷ rest) has left =
       store_printed n k store.name store.elements store.is_option store.is_system rest (λ m. printed_from (n + 1) m rest) has left
 
-  pub all_printed : HasOptions 0 (length (options_of stores)) → lines_left 0 stores ≡ flat_map (change_line session) (changes_from before after 0 (option_numbers 0 stores))
+  pub all_printed : HasOptions 0 (length (options_of stores)) → lines_left 0 stores ≡ flat_map (change_line front session) (changes_from before after 0 (option_numbers 0 stores))
   all_printed has = printed_from 0 0 stores has
       (record {
         names = λ i. ap (name_of session.tables) (none i);
@@ -198,11 +198,11 @@ module _ (session : SessionState) (before : Values) where
       none : (i : ℕ) → 0 + i ≡ i
       none i = omega arith
 
-pub changes_are_printed : (session : SessionState) (event : Event) → IsSession session → printed_changes session.state (after_step session event).state ≡ change_lines (after_step session event)
-changes_are_printed session event is =
+pub changes_are_printed : (front : List ℕ) (session : SessionState) (event : Event) → IsSession session → printed_changes front session.state (after_step session event).state ≡ change_lines front (after_step session event)
+changes_are_printed front session event is =
     let next : IsSession (after_step session event) = sessions_go_on session event is in
     let count : ℕ = length (options_of (tab session.tables).stores) in
     let all : count ≡ 0 + count = omega arith in
-    ap (λ (names : List (List ℕ)). transcript.changes names session.state.current session.state.saved (after_step session event).state.current (after_step session event).state.saved) is.names
-    ∙ all_printed (after_step session event) (values_of session.state)
+    ap (λ (names : List (List ℕ)). transcript.changes front names session.state.current session.state.saved (after_step session event).state.current (after_step session event).state.saved) is.names
+    ∙ all_printed front (after_step session event) (values_of session.state)
     (record { current = is.current ∙ all; saved = is.saved ∙ all; current_after = next.current ∙ all; saved_after = next.saved ∙ all })

@@ -1,5 +1,5 @@
 -- What a session tells of a store, and that its changes are those that a transcript prints.
-use Rattle.std.specs.Prelude.{◌≡◌, ℕ, Bool, true, false, List, [], flat_map, length, Option, Some, unwrap_or}
+use Rattle.std.specs.Prelude.{◌≡◌, ℕ, Bool, true, false, List, [], ◌++◌, flat_map, length, Option, Some, unwrap_or}
 use Rattle.kmn_base.specs.declared.items.Element.{Element}
 use Rattle.kmn_base.specs.declared.events.Event.{Event}
 use Rattle.rule_model.specs.declared.tables.Tables.{Tables}
@@ -20,13 +20,13 @@ abbrev pub value_of : SessionState → ℕ → Bool → Option (List Element)
 value_of session store true = saved_of (tab session.tables).stores session.state.saved store
 value_of session store false = Some (content (tab session.tables).stores session.state.current (Numbered store))
 
--- the line of a change of the last step: the store's name and its new value
-abbrev pub change_line : SessionState → Change → List ℕ
-change_line session change =
-    value_line change.saved (name_of session.tables change.store) (unwrap_or (value_of session change.store change.saved) [])
+-- the line of a change of the last step: the store's name and its new value, and so much at its front
+abbrev pub change_line : (front : List ℕ) → SessionState → Change → List ℕ
+change_line front session change =
+    front ++ value_line change.saved (name_of session.tables change.store) (unwrap_or (value_of session change.store change.saved) [])
 
-abbrev pub change_lines : SessionState → List ℕ
-change_lines session = flat_map (change_line session) session.changes
+abbrev pub change_lines : (front : List ℕ) → SessionState → List ℕ
+change_lines front session = flat_map (change_line front session) session.changes
 
 -- a session of tables: it has the names of their options, and of each option a current value and what is saved
 pub record IsSession (session : SessionState) : Type 0 where
@@ -35,13 +35,13 @@ pub record IsSession (session : SessionState) : Type 0 where
   pub saved : length session.state.saved ≡ length (options_of (tab session.tables).stores)
 
 -- the lines of the values that a transcript prints from one state to the next
-abbrev pub printed_changes : State → State → List ℕ
-printed_changes before after = changes before.names before.current before.saved after.current after.saved
+abbrev pub printed_changes : (front : List ℕ) → State → State → List ℕ
+printed_changes front before after = changes front before.names before.current before.saved after.current after.saved
 
--- the changes of a step are those that are printed, in this order
+-- the changes of a step are those that are printed, in this order, whatever stands at the front of each line
 abbrev pub ChangesArePrinted : Type 0
-ChangesArePrinted = (session : SessionState) (event : Event) → IsSession session →
-    printed_changes session.state (after_step session event).state ≡ change_lines (after_step session event)
+ChangesArePrinted = (front : List ℕ) (session : SessionState) (event : Event) → IsSession session →
+    printed_changes front session.state (after_step session event).state ≡ change_lines front (after_step session event)
 
 -- before the first event it is a session, and an event leaves one
 abbrev pub SessionsBegin : Type 0

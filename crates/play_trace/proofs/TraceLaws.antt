@@ -10,7 +10,7 @@ use Rattle.rule_model.specs.declared.script.Entry.TheVariants.{Act, Expect}
 use Rattle.rule_model.specs.declared.tables.Tables.{Tables}
 use Rattle.rule_model.specs.Act.{one_more}
 use Rattle.rule_model.specs.ChosenLines.{chosen}
-use Rattle.rule_model.specs.Event.{State, Happening, happening, event_refusal, unless_refused, event_of}
+use Rattle.rule_model.specs.Event.{State, Happening, event_of}
 use Rattle.rule_model.specs.Keyboard.{Keyboard}
 use Rattle.rule_model.specs.Tab.{tab}
 use Rattle.rule_model.specs.Trace.{Steps, trace, steps_from, step_then}
@@ -21,6 +21,7 @@ use Rattle.rule_trace.proofs.Counting.{with_lines-lines}
 use Rattle.play_session.specs.Session.{SessionState, first_session, happened, after_step}
 use Rattle.play_transcript.specs.Printing.{AppendsBut, IsBegun, Prints}
 use Rattle.play_transcript.proofs.PrintingLaws.{none_appended, appended_more, appended_all, begun_within, prints_rest}
+use Rattle.play_transcript.proofs.PlayingLaws.{happens_so}
 use Rattle.play_trace.proofs.RisingLaws.{hits_have_lines}
 use Rattle.play_trace.specs.declared.following.Counts.{Counts}
 use Rattle.play_trace.specs.declared.following.Followed.{Followed}
@@ -68,14 +69,6 @@ script_begins session hits tables entries is none are =
       end = (λ i. end_left (is i) entries) ∙ all_end tables entries;
       printed = λ before. subst (λ (lines : List ℕ). AppendsBut lines before before whole) (sym all) (none_appended before whole);
     }
-
-unless_happened : (code : Option Code) (done happening : Happening) → unless_refused code done ≡ Ok happening → happening ≡ done
-unless_happened None done happening is = cc
-unless_happened (Some code) done happening is = absurd (cc)
-
--- the happening of an event that isn't refused
-happens_so : (session : SessionState) (event : Event) (done : Happening) → event_of (tab session.tables) session.state event ≡ Ok done → done ≡ happened session event
-happens_so session event done at = unless_happened (event_refusal session.state event) (happening (tab session.tables) session.state event) done at
 
 -- an entry behind which the script goes on
 pub record GoesOn (before after : SessionState) (hits hits_after : List Hit) (counts next : Counts) (entry : Entry) (entries : List Entry) : Type 0 where

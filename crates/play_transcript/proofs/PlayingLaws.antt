@@ -83,10 +83,10 @@ module _ (session : SessionState) (counts : Counts) (line : ℕ) (event : Event)
     happens : event_of (tab session.tables) session.state event ≡ Ok (happened session event)
     happens = at ∙ ap Ok is
 
-    event_lines_on : lines_left session counts (Act line event ∷ entries) ≡ event_lines session event ++ lines_left (after_step session event) (event_counted session counts) entries
+    event_lines_on : lines_left session counts (Act line event ∷ entries) ≡ event_lines [] session event ++ lines_left (after_step session event) (event_counted session counts) entries
     event_lines_on =
         (λ i. lines_from counts.events counts.failed session.state (Act line event ∷ entries) (steps_by (happens i)).done (steps_by (happens i)).refused)
-        ∙ (λ i. happening_lines session.state (one_more session.number) (sym happens i) ++ lines_left (after_step session event) (event_counted session counts) entries)
+        ∙ (λ i. happening_lines [] session.state (one_more session.number) (sym happens i) ++ lines_left (after_step session event) (event_counted session counts) entries)
 
     event_end_on : end_left session counts (Act line event ∷ entries) ≡ end_left (after_step session event) (event_counted session counts) entries
     event_end_on = λ i. end_after (steps_by (happens i)).refused (failures_from counts.failed session.state (Act line event ∷ entries) (steps_by (happens i)).done)
@@ -95,7 +95,7 @@ module _ (session : SessionState) (counts : Counts) (line : ℕ) (event : Event)
   refused_stops code at = record {
     lines =
         (λ i. lines_from counts.events counts.failed session.state (Act line event ∷ entries) (steps_by (at i)).done (steps_by (at i)).refused)
-        ∙ (λ i. happening_lines session.state (one_more session.number) (sym at i));
+        ∙ (λ i. happening_lines [] session.state (one_more session.number) (sym at i));
     end = λ i. end_after (steps_by (at i)).refused (failures_from counts.failed session.state (Act line event ∷ entries) (steps_by (at i)).done);
   }
 
@@ -104,7 +104,7 @@ unless_happened None done happening is = cc
 unless_happened (Some code) done happening is = absurd (cc)
 
 -- the happening of an event that isn't refused
-happens_so : (session : SessionState) (event : Event) (done : Happening) → event_of (tab session.tables) session.state event ≡ Ok done → done ≡ happened session event
+pub happens_so : (session : SessionState) (event : Event) (done : Happening) → event_of (tab session.tables) session.state event ≡ Ok done → done ≡ happened session event
 happens_so session event done at = unless_happened (event_refusal session.state event) (happening (tab session.tables) session.state event) done at
 
 happened_goes_on : SessionsGoOn → (session after : SessionState) (counts next : Counts) (line : ℕ) (event : Event) (entries : List Entry) (done : Happening)
@@ -113,7 +113,7 @@ happened_goes_on : SessionsGoOn → (session after : SessionState) (counts next 
 happened_goes_on go_on session after counts next line event entries done is at left counted =
     let same = happens_so session event done at in
     record {
-      lines = event_lines_on session counts line event entries done at same ∙ (λ i. event_lines session event ++ lines_left (sym left i) (sym counted i) entries);
+      lines = event_lines_on session counts line event entries done at same ∙ (λ i. event_lines [] session event ++ lines_left (sym left i) (sym counted i) entries);
       end = event_end_on session counts line event entries done at same ∙ (λ i. end_left (sym left i) (sym counted i) entries);
       session = subst IsSession (sym left) (go_on session event is);
       number = ap (λ (s : SessionState). s.number) left ∙ sym (ap (λ (c : Counts). c.number) counted);
@@ -213,13 +213,13 @@ step_of_stores before after event left =
     (changes_within (values_of before.state) (values_of (happened before event).after) 0 (option_numbers 0 (tab before.tables).stores) (length (tab before.tables).stores) (omega (arith, length-option_numbers 0 (tab before.tables).stores)))
 
 -- what is printed of a step is what its session tells of it
-pub happened_prints : ChangesArePrinted → (before after : SessionState) (event : Event) (step : Step) → IsSession before
+pub happened_prints : ChangesArePrinted → (front : List ℕ) (before after : SessionState) (event : Event) (step : Step) → IsSession before
     → event_of (tab before.tables) before.state event ≡ Ok (happened before event) → step ≡ step_of before event → after ≡ after_step before event
-    → happened_lines after step ≡ event_lines before event
-happened_prints printed before after event step is at made left =
-    (λ i. happened_lines (left i) (made i))
-    ∙ (λ i. event_line (one_more before.number) (happened before event).outcome (happened before event).inserted (window (happened before event).after.left) ++ sym (printed before event is) i)
-    ∙ (λ i. happening_lines before.state (one_more before.number) (sym at i))
+    → happened_lines front after step ≡ event_lines front before event
+happened_prints printed front before after event step is at made left =
+    (λ i. happened_lines front (left i) (made i))
+    ∙ (λ i. (front ++ event_line (one_more before.number) (happened before event).outcome (happened before event).inserted (window (happened before event).after.left)) ++ sym (printed front before event is) i)
+    ∙ (λ i. happening_lines front before.state (one_more before.number) (sym at i))
 
 -- a session at its start
 pub record Begins (session : SessionState) (tables : Tables) (entries : List Entry) : Type 0 where
@@ -251,7 +251,7 @@ event_first before counts line event entries (Ok done) at = record {
   is = event_lines_on before counts line event entries done at (happens_so before event done at);
 }
 event_first before counts line event entries (Err code) at =
-    record { rest = []; is = (refused_stops before counts line event entries code at).lines ∙ sym (append-nil (event_lines before event)) }
+    record { rest = []; is = (refused_stops before counts line event entries code at).lines ∙ sym (append-nil (event_lines [] before event)) }
 
 lines_first : (before : SessionState) (counts : Counts) (entry : Entry) (entries : List Entry) → LinesFirst before counts entry entries
 lines_first before counts (Act line event) entries = event_first before counts line event entries (event_of (tab before.tables) before.state event) refl
@@ -329,29 +329,29 @@ pub ends_so : (session : SessionState) (counts : Counts) (entries : List Entry) 
 ends_so session counts entries i how all ends = sym (ap (end_left session counts) (drop_of_length-le entries all)) ∙ ends
 
 -- the changes of a step that are still to be printed
-pub changes_begin : (session : SessionState) (changes : List Change) (before : List ℕ) → AppendsBut (flat_map (change_line session) changes) before before (flat_map (change_line session) changes)
-changes_begin session changes before = none_appended before (flat_map (change_line session) changes)
+pub changes_begin : (front : List ℕ) (session : SessionState) (changes : List Change) (before : List ℕ) → AppendsBut (flat_map (change_line front session) changes) before before (flat_map (change_line front session) changes)
+changes_begin front session changes before = none_appended before (flat_map (change_line front session) changes)
 
-module _ (session : SessionState) (changes : List Change) (i : ℕ) (d change : Change) (within : i < length changes) (at : change ≡ get_or changes i d) where
-  first_change : flat_map (change_line session) (drop i changes) ≡ change_line session change ++ flat_map (change_line session) (drop (i + 1) changes)
+module _ (front : List ℕ) (session : SessionState) (changes : List Change) (i : ℕ) (d change : Change) (within : i < length changes) (at : change ≡ get_or changes i d) where
+  first_change : flat_map (change_line front session) (drop i changes) ≡ change_line front session change ++ flat_map (change_line front session) (drop (i + 1) changes)
   first_change =
       let first : drop i changes ≡ get_or changes i d ∷ drop (i + 1) changes = rw add-one (drop-cons changes i d within) in
-      ap (flat_map (change_line session)) (first ∙ ap (λ (x : Change). x ∷ drop (i + 1) changes) (sym at))
+      ap (flat_map (change_line front session)) (first ∙ ap (λ (x : Change). x ∷ drop (i + 1) changes) (sym at))
 
-  pub change_printed : (start before after whole : List ℕ) → AppendsBut (flat_map (change_line session) (drop i changes)) start before whole → after ≡ before ++ change_line session change
-      → AppendsBut (flat_map (change_line session) (drop (i + 1) changes)) start after whole
+  pub change_printed : (start before after whole : List ℕ) → AppendsBut (flat_map (change_line front session) (drop i changes)) start before whole → after ≡ before ++ change_line front session change
+      → AppendsBut (flat_map (change_line front session) (drop (i + 1) changes)) start after whole
   change_printed start before after whole appended put =
-      appended_more (change_line session change) (flat_map (change_line session) (drop (i + 1) changes)) start before after whole
+      appended_more (change_line front session change) (flat_map (change_line front session) (drop (i + 1) changes)) start before after whole
       (subst (λ (lines : List ℕ). AppendsBut lines start before whole) first_change appended) put
 
-  pub change_begun : (start before after whole : List ℕ) → AppendsBut (flat_map (change_line session) (drop i changes)) start before whole → IsBegun before after (change_line session change)
+  pub change_begun : (start before after whole : List ℕ) → AppendsBut (flat_map (change_line front session) (drop i changes)) start before whole → IsBegun before after (change_line front session change)
       → IsBegun start after whole
   change_begun start before after whole appended begun =
-      begun_within (change_line session change) (flat_map (change_line session) (drop (i + 1) changes)) start before after whole
+      begun_within (change_line front session change) (flat_map (change_line front session) (drop (i + 1) changes)) start before after whole
       (subst (λ (lines : List ℕ). AppendsBut lines start before whole) first_change appended) begun
 
-pub changes_end : (session : SessionState) (changes : List Change) (i : ℕ) (start before whole : List ℕ) → length changes ≤ i → AppendsBut (flat_map (change_line session) (drop i changes)) start before whole
+pub changes_end : (front : List ℕ) (session : SessionState) (changes : List Change) (i : ℕ) (start before whole : List ℕ) → length changes ≤ i → AppendsBut (flat_map (change_line front session) (drop i changes)) start before whole
     → before ≡ start ++ whole
-changes_end session changes i start before whole all appended =
+changes_end front session changes i start before whole all appended =
     appended_all [] start before before whole
-    (subst (λ (rest : List ℕ). AppendsBut rest start before whole) (ap (flat_map (change_line session)) (drop_of_length-le changes all)) appended) (sym (append-nil before))
+    (subst (λ (rest : List ℕ). AppendsBut rest start before whole) (ap (flat_map (change_line front session)) (drop_of_length-le changes all)) appended) (sym (append-nil before))

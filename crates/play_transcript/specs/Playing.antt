@@ -42,17 +42,18 @@ abbrev pub end_left : SessionState → Counts → List Entry → PlayEnd
 end_left session counts entries =
     end_after (steps_left session entries).refused (failures_from counts.failed session.state entries (steps_left session entries).done)
 
--- the lines of an event: what happened and what it changed, or its refusal
-abbrev pub happening_lines : State → ℕ → Result Happening Code → List ℕ
-happening_lines before number (Ok happened) = step_lines before (record { number = number; happened = happened })
-happening_lines before number (Err code) = refused_event_line number code
+-- the lines of an event, with so much at the front of each: what happened and what it changed; or its refusal, with nothing at
+-- its front
+abbrev pub happening_lines : (front : List ℕ) → State → ℕ → Result Happening Code → List ℕ
+happening_lines front before number (Ok happened) = step_lines front before (record { number = number; happened = happened })
+happening_lines front before number (Err code) = refused_event_line number code
 
-abbrev pub event_lines : SessionState → Event → List ℕ
-event_lines session event = happening_lines session.state (one_more session.number) (event_of (tab session.tables) session.state event)
+abbrev pub event_lines : (front : List ℕ) → SessionState → Event → List ℕ
+event_lines front session event = happening_lines front session.state (one_more session.number) (event_of (tab session.tables) session.state event)
 
--- the same as the session behind it tells them
-abbrev pub happened_lines : SessionState → Step → List ℕ
-happened_lines session step = event_line step.number step.outcome session.inserted (window session.state.left) ++ change_lines session
+-- the lines of what happened as the session behind it tells them
+abbrev pub happened_lines : (front : List ℕ) → SessionState → Step → List ℕ
+happened_lines front session step = (front ++ event_line step.number step.outcome session.inserted (window session.state.left)) ++ change_lines front session
 
 -- the changes of a session are of its stores, the layer and the platform among them
 abbrev pub AreOfStores : SessionState → Type 0
@@ -64,7 +65,7 @@ expect_lines state line text = if bytes_eq (whole_text state) text then [] else 
 
 -- the lines of an entry
 abbrev pub entry_lines : SessionState → Entry → List ℕ
-entry_lines session (Act line event) = event_lines session event
+entry_lines session (Act line event) = event_lines [] session event
 entry_lines session (Expect line text) = expect_lines session.state line text
 
 -- the counts after an event, and after an expected text

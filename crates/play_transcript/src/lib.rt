@@ -10,5 +10,5 @@
 mod playing;
 mod printing;
 
-pub use playing::{PlayEnd, play};
+pub use playing::{PlayEnd, fronted, play, put_step};
 pub use printing::put_all;

@@ -122,11 +122,11 @@ fn play_event<S: Sink>(
     ensures counts { WriteCounts (S.faults out.old) (S.faults out.new) result }
     ensures told { S.told out.new ≡ S.told out.old }
     ensures plays { IfOk result (PlaysEvent session.old session.new counts event.now) }
-    ensures prints { IsTrue (S.told out.old) → Prints (S.written out.old) (S.written out.new) (event_lines session.old event.now) result }
+    ensures prints { IsTrue (S.told out.old) → Prints (S.written out.old) (S.written out.new) (event_lines [] session.old event.now) result }
 {
     match session.step(alloc, event) {
         Ok(step) => {
-            put_step(alloc, session, step, out)?;
+            put_step(alloc, b"", session, step, out)?;
             Ok(Played::On(Counts {
                 number: step.number,
                 events: counts.events + 1,
@@ -141,10 +141,12 @@ fn play_event<S: Sink>(
     }
 }
 
-/// Prints what the last event did, and the values that it changed.
+/// Prints what the last event of a session did, and the values that it changed, with `front` at the front of each line. Each
+/// line goes to the sink as one piece.
 #[tactic(auto, using(crate::proofs::PrintingLaws::faults, crate::proofs::PrintingLaws::prints_behind))]
-fn put_step<S: Sink>(
+pub fn put_step<S: Sink>(
     alloc: Global,
+    front: &[u8],
     session: &Session,
     step: Step,
     out: &mut S,
@@ -152,7 +154,7 @@ fn put_step<S: Sink>(
     requires { AreOfStores session.now }
     ensures counts { WriteCounts (S.faults out.old) (S.faults out.new) result }
     ensures told { S.told out.new ≡ S.told out.old }
-    ensures prints { IsTrue (S.told out.old) → Prints (S.written out.old) (S.written out.new) (happened_lines session.now step) result }
+    ensures prints { IsTrue (S.told out.old) → Prints (S.written out.old) (S.written out.new) (happened_lines front.now session.now step) result }
 {
     let context = session.engine().context();
     let line = line_of(
@@ -162,14 +164,16 @@ fn put_step<S: Sink>(
         session.inserted(),
         context,
     )?;
+    let line = fronted(alloc, front, line)?;
     put_all(out, line.as_slice())?;
-    put_changes(alloc, session, session.changes(), out)
+    put_changes(alloc, front, session, session.changes(), out)
 }
 
 /// Prints the new values of options.
 #[tactic(auto, using(crate::proofs::PrintingLaws::faults, crate::proofs::PlayingLaws::changes_begin))]
 fn put_changes<S: Sink>(
     alloc: Global,
+    front: &[u8],
     session: &Session,
     changes: &[Change],
     out: &mut S,
@@ -177,10 +181,10 @@ fn put_changes<S: Sink>(
     requires { All (λ change. change.store < length (tab session.now.tables).stores) changes.now }
     ensures counts { WriteCounts (S.faults out.old) (S.faults out.new) result }
     ensures told { S.told out.new ≡ S.told out.old }
-    ensures prints { IsTrue (S.told out.old) → Prints (S.written out.old) (S.written out.new) (flat_map (change_line session.now) changes.now) result }
+    ensures prints { IsTrue (S.told out.old) → Prints (S.written out.old) (S.written out.new) (flat_map (change_line front.now session.now) changes.now) result }
 {
     for change in changes {
-        put_change(alloc, session, change, out)?;
+        put_change(alloc, front, session, change, out)?;
     }
     Ok(())
 }
@@ -189,6 +193,7 @@ fn put_changes<S: Sink>(
 #[tactic(auto, using(crate::proofs::PrintingLaws::faults))]
 fn put_change<S: Sink>(
     alloc: Global,
+    front: &[u8],
     session: &Session,
     change: &Change,
     out: &mut S,
@@ -196,16 +201,28 @@ fn put_change<S: Sink>(
     requires { change.now.store < length (tab session.now.tables).stores }
     ensures counts { WriteCounts (S.faults out.old) (S.faults out.new) result }
     ensures told { S.told out.new ≡ S.told out.old }
-    ensures prints { IsTrue (S.told out.old) → Prints (S.written out.old) (S.written out.new) (change_line session.now change.now) result }
+    ensures prints { IsTrue (S.told out.old) → Prints (S.written out.old) (S.written out.new) (change_line front.now session.now change.now) result }
 {
-    let line = change_line(alloc, session, *change)?;
+    let line = fronted(alloc, front, change_line(alloc, session, *change)?)?;
     put_all(out, line.as_slice())
+}
+
+/// A line with so much at its front.
+pub fn fronted(alloc: Global, front: &[u8], line: Text) -> Result<Text, Memory>
+    ensures { IfOk result (λ all. all ≡ front.now ++ line) }
+{
+    if front.is_empty() {
+        return Ok(line);
+    }
+    let mut all = Seq::from_slice(alloc, front)?;
+    all.extend_from_slice(line.as_slice())?;
+    Ok(all)
 }
 
 /// The line of an option's new value.
 fn change_line(alloc: Global, session: &Session, change: Change) -> Result<Text, Memory>
     requires { change.store < length (tab session.now.tables).stores }
-    ensures { IfOk result (λ line. line ≡ change_line session.now change) }
+    ensures { IfOk result (λ line. line ≡ change_line [] session.now change) }
 {
     let name = session.name(alloc, change.store)?;
     let value = session.value(alloc, change.store, change.saved)?;

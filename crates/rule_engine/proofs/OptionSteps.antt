@@ -12,7 +12,7 @@ use Rattle.option_store.specs.Cells.{changed, set_cell, save_cell, reset_cell}
 use Rattle.option_store.specs.Meaning.{with_values}
 use Rattle.option_store.proofs.Meaning.{calls_follow}
 use Rattle.rule_engine.specs.Event.{EventValue, keyboard_of}
-use Rattle.rule_engine.proofs.Stores.{own_elements_meant}
+use Rattle.rule_matching.proofs.StoreContents.{elements_meant}
 
 module _ (tables : Tables) (cells : List Cell) (n : ℕ) (s : EventState) where
   abbrev stores : List StoreMeaning
@@ -25,7 +25,7 @@ module _ (tables : Tables) (cells : List Cell) (n : ℕ) (s : EventState) where
       → with_values (tab tables).stores (changed n (set_cell v) cells) s
       ≡ set_current (option_number (tab tables).stores (Numbered n)) (elements_of tables.stores v) (with_values (tab tables).stores cells s)
   set_follows v few own =
-      sym (ap (λ (value : List Element). set_current number value (with_values stores cells s)) (sym (own_elements_meant tables v own))
+      sym (ap (λ (value : List Element). set_current number value (with_values stores cells s)) (sym (elements_meant tables v own))
       ∙ (calls_follow stores cells n few).set v s)
 
   pub reset_follows : n < length cells

@@ -6,28 +6,18 @@ use Rattle.rule_model.specs.declared.tables.Store.{Store}
 use Rattle.rule_model.specs.declared.tables.Tables.{Tables}
 use Rattle.rule_model.specs.Keyboard.{StoreMeaning}
 use Rattle.rule_model.specs.System.{system_options}
-use Rattle.rule_model.specs.Content.{elements_at}
-use Rattle.rule_model.specs.Tab.{tab, tab_options, elements_of, with_options}
+use Rattle.rule_model.specs.Tab.{tab, tab_options, with_options}
 use Rattle.rule_model.proofs.PlainOptions.{length-with_options}
-use Rattle.rule_model.proofs.SystemOptions.{length-all_stores, own_elements}
+use Rattle.rule_index.proofs.StoreIndexes.{count_of_all}
 use Rattle.rule_engine.specs.Engine.{name_in, name_of}
-
-pub all_stores : (tables : Tables) → length (tab tables).stores ≡ length tables.stores + 2
-unfolding tab
-all_stores tables = length-all_stores (tab_options tables) tables.stores
 
 -- a store of the file isn't the last, which is the platform
 pub behind_own : (tables : Tables) (n : ℕ) → n < length tables.stores → n + 1 < length (tab tables).stores
-behind_own tables n own = omega (arith, own, all_stores tables)
+behind_own tables n own = omega (arith, own, count_of_all tables)
 
 -- nor is the layer
 pub layer_before : (tables : Tables) (n : ℕ) → n ≡ length (tab tables).stores - 2 → n + 1 < length (tab tables).stores
-layer_before tables n is = omega (arith, is, all_stores tables)
-
--- a store of the file has its elements
-pub own_elements_meant : (tables : Tables) (n : ℕ) → n < length tables.stores → elements_at (tab tables).stores (Some n) ≡ elements_of tables.stores n
-unfolding tab
-own_elements_meant tables n own = own_elements (tab_options tables) 0 n tables.stores own
+layer_before tables n is = omega (arith, is, count_of_all tables)
 
 -- ---- names
 
@@ -55,12 +45,12 @@ named_behind tables n k is =
     sym (ap name_in (behind_stores own system_options k)) ∙ ap (λ m. name_in (slice_get (own ++ system_options) m)) place
 
 pub layer_name : (tables : Tables) (n : ℕ) → n ≡ length (tab tables).stores - 2 → codes "&layer" ≡ name_of tables n
-layer_name tables n is = named_behind tables n 0 (omega (arith, is, all_stores tables))
+layer_name tables n is = named_behind tables n 0 (omega (arith, is, count_of_all tables))
 
 pub platform_name : (tables : Tables) (n : ℕ) → n ≡ length (tab tables).stores - 1 → codes "&platform" ≡ name_of tables n
-platform_name tables n is = named_behind tables n 1 (omega (arith, is, all_stores tables))
+platform_name tables n is = named_behind tables n 1 (omega (arith, is, count_of_all tables))
 
 pub no_name : (tables : Tables) (n : ℕ) → length tables.stores ≤ n → n ≢ length (tab tables).stores - 2 → n ≢ length (tab tables).stores - 1 → [] ≡ name_of tables n
 no_name tables n behind layer platform =
-    let past : length (tab tables).stores ≤ n = omega (arith, behind, layer, platform, all_stores tables) in
+    let past : length (tab tables).stores ≤ n = omega (arith, behind, layer, platform, count_of_all tables) in
     sym (ap name_in (slice_get_past (tab tables).stores n past))

@@ -22,7 +22,7 @@ use Rattle.option_store.proofs.FirstCells.{first_cells_count}
 use Rattle.option_store.proofs.Meaning.{option_value_found, stated_at}
 use Rattle.rule_matching.specs.Moment.{content_at, truths_at}
 use Rattle.rule_engine.specs.Event.{CanAct, moment_with}
-use Rattle.rule_engine.proofs.Stores.{all_stores}
+use Rattle.rule_index.proofs.StoreIndexes.{count_of_all}
 
 -- the platform is an option
 platform_is_option : (tables : Tables) → option_number (tab tables).stores Platform ≡ Some (length (option_names (with_options (tab_options tables) 0 tables.stores)) + 1)
@@ -49,7 +49,7 @@ module _ (tables : Tables) where
       let option = platform_is_option tables in
       content_by_option stores (option_values stores cells) Platform _ option
       ∙ ap (λ (value : Option (List Element)). unwrap_or value [])
-      (option_value_found stores cells (length stores - 1) (omega (arith, count, all_stores tables)) _ option)
+      (option_value_found stores cells (length stores - 1) (omega (arith, count, count_of_all tables)) _ option)
 
   truths_told : (cells : List Cell) (content : List Element) → length cells ≡ length (tab tables).stores
       → current_value (stated (tab tables).stores) (platform_cell tables cells) ≡ content → truths_at (moment_with tables cells) ≡ truths_by tables content
@@ -127,7 +127,7 @@ pub truths_given : (tables : Tables) (cells after : List Cell) (n : ℕ) (text :
     → truths_by tables (map Char text) ≡ truths_at (moment_with tables after)
 truths_given tables cells after n text count last is =
     let counted : length after ≡ length (tab tables).stores = ap length is ∙ (length-set cells n (host_cell text (cell_at cells n)) ∙ count) in
-    let few : n < length cells = omega (arith, count, last, all_stores tables) in
+    let few : n < length cells = omega (arith, count, last, count_of_all tables) in
     let cell : platform_cell tables after ≡ host_cell text (cell_at cells n)
     = (λ i. cell_at (is i) (sym last i)) ∙ cell_there cells n (host_cell text) few in
     sym (truths_told tables after (map Char text) counted (ap (current_value (stated (tab tables).stores)) cell))

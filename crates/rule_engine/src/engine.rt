@@ -52,7 +52,7 @@ impl<'a> Model for Engine<'a> {
 }
 
 /// How many stores the keyboard of a file has: the layer and the platform stand behind those of the file.
-#[tactic(auto, using(crate::proofs::Stores::all_stores))]
+#[tactic(auto, using(rule_index::proofs::StoreIndexes::count_of_all))]
 fn keyboard_stores(file: &FileTables<'_>) -> u32
     requires { length file.now.stores ≤ STORES }
     ensures value { result ≡ length (tab file.now).stores }

@@ -9,7 +9,7 @@ use Rattle.rule_model.specs.declared.tables.Store.{Store}
 use Rattle.rule_model.specs.Naming.{mark_number, elements_named}
 use Rattle.rule_model.specs.Tab.{store_elements}
 use Rattle.store_table.specs.Numbering.{NameLists, below, number_in, mark_in}
-use Rattle.store_table.proofs.Naming.{same_either_way}
+use Rattle.virtual_keys.proofs.NamePlaces.{same_either_way}
 use Rattle.compile_laws.proofs.Places.{position-cons, position-map, first_place}
 use Rattle.rule_expand.specs.Lookups.{source_names, AreFew, store_names, BeginWith, place_of_store, elements_at}
 

@@ -9,18 +9,14 @@ use Rattle.rule_model.specs.Content.{content, option_number, option_of, options_
 use Rattle.rule_model.specs.Keyboard.{Numbered, StoreMeaning}
 use Rattle.rule_model.specs.Tab.{tab, tab_options, elements_of}
 use Rattle.rule_model.proofs.PlainOptions.{content_of_option, content_of_other}
-use Rattle.rule_model.proofs.SystemOptions.{length-all_stores, own_elements}
+use Rattle.rule_model.proofs.SystemOptions.{own_elements}
 use Rattle.option_store.specs.declared.options.Cell.{Cell}
 use Rattle.option_store.specs.declared.options.Held.TheVariants.{Store}
 use Rattle.option_store.specs.Cells.{cell_at, held_value}
 use Rattle.option_store.specs.Meaning.{stated, option_values, option_saves}
 use Rattle.option_store.proofs.Meaning.{stated_at, option_value_found, option_save_found}
+use Rattle.rule_index.proofs.StoreIndexes.{count_of_all}
 use Rattle.rule_matching.specs.Moment.{saved_of}
-
--- a keyboard has two stores more than the tables
-pub stores_meant : (tables : Tables) → length (tab tables).stores ≡ length tables.stores + 2
-unfolding tab
-stores_meant tables = length-all_stores (tab_options tables) tables.stores
 
 -- the elements of a store of the tables are those that it is stated with
 pub elements_meant : (tables : Tables) (n : ℕ) → n < length tables.stores → elements_at (tab tables).stores (Some n) ≡ elements_of tables.stores n
@@ -42,14 +38,14 @@ none_stated (s ∷ ss) = none_stated ss
 -- a value store of the tables has its elements, and where there is none of the number, those of no store
 pub own_value : (tables : Tables) (value layer : ℕ) → layer ≡ length (tab tables).stores - 2 → value < layer
     → elements_at (tab tables).stores (Some value) ≡ elements_of tables.stores value
-own_value tables value layer is below = elements_meant tables value (omega (arith, is, below, stores_meant tables))
+own_value tables value layer is below = elements_meant tables value (omega (arith, is, below, count_of_all tables))
 
 pub no_value : (tables : Tables) (value layer count : ℕ) → layer ≡ length (tab tables).stores - 2 → layer ≤ value → count ≡ length (tab tables).stores
     → elements_at (tab tables).stores (Some count) ≡ elements_of tables.stores value
 no_value tables value layer count is behind counted =
     ap (λ (n : ℕ). elements_at (tab tables).stores (Some n)) counted
     ∙ none_stated (tab tables).stores
-    ∙ sym (no_own tables.stores value (omega (arith, is, behind, stores_meant tables)))
+    ∙ sym (no_own tables.stores value (omega (arith, is, behind, count_of_all tables)))
 
 -- what is told of each store's elements is told of those of a number; of none where there is no such store
 pub told_of : (tell : List Element → Bool) (stores : List StoreMeaning) (n : ℕ) (is : Bool)

@@ -17,6 +17,7 @@ use Rattle.rule_model.specs.Keyboard.{Ref, Named, Pattern, IsChar, IsMark, IsAny
 use Rattle.rule_model.specs.Naming.{SourceNames, names_of, mark_number, key_number, stores_of}
 use Rattle.rule_model.specs.Tab.{with_options, store_elements}
 use Rattle.rule_model.specs.System.{system_ref, system_options}
+use Rattle.rule_model.specs.declared.system.TheConstants.{CASED_KEYS}
 
 -- a value is its characters
 abbrev pub value_elements : List ℕ → List Element
@@ -146,7 +147,7 @@ code_of_element e = None
 
 -- whether a store is `&casedkeys`
 abbrev pub is_cased_keys : Store → Bool
-is_cased_keys store = nat_eq store.system 39
+is_cased_keys store = nat_eq store.system CASED_KEYS
 
 -- the codes of the cased keys: those of the first `&casedkeys`
 unfoldable pub cased_keys : Program → List ℕ

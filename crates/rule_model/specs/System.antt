@@ -5,6 +5,7 @@ use Rattle.kmn_base.specs.declared.items.Element.{Element}
 use Rattle.kmn_base.specs.declared.items.Element.TheVariants as element
 use Rattle.rule_model.specs.Keyboard.{Ref, Layer, Platform, StoreMeaning}
 use Rattle.rule_model.specs.Match.{same_value}
+use Rattle.rule_model.specs.declared.system.TheConstants.{PLATFORM}
 
 -- a system option with its name and its elements
 abbrev pub system_option : List ℕ → List ℕ → StoreMeaning
@@ -51,4 +52,4 @@ is_equal ref content value = same_value content value
 
 -- the system option of an id: 31 is the platform, 33 the layer, and a file has no other
 abbrev pub system_ref : ℕ → Ref
-system_ref id = if nat_eq id 31 then Platform else Layer
+system_ref id = if nat_eq id PLATFORM then Platform else Layer

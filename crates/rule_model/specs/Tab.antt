@@ -15,6 +15,7 @@ use Rattle.rule_model.specs.declared.tables.Group.{Group}
 use Rattle.rule_model.specs.declared.tables.Tables.{Tables}
 use Rattle.rule_model.specs.System.{system_ref, system_options}
 use Rattle.rule_model.specs.Keyboard.{Numbered, Pattern, IsChar, IsMark, IsAny, IsNotAny, IsIndex, IsContextAt, IfEqual, IfUnequal, AtStart, Output, PutChar, PutMark, PutIndex, PutContext, PutContextAt, UseGroup, SetOption, SaveOption, ResetOption, MakeBeep, DoNothing, StopEvent, OneKey, RuleMeaning, GroupMeaning, StoreMeaning, Keyboard, First}
+use Rattle.rule_model.specs.declared.system.TheConstants.{KEY_DICTIONARY}
 
 -- the elements of the store of a number, none where there is no such store
 abbrev pub store_elements : Option Store → List Element
@@ -123,7 +124,7 @@ words text = filter (λ word. not (nat_eq (length word) 0)) (slice_split (nat_eq
 
 -- whether a store is the key dictionary
 abbrev pub is_dictionary : Store → Bool
-is_dictionary store = nat_eq store.system 34
+is_dictionary store = nat_eq store.system KEY_DICTIONARY
 
 -- the names of the key dictionary: the words of its store's characters, each once
 unfoldable pub tab_dictionary : List Store → List (List ℕ)

@@ -36,26 +36,27 @@ expect_line line = concat (codes "expect failed line=" ∷ decimal line ∷ code
 abbrev pub refused_event_line : ℕ → Code → List ℕ
 refused_event_line number code = concat (codes "refused " ∷ code_text code ∷ codes " event " ∷ decimal number ∷ codes "\n" ∷ [])
 
--- a line for a current value that differs, and one for a saved value that does
-abbrev pub current_change : List ℕ → List Element → List Element → List ℕ
-current_change name before after = if same_value before after then [] else value_line false name after
+-- a line for a current value that differs, and one for a saved value that does; so much stands at the front of each line
+abbrev pub current_change : (front : List ℕ) → List ℕ → List Element → List Element → List ℕ
+current_change front name before after = if same_value before after then [] else front ++ value_line false name after
 
-abbrev pub saved_change : List ℕ → Option (List Element) → Option (List Element) → List ℕ
-saved_change name before None = []
-saved_change name None (Some after) = value_line true name after
-saved_change name (Some before) (Some after) = if same_value before after then [] else value_line true name after
+abbrev pub saved_change : (front : List ℕ) → List ℕ → Option (List Element) → Option (List Element) → List ℕ
+saved_change front name before None = []
+saved_change front name None (Some after) = front ++ value_line true name after
+saved_change front name (Some before) (Some after) = if same_value before after then [] else front ++ value_line true name after
 
 -- the changes from one list of values to another, option by option, the current value before the saved one
-abbrev pub changes : List (List ℕ) → List (List Element) → List (Option (List Element)) → List (List Element) → List (Option (List Element)) → List ℕ
-changes (name ∷ names) (value ∷ values) (saved ∷ saves) (value_after ∷ values_after) (saved_after ∷ saves_after) =
-    current_change name value value_after ++ (saved_change name saved saved_after ++ changes names values saves values_after saves_after)
-changes names values saves values_after saves_after = []
+abbrev pub changes : (front : List ℕ) → List (List ℕ) → List (List Element) → List (Option (List Element)) → List (List Element) → List (Option (List Element)) → List ℕ
+changes front (name ∷ names) (value ∷ values) (saved ∷ saves) (value_after ∷ values_after) (saved_after ∷ saves_after) =
+    current_change front name value value_after ++ (saved_change front name saved saved_after ++ changes front names values saves values_after saves_after)
+changes front names values saves values_after saves_after = []
 
--- the lines of a step: what the event did, with the last 64 items before the caret, and the values that it changed
-abbrev pub step_lines : State → Step → List ℕ
-step_lines before step =
-    event_line step.number step.happened.outcome step.happened.inserted (window step.happened.after.left)
-    ++ changes before.names before.current before.saved step.happened.after.current step.happened.after.saved
+-- the lines of a step, with so much at the front of each: what the event did, with the last 64 items before the caret, and the
+-- values that it changed
+abbrev pub step_lines : (front : List ℕ) → State → Step → List ℕ
+step_lines front before step =
+    (front ++ event_line step.number step.happened.outcome step.happened.inserted (window step.happened.after.left))
+    ++ changes front before.names before.current before.saved step.happened.after.current step.happened.after.saved
 
 -- the refusal of the event that ended a trace
 abbrev pub refused_lines : Option (ℕ × Code) → List ℕ
@@ -70,7 +71,7 @@ lines_from events failed state (Expect line text ∷ entries) steps refused =
     else (expect_line line ++ lines_from events (failed + 1) state entries steps refused)
 lines_from events failed state (Act line event ∷ entries) [] refused = refused_lines refused
 lines_from events failed state (Act line event ∷ entries) (step ∷ steps) refused =
-    step_lines state step ++ lines_from (events + 1) failed step.happened.after entries steps refused
+    step_lines [] state step ++ lines_from (events + 1) failed step.happened.after entries steps refused
 
 -- the events of a script's entries
 abbrev pub events_of : List Entry → List Event

@@ -1,15 +1,19 @@
-//! Runs of the commands over a folder and a sink in memory: the tables of `rows` and `trace_rows`, what is too long for a
-//! table, and faults and full sizes (`hostile`).
+//! Runs of the commands over a folder and a sink in memory: the tables of `rows`, `trace_rows`, `shadow_rows` and `host_rows`,
+//! what is too long for a table, and faults and full sizes (`hostile`).
 
+mod host_rows;
 mod hostile;
 mod rows;
+mod shadow_rows;
 mod trace_rows;
 
 use crate::fixtures::seq;
+use host_rows::HOST_RUNS;
 use keyman_run::{Status, run};
 use kmn_base::{Seq, Text};
 use kmn_outside::{MemoryFolder, MemorySink};
 use rows::{FILE, FILE_RUNS, LAYOUT_RUNS, LONG_RUNS, RUNS, SAMPLE, TEXT};
+use shadow_rows::SHADOW_RUNS;
 use std::alloc::{Alloc, AllocError, Global};
 use std::process::Abort;
 use std::test::Fail;
@@ -246,6 +250,16 @@ fn layouts(rt: HostRuntime) -> Result<(), Fail> {
 #[test]
 fn traces(rt: HostRuntime) -> Result<(), Fail> {
     check_runs(&rt, TRACE_RUNS)
+}
+
+#[test]
+fn shadows(rt: HostRuntime) -> Result<(), Fail> {
+    check_runs(&rt, SHADOW_RUNS)
+}
+
+#[test]
+fn hosts(rt: HostRuntime) -> Result<(), Fail> {
+    check_runs(&rt, HOST_RUNS)
 }
 
 #[test]

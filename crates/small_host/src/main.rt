@@ -1,7 +1,8 @@
-//! An application in small: it opens a compiled keyboard that anybody may have made, types with it, and prints the text.
+//! An application in small: it opens a compiled keyboard that anybody may have made, types with it in the two fields of a form,
+//! and prints the caps of an on-screen keyboard and the texts.
 //!
-//! It is the example of `docs/ENGINE.md`. It stands on `kmx_verifier`, which opens the file, and on `play_session`, which
-//! keeps the text and does one event after the other.
+//! It is the example of `docs/ENGINE.md`. It stands on `kmx_verifier`, which opens the file, and on `text_host`, which keeps the
+//! text of each field, does one event after the other, and tells what a key would do.
 #![tactic(auto)]
 
 ghost use Rattle.std.specs.Prelude.{◌≡◌, IfOk, encode_utf8_all};
@@ -11,10 +12,10 @@ use kmn_base::limits::FILE_BYTES;
 use kmn_base::{Event, KeyPress, Memory};
 use kmn_outside::{DiskFolder, Folder, ReadError};
 use kmx_verifier::{VerifyError, verify};
-use play_session::{Session, StepError};
 use std::alloc::{Alloc, Global};
 use std::io;
 use std::rt::Files;
+use text_host::{Host, HostError as FieldError};
 use thiserror::Error;
 use virtual_keys::key_named;
 
@@ -26,7 +27,7 @@ enum HostError {
     #[error("{0}")]
     Keyboard(#[from] VerifyError),
     #[error("{0}")]
-    Step(#[from] StepError),
+    Field(#[from] FieldError),
     #[error("out of memory")]
     Memory(#[from] Memory),
 }
@@ -42,27 +43,76 @@ fn utf8(alloc: Global, text: &[char]) -> Result<String, Memory>
     Ok(utf8)
 }
 
-/// What stands before the caret when keys were typed. A key that the keyboard passes on is the application's own.
-fn text_after(alloc: Global, session: &mut Session, keys: &[&str]) -> Result<String, HostError> {
+/// Types keys in a field of a form. A key that the keyboard passes on is the application's own.
+fn type_in(alloc: Global, form: &mut Host, field: u32, keys: &[&str]) -> Result<(), HostError> {
     for key in keys {
         if let Some(code) = key_named(key.as_bytes()) {
-            session.step(alloc, &Event::Key(KeyPress { code, mods: 0 }))?;
+            form.step(alloc, field, &Event::Key(KeyPress { code, mods: 0 }))?;
         }
     }
-    Ok(utf8(alloc, session.editor().left())?)
+    Ok(())
 }
 
-/// What is typed by keys on the keyboard of a file.
-fn typed(alloc: Global, file: &[u8], keys: &[&str]) -> Result<String, HostError> {
+/// Appends a cap behind a blank.
+fn put_cap(caps: &mut String, cap: &[char]) -> Result<(), Memory> {
+    caps.push(' ')?;
+    for c in cap {
+        caps.push(*c)?;
+    }
+    Ok(())
+}
+
+/// The caps of an on-screen keyboard while a field has the focus: what each key would put there now.
+fn caps(alloc: Global, form: &Host, field: u32, keys: &[&str]) -> Result<String, HostError> {
+    let mut caps = utf8(alloc, &['c', 'a', 'p', 's'])?;
+    for key in keys {
+        if let Some(code) = key_named(key.as_bytes()) {
+            let preview = form.preview(alloc, field, KeyPress { code, mods: 0 })?;
+            put_cap(&mut caps, preview.inserted.as_slice())?;
+        }
+    }
+    Ok(caps)
+}
+
+/// What stands before the caret of a field.
+fn text_of(alloc: Global, form: &Host, field: u32) -> Result<String, HostError> {
+    match form.field(field) {
+        Some(session) => Ok(utf8(alloc, session.editor().left())?),
+        None => Err(HostError::Field(FieldError::NoField)),
+    }
+}
+
+/// The caps in both fields and the texts of both, each in a line.
+fn shown(alloc: Global, caps: [&str; 2], texts: [&str; 2]) -> Result<String, Memory> {
+    Ok(format!(in alloc; "{}\n{}\n{}\n{}", caps[0], caps[1], texts[0], texts[1])?)
+}
+
+/// Types in the two fields of a form: an accent in the first one, of which the caps there tell, and then a vowel in each.
+fn filled(alloc: Global, form: &mut Host) -> Result<String, HostError> {
+    let name = form.add(alloc)?;
+    let town = form.add(alloc)?;
+    type_in(alloc, form, name, &["K_QUOTE"])?;
+    let name_caps = caps(alloc, form, name, &["K_A", "K_E", "K_X"])?;
+    let town_caps = caps(alloc, form, town, &["K_A", "K_E", "K_X"])?;
+    type_in(alloc, form, town, &["K_A"])?;
+    type_in(alloc, form, name, &["K_A", "K_X"])?;
+    let name_text = text_of(alloc, form, name)?;
+    let town_text = text_of(alloc, form, town)?;
+    let caps = [name_caps.as_str(), town_caps.as_str()];
+    Ok(shown(alloc, caps, [name_text.as_str(), town_text.as_str()])?)
+}
+
+/// What a form tells on the keyboard of a file.
+fn typed(alloc: Global, file: &[u8]) -> Result<String, HostError> {
     let keyboard = verify(alloc, file)?;
-    let mut session = Session::start(alloc, &keyboard)?;
-    text_after(alloc, &mut session, keys)
+    let mut form = Host::over(alloc, &keyboard);
+    filled(alloc, &mut form)
 }
 
-/// Types an accent and its vowel on the keyboard in the current folder.
+/// Types on the keyboard in the current folder.
 fn typed_here(rt: &(impl Files + Alloc<A = Global>)) -> Result<String, HostError> {
     let file = DiskFolder::new(rt).read(rt.alloc(), b"accents.kmx", FILE_BYTES)?;
-    typed(rt.alloc(), file.as_slice(), &["K_QUOTE", "K_A", "K_X"])
+    typed(rt.alloc(), file.as_slice())
 }
 
 fn main(rt: HostRuntime) -> io::Result<()> {

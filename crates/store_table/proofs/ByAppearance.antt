@@ -19,7 +19,8 @@ use Rattle.store_table.specs.Names.{group_names, names_refusal, stated}
 use Rattle.kmn_base.specs.declared.limits.TheConstants.{KEY_NAMES}
 use Rattle.store_table.specs.First.{or_refusal}
 use Rattle.store_table.specs.Numbering.{lists_of, numbered, none_appeared, with_marks, with_key, with_keys, with_item, with_items}
-use Rattle.store_table.proofs.Naming.{names_of_stores, with_name_new}
+use Rattle.virtual_keys.proofs.NamePlaces.{with_name_new}
+use Rattle.store_table.proofs.Naming.{names_of_stores}
 
 pub items_append : (appeared : Appeared) (xs ys : List SrcItem) → with_items appeared (xs ++ ys) ≡ with_items (with_items appeared xs) ys
 items_append appeared [] ys = refl

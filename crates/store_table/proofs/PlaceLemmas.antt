@@ -17,7 +17,7 @@ use Rattle.store_table.specs.Places.{written, ArePlaces, place_behind}
 use Rattle.std.proofs.Common.{suc, drop}
 use Rattle.std.specs.Prelude.{option_map}
 use Rattle.std.proofs.lemmas.List.{drop_more}
-use Rattle.store_table.proofs.Naming.{position_cons}
+use Rattle.virtual_keys.proofs.NamePlaces.{position_cons}
 
 pushed : (a b n m : ℕ) (passes : Bool) → a ≤ n → b ≡ cond (eqb a n) (n + cond passes 0 1) a → m ≡ n + 1
     → cond (nat_lt b m) (Some b) None ≡ or_else (cond (nat_lt a n) (Some a) None) (cond passes (Some n) None)

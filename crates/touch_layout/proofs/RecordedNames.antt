@@ -12,7 +12,7 @@ use Rattle.rule_model.specs.declared.tables.Rule.{Rule}
 use Rattle.rule_model.specs.declared.tables.Group.{Group}
 use Rattle.store_table.specs.Names.{is_named}
 use Rattle.store_table.specs.Numbering.{with_marks}
-use Rattle.store_table.proofs.Naming.{some_place}
+use Rattle.virtual_keys.proofs.NamePlaces.{some_place}
 use Rattle.touch_layout.specs.Ids.{recorded_name, rule_names, recorded_names}
 
 names_append : (names xs ys : List (List ℕ)) → with_marks names (xs ++ ys) ≡ with_marks (with_marks names xs) ys

@@ -2,3 +2,4 @@ pub mod EntryLemmas
 pub mod GroupLemmas
 pub mod HexLemmas
 pub mod PositionLemmas
+pub mod NamePlaces

@@ -6,6 +6,7 @@ use lib.Utf8.{scalar}
 use Rattle.kmn_base.specs.declared.limits.TheConstants.{SOURCE_NAME_CHARS}
 use Rattle.kmn_base.specs.Bytes.{hex_digit}
 use Rattle.kmn_base.specs.Names.{same_name}
+use Rattle.virtual_keys.specs.declared.dictionary.TheConstants.{FIRST_OWN_CODE}
 
 -- whether a byte is a hexadecimal digit
 abbrev pub is_hex_digit : ℕ → Bool
@@ -50,11 +51,11 @@ place_in names name = position (same_name name) names
 
 -- the code of a name in a list of names: the first has 256
 unfoldable pub code_in : List (List ℕ) → List ℕ → Option ℕ
-code_in names name = option_map (λ place. 256 + place) (place_in names name)
+code_in names name = option_map (λ place. FIRST_OWN_CODE + place) (place_in names name)
 
 -- the name of a code in a list of names
 abbrev pub name_in : List (List ℕ) → ℕ → Option (List ℕ)
-name_in names code = if nat_lt code 256 then None else slice_get names (code - 256)
+name_in names code = if nat_lt code FIRST_OWN_CODE then None else slice_get names (code - FIRST_OWN_CODE)
 
 -- the list with a name, which is appended where no name of the list is the same
 abbrev pub with_name : List (List ℕ) → List ℕ → List (List ℕ)

@@ -1,7 +1,8 @@
 use Rattle.std.proofs.Common.{List, ℕ}
 use Rattle.kmn_compiler.specs.declared.compiling.Compiled.{Compiled}
 use Rattle.keyman_run.specs.declared.status.Status.TheVariants as status
-use Rattle.keyman_run.specs.Endings.{Ending, compile_ending, compiled_line}
+use Rattle.keyman_run.specs.Endings.{Ending, compile_ending}
+use Rattle.keyman_lines.specs.Lines.{compiled_line}
 use Rattle.keyman_run.specs.Orders.{compiled_work, compile_work}
 use Rattle.keyman_run.specs.Steps.{itself, write_status}
 use Rattle.keyman_run.specs.Work.{Work, and_then}

@@ -1,6 +1,6 @@
 use Rattle.std.proofs.Common.{◌≡◌, Some, None, refl, rules}
 use Rattle.keyman_words.specs.Command.{Request, request_of}
-use Rattle.keyman_words.specs.Command.Request.{Compile, Decompile, Layout, Load, Play, Test, Trace, Verify}
+use Rattle.keyman_words.specs.Command.Request.{Compile, Decompile, Host, Layout, Load, Play, Shadow, Test, Trace, Verify}
 use Rattle.keyman_run.proofs.LoadLaws.{load_runs}
 use Rattle.keyman_run.proofs.MeaningLaws.{compile_means, test_means}
 use Rattle.keyman_run.proofs.WordsLaws.{runs_asked, runs_nothing}
@@ -56,6 +56,18 @@ returns-in-Some-Trace g c =
     let request : Request = Trace c.in-Some-Trace.source c.in-Some-Trace.keys in
     let is : Some request ≡ request_of c.args.words.now = search rules in
     runs_asked c.args.words.now request g.F.Folder _ _ g.S.Sink _ _ c.trace_rules.result is c.trace_rules.ensures (λ told. tt)
+
+pub returns-in-Some-Shadow : goal.returns-in-Some-Shadow
+returns-in-Some-Shadow g c =
+    let request : Request = Shadow c.in-Some-Shadow.source in
+    let is : Some request ≡ request_of c.args.words.now = search rules in
+    runs_asked c.args.words.now request g.F.Folder _ _ g.S.Sink _ _ c.shadow_rules.result is c.shadow_rules.ensures (λ told. tt)
+
+pub returns-in-Some-Host : goal.returns-in-Some-Host
+returns-in-Some-Host g c =
+    let request : Request = Host c.in-Some-Host.file c.in-Some-Host.keys in
+    let is : Some request ≡ request_of c.args.words.now = search rules in
+    runs_asked c.args.words.now request g.F.Folder _ _ g.S.Sink _ _ c.host_on_file.result is c.host_on_file.ensures (λ told. tt)
 
 pub returns-in-None : goal.returns-in-None
 returns-in-None g c =

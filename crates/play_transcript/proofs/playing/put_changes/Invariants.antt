@@ -9,5 +9,5 @@ invariant-loop-change g l =
       faults : g.S.Sink.faults l.out ≡ g.S.Sink.faults l.initial.out;
       told : g.S.Sink.told l.out ≡ g.S.Sink.told l.initial.out;
       printed : IsTrue (g.S.Sink.told l.initial.out)
-          → AppendsBut (flat_map (change_line l.session) (drop l.change-index l.changes)) (g.S.Sink.written l.initial.out) (g.S.Sink.written l.out) (flat_map (change_line l.session) l.changes);
+          → AppendsBut (flat_map (change_line l.front l.session) (drop l.change-index l.changes)) (g.S.Sink.written l.initial.out) (g.S.Sink.written l.out) (flat_map (change_line l.front l.session) l.changes);
     }

@@ -1,0 +1,12 @@
+pub mod Again
+pub mod Equal
+pub mod Filed
+pub mod FromSource
+pub mod Kept
+pub mod Laid
+pub mod Made
+pub mod Named
+pub mod Outside
+pub mod Replaced
+pub mod Steps
+pub mod Units

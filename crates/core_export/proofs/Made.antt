@@ -1,0 +1,42 @@
+-- What is made of a file, once it is known to say the same.
+use Rattle.std.proofs.Common.{◌≡◌, ℕ, ◌^◌, ◌<◌, ◌≤◌, false, nat_lt, ltb-false, List, length, Some, sym, subst, ap, ◌∙◌, arith}
+use Rattle.kmx_format.specs.TablesOf.{word_at}
+use Rattle.kmx_view.specs.View.{store_count, group_count}
+use Rattle.kmx_verifier.specs.FaultOf.{size_fault, fault_of, IsValid}
+use Rattle.kmx_verifier.proofs.Sound.{or_else-none, broken-none}
+use Rattle.core_export.specs.Checksum.{checksum}
+use Rattle.core_export.specs.Words.{with_word}
+use Rattle.core_export.specs.Export.{zero_unit, pointed_stores, pointed_groups, played_version, replaced, exported, SaysTheSame, IsExport}
+use Rattle.core_export.proofs.Replaced.{version_stands}
+
+-- a valid file has a header
+pub has_header : (bytes : List ℕ) → IsValid bytes → 64 ≤ length bytes
+unfolding fault_of size_fault
+has_header bytes h =
+    let size = or_else-none (size_fault bytes) _ h in
+    let long : nat_lt (length bytes) 64 ≡ false = broken-none _ _ _ (or_else-none _ _ (or_else-none _ _ size.0).1).0 in
+    ltb-false (length bytes) 64 long
+
+played_small : (version : ℕ) → played_version version < 2 ^ 32
+played_small version = omega arith
+
+pub version_made : (bytes out : List ℕ) (unit : ℕ) → out ≡ exported bytes unit → 12 ≤ length out → word_at out 4 ≡ played_version (word_at bytes 4)
+unfolding replaced
+version_made bytes out unit is long =
+    let pointed : List ℕ = pointed_groups bytes unit (word_at bytes 36) (group_count bytes) (pointed_stores bytes unit (word_at bytes 32) (store_count bytes) bytes) in
+    version_stands pointed out (played_version (word_at bytes 4)) (checksum (with_word 8 0 (with_word 4 (played_version (word_at bytes 4)) pointed)))
+    (played_small (word_at bytes 4)) is long
+
+-- the answer of the exporter
+pub is_made : (file bytes out written : List ℕ) (unit : ℕ) → bytes ≡ file → Some unit ≡ zero_unit bytes → out ≡ exported bytes unit
+    → (12 ≤ length out → word_at out 8 ≡ checksum (with_word 8 0 out)) → written ≡ out → SaysTheSame file written
+    → (u : ℕ) × (zero_unit file ≡ Some u) × (out ≡ exported file u) × IsExport file out
+is_made file bytes out written unit is found made right same_bytes same =
+    let of_file : out ≡ exported file unit = made ∙ ap (λ (xs : List ℕ). exported xs unit) is in
+    let says : SaysTheSame file out = subst (SaysTheSame file) same_bytes same in
+    let long : 12 ≤ length out = omega (arith, has_header out says.valid) in (
+      unit,
+      sym (found ∙ ap zero_unit is),
+      of_file,
+      record { same = says; version = version_made file out unit of_file long; checksum = right long },
+    )

@@ -1,0 +1,6 @@
+use Rattle.std.proofs.Common.{◌≡◌, ◌+◌, ◌-◌, ◌*◌}
+use Rattle.core_export.specs.Export.{are_groups_pointed}
+use Rattle.core_export.proofs.pointing.are_groups_pointed.Given as goal
+
+abbrev pub invariant-loop-i : goal.invariant-loop-i
+invariant-loop-i l = are_groups_pointed l.bytes (l.place + 24 * l.i) (l.count - l.i) ≡ are_groups_pointed l.bytes l.place l.count

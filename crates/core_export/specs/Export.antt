@@ -1,0 +1,140 @@
+-- The file that Keyman's own engine plays, and what holds of it.
+use Rattle.std.specs.Prelude.{◌≡◌, ℕ, zero, suc, ◌+◌, ◌*◌, min, Bool, true, not, nat_eq, ◌&&◌, if◌then◌else◌, List, length, Option, Some, None, Result, Ok, Err}
+use Rattle.std.specs.Option.{option_or}
+use Rattle.rule_model.specs.declared.tables.Tables.{Tables}
+use Rattle.kmx_format.specs.declared.sizes.TheConstants.{STORE_BYTES, GROUP_BYTES, RULE_BYTES}
+use Rattle.kmx_format.specs.TablesOf.{word_at, string_at, tables_of}
+use Rattle.kmx_view.specs.View.{store_count, group_count}
+use Rattle.kmx_verifier.specs.FaultOf.{IsValid}
+use Rattle.core_export.specs.Checksum.{checksum}
+use Rattle.core_export.specs.Words.{with_word}
+use Rattle.core_export.specs.declared.errors.ExportError.{ExportError}
+use Rattle.core_export.specs.declared.errors.ExportError.TheVariants.{NoZeroUnit, Entangled, Memory}
+
+-- ---- a zero unit that the file has
+
+-- the zero unit that ends the string at an offset; where there is no string there is none
+abbrev pub end_of : List ℕ → ℕ → Option ℕ
+end_of bytes offset = if nat_eq offset 0 then None else Some (offset + 2 * length (string_at bytes offset))
+
+-- that of a string of so many key records, outputs before contexts
+abbrev pub end_in_records : List ℕ → ℕ → ℕ → Option ℕ
+end_in_records bytes place zero = None
+end_in_records bytes place (suc count) =
+    option_or (option_or (end_of bytes (word_at bytes (place + 12))) (end_of bytes (word_at bytes (place + 16))))
+    (end_in_records bytes (place + RULE_BYTES) count)
+
+-- that of a string of a group: of its name, its match or nomatch output, or its key records
+abbrev pub end_in_group : List ℕ → ℕ → Option ℕ
+end_in_group bytes place =
+    option_or (option_or (end_of bytes (word_at bytes place)) (option_or (end_of bytes (word_at bytes (place + 8))) (end_of bytes (word_at bytes (place + 12)))))
+    (end_in_records bytes (word_at bytes (place + 4)) (word_at bytes (place + 16)))
+
+-- that of a string of so many groups
+abbrev pub end_in_groups : List ℕ → ℕ → ℕ → Option ℕ
+end_in_groups bytes place zero = None
+end_in_groups bytes place (suc count) = option_or (end_in_group bytes place) (end_in_groups bytes (place + GROUP_BYTES) count)
+
+-- that of a name or a content of so many stores
+abbrev pub end_in_stores : List ℕ → ℕ → ℕ → Option ℕ
+end_in_stores bytes place zero = None
+end_in_stores bytes place (suc count) =
+    option_or (option_or (end_of bytes (word_at bytes (place + 4))) (end_of bytes (word_at bytes (place + 8))))
+    (end_in_stores bytes (place + STORE_BYTES) count)
+
+-- a zero unit of the file: that of the first group's name, or else of the first string that there is
+unfoldable pub zero_unit : List ℕ → Option ℕ
+zero_unit bytes = option_or (end_in_groups bytes (word_at bytes 36) (group_count bytes)) (end_in_stores bytes (word_at bytes 32) (store_count bytes))
+
+-- ---- the words that are replaced
+
+-- where the word of the file at a place is an offset 0, it is that of the zero unit
+abbrev pub pointed : List ℕ → ℕ → ℕ → List ℕ → List ℕ
+pointed bytes unit place out = if nat_eq (word_at bytes place) 0 then with_word place unit out else out
+
+-- the same of the content of so many stores
+abbrev pub pointed_stores : List ℕ → ℕ → ℕ → ℕ → List ℕ → List ℕ
+pointed_stores bytes unit place zero out = out
+pointed_stores bytes unit place (suc count) out = pointed_stores bytes unit (place + STORE_BYTES) count (pointed bytes unit (place + 8) out)
+
+-- of the context of so many key records
+abbrev pub pointed_records : List ℕ → ℕ → ℕ → ℕ → List ℕ → List ℕ
+pointed_records bytes unit place zero out = out
+pointed_records bytes unit place (suc count) out = pointed_records bytes unit (place + RULE_BYTES) count (pointed bytes unit (place + 16) out)
+
+-- of the contexts of all key records of so many groups
+abbrev pub pointed_groups : List ℕ → ℕ → ℕ → ℕ → List ℕ → List ℕ
+pointed_groups bytes unit place zero out = out
+pointed_groups bytes unit place (suc count) out =
+    pointed_groups bytes unit (place + GROUP_BYTES) count (pointed_records bytes unit (word_at bytes (place + 4)) (word_at bytes (place + 16)) out)
+
+-- the highest version that the engine plays: 15.0
+abbrev pub played_version : ℕ → ℕ
+played_version version = min version 0x0F00
+
+-- with the checksum of the bytes in its word, which is 0 where the sum is taken
+abbrev pub summed : List ℕ → List ℕ
+summed bytes = with_word 8 (checksum (with_word 8 0 bytes)) (with_word 8 0 bytes)
+
+-- bytes with the words of a file replaced: offsets 0 point to the zero unit, and the version and the checksum are written
+unfoldable pub replaced : List ℕ → ℕ → List ℕ → List ℕ
+replaced bytes unit out =
+    summed (with_word 4 (played_version (word_at bytes 4))
+    (pointed_groups bytes unit (word_at bytes 36) (group_count bytes) (pointed_stores bytes unit (word_at bytes 32) (store_count bytes) out)))
+
+-- the file with its own words replaced
+abbrev pub exported : List ℕ → ℕ → List ℕ
+exported bytes unit = replaced bytes unit bytes
+
+-- ---- what holds of it
+
+-- no content of so many stores has the offset 0
+abbrev pub are_contents_pointed : List ℕ → ℕ → ℕ → Bool
+are_contents_pointed bytes place zero = true
+are_contents_pointed bytes place (suc count) = not (nat_eq (word_at bytes (place + 8)) 0) && are_contents_pointed bytes (place + STORE_BYTES) count
+
+-- no context of so many key records
+abbrev pub are_contexts_pointed : List ℕ → ℕ → ℕ → Bool
+are_contexts_pointed bytes place zero = true
+are_contexts_pointed bytes place (suc count) = not (nat_eq (word_at bytes (place + 16)) 0) && are_contexts_pointed bytes (place + RULE_BYTES) count
+
+-- no context of the key records of so many groups
+abbrev pub are_groups_pointed : List ℕ → ℕ → ℕ → Bool
+are_groups_pointed bytes place zero = true
+are_groups_pointed bytes place (suc count) =
+    are_contexts_pointed bytes (word_at bytes (place + 4)) (word_at bytes (place + 16)) && are_groups_pointed bytes (place + GROUP_BYTES) count
+
+-- tables with a version that the engine plays
+abbrev pub with_played_version : Tables → Tables
+with_played_version tables = record tables { version = played_version tables.version }
+
+-- a file with no fault that says what another says, and whose offsets can be followed
+pub record SaysTheSame (bytes out : List ℕ) : Type 0 where
+  pub valid : IsValid out
+  pub tables : tables_of out ≡ with_played_version (tables_of bytes)
+  pub contents : are_contents_pointed out (word_at out 32) (store_count out) ≡ true
+  pub contexts : are_groups_pointed out (word_at out 36) (group_count out) ≡ true
+
+-- all that the engine wants of a file
+pub record IsExport (bytes out : List ℕ) : Type 0 where
+  pub same : SaysTheSame bytes out
+  pub version : word_at out 4 ≡ played_version (word_at bytes 4)
+  pub checksum : word_at out 8 ≡ checksum (with_word 8 0 out)
+
+-- why a file isn't exported: it has no string at all; or its parts lie on one another, so that with the words replaced it
+-- would say something else; want of memory tells nothing
+abbrev pub IsExportError : List ℕ → ExportError → Type 0
+IsExportError bytes NoZeroUnit = zero_unit bytes ≡ None
+IsExportError bytes Entangled = (unit : ℕ) × (zero_unit bytes ≡ Some unit) × (SaysTheSame bytes (exported bytes unit) → ⊥)
+IsExportError bytes Memory = Unit {0}
+
+-- what the exporter answers
+abbrev pub Exports : List ℕ → Result (List ℕ) ExportError → Type 0
+Exports bytes (Ok out) = (unit : ℕ) × (zero_unit bytes ≡ Some unit) × (out ≡ exported bytes unit) × IsExport bytes out
+Exports bytes (Err error) = IsExportError bytes error
+
+-- an answer tells whether something holds; want of memory tells nothing
+abbrev pub Judges : Type 0 → ExportError → Type 0
+Judges holds NoZeroUnit = ⊥
+Judges holds Entangled = holds → ⊥
+Judges holds Memory = Unit {0}

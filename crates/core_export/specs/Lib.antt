@@ -1,0 +1,4 @@
+pub mod Checksum
+pub mod Export
+pub mod ExportLaws
+pub mod Words

@@ -1,0 +1,15 @@
+//! Words replaced where they stand.
+
+ghost use Rattle.std.specs.Prelude.{◌≡◌, ◌<◌, ◌^◌};
+ghost use Rattle.core_export.specs.Words.{with_word};
+
+/// Puts a number into the four bytes at a place; nothing where they aren't wholly in the bytes.
+#[tactic(auto, unfolding(crate::specs::Words::with_word, kmx_format::specs::File::word))]
+pub(crate) fn put_word(out: &mut [u8], place: usize, number: u32)
+    requires { place < 2 ^ 62 }
+    ensures { out.new ≡ with_word place number out.old }
+{
+    if place + 4 <= out.len() {
+        out[place..place + 4].copy_from_slice(&number.to_le_bytes());
+    }
+}

@@ -1,0 +1,94 @@
+//! A zero unit that a file has.
+
+ghost use Rattle.std.specs.Prelude.{◌≡◌, ◌≤◌, ◌+◌, ◌*◌, ◌<◌, ◌^◌, length};
+ghost use Rattle.kmn_base.specs.declared.limits.TheConstants.{FILE_BYTES};
+ghost use Rattle.core_export.specs.Export.{end_of, end_in_records, end_in_group, end_in_groups, end_in_stores, zero_unit};
+
+use kmx_format::sizes::{GROUP_BYTES, RULE_BYTES, STORE_BYTES};
+use kmx_view::{string_bytes, word_at};
+
+/// The zero unit that ends the string at an offset.
+#[tactic(auto, using(crate::proofs::Steps::ends_behind))]
+fn end_of(bytes: &[u8], offset: u32) -> Option<u32>
+    requires { length bytes.now ≤ FILE_BYTES }
+    ensures { result ≡ end_of bytes.now offset }
+{
+    if offset == 0 {
+        return None;
+    }
+    Some(offset + string_bytes(bytes, offset).len() as u32)
+}
+
+/// That of the first string of so many key records.
+fn end_in_records(bytes: &[u8], place: u32, count: u32) -> Option<u32>
+    requires { length bytes.now ≤ FILE_BYTES }
+    ensures { result ≡ end_in_records bytes.now place count }
+{
+    for i in 0..count as usize {
+        let record = place as usize + RULE_BYTES * i;
+        let output = end_of(bytes, word_at(bytes, record + 12));
+        let found = output.or(end_of(bytes, word_at(bytes, record + 16)));
+        if found.is_some() {
+            return found;
+        }
+    }
+    None
+}
+
+/// That of the first string of a group.
+fn end_in_group(bytes: &[u8], place: usize) -> Option<u32>
+    requires few { length bytes.now ≤ FILE_BYTES }
+    requires place { place < 2 ^ 62 }
+    ensures { result ≡ end_in_group bytes.now place }
+{
+    let on_match = end_of(bytes, word_at(bytes, place + 8));
+    let output = on_match.or(end_of(bytes, word_at(bytes, place + 12)));
+    let found = end_of(bytes, word_at(bytes, place)).or(output);
+    if found.is_some() {
+        return found;
+    }
+    end_in_records(bytes, word_at(bytes, place + 4), word_at(bytes, place + 16))
+}
+
+/// That of the first string of so many groups.
+fn end_in_groups(bytes: &[u8], place: u32, count: u32) -> Option<u32>
+    requires { length bytes.now ≤ FILE_BYTES }
+    ensures { result ≡ end_in_groups bytes.now place count }
+{
+    for i in 0..count as usize {
+        let found = end_in_group(bytes, place as usize + GROUP_BYTES * i);
+        if found.is_some() {
+            return found;
+        }
+    }
+    None
+}
+
+/// That of the first string of so many stores.
+fn end_in_stores(bytes: &[u8], place: u32, count: u32) -> Option<u32>
+    requires { length bytes.now ≤ FILE_BYTES }
+    ensures { result ≡ end_in_stores bytes.now place count }
+{
+    for i in 0..count as usize {
+        let record = place as usize + STORE_BYTES * i;
+        let name = end_of(bytes, word_at(bytes, record + 4));
+        let found = name.or(end_of(bytes, word_at(bytes, record + 8)));
+        if found.is_some() {
+            return found;
+        }
+    }
+    None
+}
+
+/// A zero unit of the file: that of the first group's name, or else of the first string that there is.
+#[tactic(auto, unfolding(crate::specs::Export::zero_unit))]
+pub(crate) fn zero_unit(bytes: &[u8]) -> Option<u32>
+    requires { length bytes.now ≤ FILE_BYTES }
+    ensures { result ≡ zero_unit bytes.now }
+{
+    let found = end_in_groups(bytes, word_at(bytes, 36), word_at(bytes, 28));
+    if found.is_some() {
+        return found;
+    }
+    end_in_stores(bytes, word_at(bytes, 32), word_at(bytes, 24))
+}

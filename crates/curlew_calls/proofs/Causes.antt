@@ -1,0 +1,56 @@
+-- The cause of an error of a call, from that of the step's error.
+use Rattle.std.proofs.Common.{◌≡◌, ℕ, ◌+◌, ◌-◌, ◌≤◌, Bool, true, false, not, nat_lt, nltb→le, if◌then◌else◌, List, [], length, Option, Some, None, refl, sym, subst, arith}
+use Rattle.std.specs.Prelude.{◌||◌, Result, Ok, Err}
+use lib.Dec.{T}
+use Rattle.kmn_base.specs.declared.codes.Code.TheVariants.{E1, E2}
+use Rattle.kmn_base.specs.declared.events.Event.TheVariants as event
+use Rattle.kmn_base.specs.declared.limits.TheConstants.{TEXT_CHARS}
+use Rattle.rule_model.specs.declared.tables.Tables.{Tables}
+use Rattle.rule_model.specs.Event.{State, Happening, event_of, event_refusal, happening, unless_refused, whole_text}
+use Rattle.rule_model.specs.Tab.{tab}
+use Rattle.std.proofs.lemmas.Option.{none-some}
+use Rattle.call_numbers.specs.Numbers.{text_of}
+use Rattle.kmn_base.specs.declared.codes.Code.{Code}
+use Rattle.play_session.specs.declared.session.StepError.{StepError}
+use Rattle.play_session.specs.declared.session.StepError.TheVariants as step
+use Rattle.play_session.specs.Answers.{code_of}
+use Rattle.std.specs.Str.{all_scalars}
+use Rattle.curlew_calls.specs.declared.errors.CallError.{CallError}
+use Rattle.curlew_calls.specs.Answers.{of_step, IsCause}
+
+-- a step's error is the cause of the call's where each number is a character
+pub step_text_cause : (numbers : List ℕ) (refusal : Option Code) (error : StepError) (given : CallError) → given ≡ of_step error → all_scalars numbers ≡ true → code_of error ≡ refusal → IsCause numbers refusal given
+step_text_cause numbers refusal step.Place given e fine is = subst (IsCause numbers refusal) (sym e) (fine, sym is)
+step_text_cause numbers refusal step.Length given e fine is = subst (IsCause numbers refusal) (sym e) (fine, sym is)
+step_text_cause numbers refusal step.Memory given e fine is = subst (IsCause numbers refusal) (sym e) tt
+
+pub step_cause : (refusal : Option Code) (error : StepError) (given : CallError) → given ≡ of_step error → code_of error ≡ refusal → IsCause [] refusal given
+step_cause refusal error given e is = step_text_cause [] refusal error given e refl is
+
+-- numbers that are no text aren't all characters
+pub not_characters : (numbers : List ℕ) → text_of numbers ≡ None → all_scalars numbers ≡ false
+not_characters numbers none = by_test (all_scalars numbers) refl none
+  where
+    by_test : (fine : Bool) → all_scalars numbers ≡ fine → (if fine then Some numbers else None) ≡ None → fine ≡ false
+    by_test true e none = absurd (none-some numbers (sym none))
+    by_test false e none = refl
+
+-- an edit that is not refused has no more characters than a text
+pub few_characters : (tables : Tables) (state : State) (from to : ℕ) (text : List ℕ) (done : Happening) → event_of (tab tables) state (event.Edit from to text) ≡ Ok done → length text ≤ TEXT_CHARS
+few_characters tables state from to text done happens =
+    let whole = length (whole_text state) in
+    let fits : nat_lt TEXT_CHARS (whole - (to - from) + length text) ≡ false = second (nat_lt to from || nat_lt whole to) (nat_lt TEXT_CHARS (whole - (to - from) + length text)) (allowed (event_refusal state (event.Edit from to text)) (happening (tab tables) state (event.Edit from to text)) happens) in
+    omega (arith, nltb→le TEXT_CHARS (whole - (to - from) + length text) (subst (λ b. T (not b)) (sym fits) tt))
+  where
+    IsDone : Result Happening Code → Type 0
+    IsDone (Ok done) = Unit {0}
+    IsDone (Err code) = ⊥
+
+    allowed : (refusal : Option Code) (what : Happening) → unless_refused refusal what ≡ Ok done → refusal ≡ None
+    allowed None what e = refl
+    allowed (Some code) what e = absurd (subst IsDone (sym e) tt)
+
+    second : (a b : Bool) → (if a then Some E1 else if b then Some E2 else None) ≡ None → b ≡ false
+    second true b e = absurd (none-some E1 (sym e))
+    second false true e = absurd (none-some E2 (sym e))
+    second false false e = refl

@@ -1,0 +1,39 @@
+-- The numbers that calls answer.
+use Rattle.std.specs.Prelude.{◌≡◌, ℕ, zero, suc, Bool, not, nat_eq, Option, Some, None}
+use Rattle.play_session.specs.Session.{SessionState}
+use Rattle.kmx_verifier.specs.declared.faults.Fault as file
+use Rattle.call_numbers.specs.Numbers.{rule_number}
+use Rattle.curlew_calls.specs.declared.errors.CallError.{CallError}
+use Rattle.curlew_calls.specs.declared.errors.CallError.TheVariants.{Memory, Place, Length, Character, NoOption}
+use Rattle.curlewmetal.specs.declared.answers.Fault.{Fault}
+use Rattle.curlewmetal.specs.declared.answers.TheConstants.{MEMORY, PLACE, LENGTH, CHARACTER, NONE, CLOSED}
+
+abbrev pub error_number : CallError → ℕ
+error_number Memory = MEMORY
+error_number Place = PLACE
+error_number Length = LENGTH
+error_number Character = CHARACTER
+error_number NoOption = NONE
+
+-- a fault of a file, its rule as a number
+abbrev pub fault_numbers : file.Fault → Fault
+fault_numbers fault = record { rule = rule_number fault.code; at = fault.at; unit = fault.unit }
+
+-- a number that is asked as a truth: 0 is no
+abbrev pub is_set : ℕ → Bool
+is_set number = not (nat_eq number 0)
+
+-- what holds where an answer says that a call was done, and what where it says anything else
+abbrev pub Told : (answer : ℕ) → (done otherwise : Type 0) → Type 0
+Told zero done otherwise = done
+Told (suc n) done otherwise = otherwise
+
+-- an answer is the number of an error that has a cause
+abbrev pub Because : (answer : ℕ) → (cause : CallError → Type 0) → Type 0
+Because answer cause = (error : CallError) × (answer ≡ error_number error) × cause error
+
+-- a call of a field: one that isn't open answers so and stays closed; an open one is another session where the answer says that
+-- the call was done, and else stays the same, for a cause
+abbrev pub Answers : (before after : Option SessionState) → (answer : ℕ) → (done : SessionState → Type 0) → (cause : SessionState → CallError → Type 0) → Type 0
+Answers None after answer done cause = (answer ≡ CLOSED) × (after ≡ None)
+Answers (Some session) after answer done cause = Told answer (done session) ((after ≡ Some session) × Because answer (cause session))

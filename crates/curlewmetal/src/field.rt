@@ -1,0 +1,85 @@
+//! The handle that a program in C keeps: null, or a pointer to an open field that it owns.
+
+ghost use Rattle.std.specs.Prelude.{◌≡◌, Option, Some, None, option_map};
+ghost use Rattle.play_session.specs.Session.{SessionState};
+ghost use Rattle.curlewmetal.specs.Owned.{held_owns};
+
+use crate::parts::Parts;
+use curlew_calls::OpenField;
+use std::alloc::Global;
+use std::marker::Model;
+use std::ptr;
+
+/// What a handle points to. Nobody reads it.
+#[repr(C)]
+#[derive(Drop)]
+pub struct Opaque {
+    _word: u8,
+}
+
+/// A handle. To C it is one pointer, which is null where no field is open.
+#[repr(C)]
+#[derive(Drop)]
+pub struct Field {
+    at: *mut Opaque,
+    alloc: Global,
+    ghost held: { Option SessionState },
+}
+
+impl Model for Field {
+    ghost also_owns = { λ f. held_owns f.alloc f.at f.held };
+}
+
+impl Field {
+    /// A handle of no field.
+    pub(crate) fn none(alloc: Global) -> Field
+        ensures { result.held ≡ None }
+    {
+        Field {
+            at: ptr::null_mut(),
+            alloc,
+        }
+    }
+
+    /// A handle of this field.
+    pub(crate) fn of(held: Box<OpenField>) -> Field
+        ensures { result.held ≡ Some held.value }
+    {
+        Field::of_parts(Parts::of(held))
+    }
+
+    /// The field of a handle, None where it has none.
+    pub(crate) fn into_box(self) -> Option<Box<OpenField>>
+        ensures { option_map (λ held. held.value) result ≡ self.held }
+    {
+        match self.into_parts() {
+            Some(parts) => Some(parts.into_box()),
+            None => None,
+        }
+    }
+
+    /// A handle of the field of these parts.
+    fn of_parts(parts: Parts<OpenField, Global>) -> Field
+        ensures { result.held ≡ Some parts.value }
+    {
+        let Parts { ptr, alloc } = parts;
+        Field {
+            at: ptr as *mut Opaque,
+            alloc,
+        }
+    }
+
+    /// The parts of a handle's field, None where the pointer is null.
+    fn into_parts(self) -> Option<Parts<OpenField, Global>>
+        ensures { option_map (λ parts. parts.value) result ≡ self.held }
+    {
+        let Field { at, alloc } = self;
+        if at == ptr::null_mut() {
+            return None;
+        }
+        Some(Parts {
+            ptr: at as *mut OpenField,
+            alloc,
+        })
+    }
+}

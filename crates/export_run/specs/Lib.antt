@@ -1,0 +1,5 @@
+pub mod Lines
+pub mod Reads
+pub mod Runs
+pub mod Status
+pub mod Tells

@@ -1,0 +1,71 @@
+-- What a run does to a folder and a sink: the contract of `export_run`.
+use Rattle.std.specs.Prelude.{◌≡◌, ◌⊎◌, ℕ, true, false, IsTrue, List, [], ◌∷◌, ◌++◌, length, Some}
+use Rattle.kmn_outside.specs.Outside.{Rose, SameOthers, call_of}
+use Rattle.play_transcript.specs.Printing.{IsBegun}
+use Rattle.export_run.specs.declared.reading.Cause.{Cause}
+use Rattle.export_run.specs.declared.status.Status.{Status}
+use Rattle.export_run.specs.declared.status.Status.TheVariants as status
+use Rattle.export_run.specs.Lines.{cause_line, exported_line}
+use Rattle.export_run.specs.Reads.{FolderView, FolderState, seen_folder, HasExport, HasCause, HasRead, HasFailedToRead, HasMaybeRead}
+use Rattle.export_run.specs.Tells.{SinkView, SinkState, seen_sink}
+
+-- nothing was printed
+abbrev pub IsSilent : SinkState → SinkState → Type 0
+IsSilent before after = IsTrue before.told → after.written ≡ before.written
+
+-- the file was read, and its export was written under the target's name: no other name differs
+pub record HasExported (file target out : List ℕ) (before after : FolderState) : Type 0 where
+  pub export : HasExport before.files file out
+  pub calls : after.calls ≡ before.calls ++ call_of file false false ∷ call_of target true false ∷ []
+  pub others : SameOthers target before.files after.files
+  pub written : after.files target ≡ Some out
+
+-- the file was read, and writing its export failed: no other name than the target's differs
+pub record HasFailedToWrite (file target out : List ℕ) (before after : FolderState) : Type 0 where
+  pub export : HasExport before.files file out
+  pub calls : after.calls ≡ before.calls ++ call_of file false false ∷ call_of target true true ∷ []
+  pub others : SameOthers target before.files after.files
+
+-- the file was read, and isn't exported: no file differs
+pub record IsRefused (file : List ℕ) (why : Cause) (before after : FolderState) : Type 0 where
+  pub cause : HasCause before.files file why
+  pub read : HasRead file before after
+
+-- all was done but that the printing broke off: a first part of the line was printed
+abbrev pub IsCutOff : (file target : List ℕ) → FolderState → FolderState → SinkState → SinkState → Type 0
+IsCutOff file target before after sink sink_after =
+    ((out : List ℕ) × HasExported file target out before after × (IsTrue sink.told → IsBegun sink.written sink_after.written (exported_line (length out))))
+    ⊎ ((why : Cause) × IsRefused file why before after × (IsTrue sink.told → IsBegun sink.written sink_after.written (cause_line why)))
+
+-- what a run leaves, by its status
+abbrev pub LeavesBy : (file target : List ℕ) → FolderState → FolderState → SinkState → SinkState → Status → Type 0
+LeavesBy file target before after sink sink_after status.Done =
+    (out : List ℕ) × HasExported file target out before after × (IsTrue sink.told → sink_after.written ≡ sink.written ++ exported_line (length out))
+LeavesBy file target before after sink sink_after status.Refused =
+    (why : Cause) × IsRefused file why before after × (IsTrue sink.told → sink_after.written ≡ sink.written ++ cause_line why)
+LeavesBy file target before after sink sink_after status.Words = ⊥
+LeavesBy file target before after sink sink_after status.ReadFault = HasFailedToRead file before after × IsSilent sink sink_after
+LeavesBy file target before after sink sink_after status.WriteFault =
+    ((out : List ℕ) × HasFailedToWrite file target out before after × IsSilent sink sink_after) ⊎ IsCutOff file target before after sink sink_after
+LeavesBy file target before after sink sink_after status.Memory =
+    (HasMaybeRead file before after × IsSilent sink sink_after) ⊎ IsCutOff file target before after sink sink_after
+
+-- which counts of faults a run raises, by its status: none but with the two statuses of faults
+abbrev pub FaultCounts : ℕ → ℕ → ℕ → ℕ → Status → Type 0
+FaultCounts folder folder_after sink sink_after status.Words = ⊥
+FaultCounts folder folder_after sink sink_after status.ReadFault = Rose folder folder_after × (sink_after ≡ sink)
+FaultCounts folder folder_after sink sink_after status.WriteFault =
+    (Rose folder folder_after × (sink_after ≡ sink)) ⊎ ((folder_after ≡ folder) × Rose sink sink_after)
+FaultCounts folder folder_after sink sink_after _ = (folder_after ≡ folder) × (sink_after ≡ sink)
+
+-- a run that exports a file to a target, from one state of a folder and a sink to another, with this status
+pub record Exports {F S : Type 0} (file target : List ℕ) (folders : FolderView F) (folder folder_after : F) (sinks : SinkView S) (out out_after : S) (how : Status) : Type 0 where
+  pub counts : FaultCounts (folders.faults folder) (folders.faults folder_after) (sinks.faults out) (sinks.faults out_after) how
+  pub told : (folders.told folder_after ≡ folders.told folder) × (sinks.told out_after ≡ sinks.told out)
+  pub leaves : IsTrue (folders.told folder)
+      → LeavesBy file target (seen_folder folders folder) (seen_folder folders folder_after) (seen_sink sinks out) (seen_sink sinks out_after) how
+
+-- a run of words: two are the names of the file and the target, and others do nothing
+abbrev pub Runs : {F S : Type 0} → List (List ℕ) → FolderView F → F → F → SinkView S → S → S → Status → Type 0
+Runs (file ∷ target ∷ []) folders folder folder_after sinks out out_after how = Exports file target folders folder folder_after sinks out out_after how
+Runs _ folders folder folder_after sinks out out_after how = (how ≡ status.Words) × (folder_after ≡ folder) × (out_after ≡ out)

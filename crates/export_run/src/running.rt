@@ -1,0 +1,50 @@
+ghost use Rattle.std.specs.Prelude.{◌≡◌};
+ghost use Rattle.export_run.specs.Runs.{Exports, Runs};
+
+use crate::printing::{tell_exported, tell_stop, write_status};
+use crate::reading::read_export;
+use crate::status::Status;
+use keyman_words::{FileName, write};
+use kmn_base::Text;
+use kmn_outside::{Folder, Sink};
+use std::alloc::Global;
+
+/// Exports the file that the first of two words names to the name that the second is. Other words do nothing.
+pub fn export_run<F: Folder, S: Sink>(
+    alloc: Global,
+    words: &[Text],
+    folder: &mut F,
+    out: &mut S,
+) -> Status
+    ensures { Runs words.now F.Folder folder.old folder.new S.Sink out.old out.new result }
+{
+    match words {
+        [file, target] => export_file(
+            alloc,
+            &FileName::of(file),
+            &FileName::of(target),
+            folder,
+            out,
+        ),
+        _ => Status::Words,
+    }
+}
+
+/// Exports the file of a name, writes what came under another and prints its size.
+fn export_file<F: Folder, S: Sink>(
+    alloc: Global,
+    file: &FileName<'_>,
+    target: &FileName<'_>,
+    folder: &mut F,
+    out: &mut S,
+) -> Status
+    ensures { Exports file.now target.now F.Folder folder.old folder.new S.Sink out.old out.new result }
+{
+    match read_export(alloc, file, folder) {
+        Ok(export) => match write(alloc, target, export.as_slice(), folder) {
+            Ok(()) => tell_exported(alloc, export.as_slice(), out),
+            Err(error) => write_status(error),
+        },
+        Err(stop) => tell_stop(alloc, stop, out),
+    }
+}

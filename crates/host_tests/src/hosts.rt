@@ -1,0 +1,90 @@
+//! Fields of one host.
+
+use crate::fixtures::KEYBOARD;
+use kmn_base::{Event, KeyPress};
+use kmn_compiler::compile;
+use kmx_verifier::{Verified, verify};
+use std::alloc::Global;
+use std::test::Fail;
+use text_host::{HOST_FIELDS, Host, HostError};
+
+/// The accent's key.
+const ACCENT: KeyPress = KeyPress { code: 192, mods: 0 };
+/// The vowel's.
+const VOWEL: KeyPress = KeyPress { code: 65, mods: 0 };
+
+/// A host with so many fields.
+fn host_with<'a>(
+    alloc: Global,
+    file: &'a Verified<'a>,
+    fields: usize,
+) -> Result<Host<'a>, HostError> {
+    let mut host = Host::over(alloc, file);
+    for _ in 0..fields {
+        host.add(alloc)?;
+    }
+    Ok(host)
+}
+
+/// Whether a host of two fields has no other.
+fn has_two(alloc: Global, file: &Verified) -> Result<bool, HostError> {
+    let mut host = host_with(alloc, file, 2)?;
+    let step = host.step(alloc, 9, &Event::Key(VOWEL));
+    let preview = host.preview(alloc, 0, VOWEL);
+    Ok(
+        matches!(step, Err(HostError::NoField))
+            && matches!(preview, Err(HostError::NoField))
+            && host.field(2).is_some()
+            && host.field(3).is_none(),
+    )
+}
+
+/// Whether a host has the most fields that it can have, and no more.
+fn is_full(alloc: Global, file: &Verified) -> Result<bool, HostError> {
+    let mut host = host_with(alloc, file, HOST_FIELDS)?;
+    let more = host.add(alloc);
+    Ok(matches!(more, Err(HostError::Full)) && host.field(64).is_some() && host.field(65).is_none())
+}
+
+/// Whether a press in a field inserts a character, and a preview before it says the same.
+fn inserts(
+    alloc: Global,
+    host: &mut Host,
+    field: u32,
+    press: KeyPress,
+    wanted: &[char],
+) -> Result<bool, HostError> {
+    let preview = host.preview(alloc, field, press)?;
+    let step = host.step(alloc, field, &Event::Key(press))?;
+    let inserted = host
+        .field(field)
+        .map(|session| session.inserted() == wanted);
+    Ok(
+        preview.outcome == step.outcome
+            && preview.inserted.as_slice() == wanted
+            && inserted == Some(true),
+    )
+}
+
+/// Whether an accent waits in its own field alone.
+fn are_apart(alloc: Global, file: &Verified) -> Result<bool, HostError> {
+    let mut host = host_with(alloc, file, 2)?;
+    Ok(
+        inserts(alloc, &mut host, 1, ACCENT, &[])?
+            && inserts(alloc, &mut host, 2, VOWEL, &['a'])?
+            && inserts(alloc, &mut host, 1, VOWEL, &['\u{E0}'])?,
+    )
+}
+
+/// Whether all of it holds of a host over that keyboard.
+fn is_right(alloc: Global) -> Result<bool, Fail> {
+    let compiled = compile(alloc, KEYBOARD, &[])?;
+    let file = verify(alloc, compiled.bytes.as_slice())?;
+    Ok(has_two(alloc, &file)? && is_full(alloc, &file)? && are_apart(alloc, &file)?)
+}
+
+#[test]
+fn fields_of_a_host(rt: HostRuntime) -> Result<(), Fail> {
+    assert!(rt; is_right(rt.alloc())?);
+    Ok(())
+}

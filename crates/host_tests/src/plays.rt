@@ -1,0 +1,69 @@
+//! Plays of scripts for many fields, with all that they print.
+
+use crate::fixtures::KEYBOARD;
+use host_script::read_host;
+use kmn_base::Seq;
+use kmn_compiler::compile;
+use kmn_outside::MemorySink;
+use kmx_verifier::{Verified, verify};
+use play_host::play_host;
+use play_transcript::PlayEnd;
+use std::alloc::Global;
+use std::test::Fail;
+use text_host::Host;
+use virtual_keys::KeyDictionary;
+
+/// A script, what its play prints, and how it ends.
+const PLAYS: &[(&str, &str, PlayEnd)] = &[
+    (
+        "open\n[K_BKQUOTE]\nopen\n[K_A]\nfield 1\npreview [K_A]\n[K_A]\n",
+        "\
+f1 1 del=0 ins=- pass=0 beep=0 ent=1 ctx=d1
+f2 1 del=0 ins=0061 pass=0 beep=0 ent=1 ctx=0061
+f1 preview del=0 ins=00E0 pass=0 beep=0 ent=1
+f1 2 del=0 ins=00E0 pass=0 beep=0 ent=1 ctx=00E0
+f1 text 00E0|-
+f2 text 0061|-
+end events=3 failed=0
+",
+        PlayEnd::Done,
+    ),
+    (
+        "open\nopen\nexpect 'x'\n",
+        "f2 expect failed line=3\nf1 text -|-\nf2 text -|-\nend events=0 failed=1\n",
+        PlayEnd::ExpectFailed,
+    ),
+];
+
+/// Whether a play prints what is wanted and ends so.
+fn is_right(
+    alloc: Global,
+    file: &Verified,
+    script: &str,
+    printed: &str,
+    end: PlayEnd,
+) -> Result<bool, Fail> {
+    let entries = read_host(alloc, script.as_bytes(), &KeyDictionary::new(alloc))?;
+    let mut out = MemorySink::new(alloc, Seq::new(alloc));
+    let ended = play_host(alloc, Host::over(alloc, file), entries.as_slice(), &mut out)?;
+    Ok(ended == end && out.written() == printed.as_bytes())
+}
+
+/// The first script whose play is another.
+fn wrong_play(alloc: Global) -> Result<Option<&'static str>, Fail> {
+    let compiled = compile(alloc, KEYBOARD, &[])?;
+    let file = verify(alloc, compiled.bytes.as_slice())?;
+    for &(script, printed, end) in PLAYS {
+        if !is_right(alloc, &file, script, printed, end)? {
+            return Ok(Some(script));
+        }
+    }
+    Ok(None)
+}
+
+#[test]
+fn plays_print_lines(rt: HostRuntime) -> Result<(), Fail> {
+    let wrong = wrong_play(rt.alloc())?;
+    assert!(rt; wrong.is_none(), "{}", wrong.unwrap_or(""));
+    Ok(())
+}

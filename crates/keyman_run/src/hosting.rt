@@ -1,0 +1,119 @@
+//! The command `host`: a script is played in the fields of a host over a compiled file, whoever made it.
+
+ghost use Rattle.std.specs.Prelude.{◌≡◌};
+ghost use Rattle.kmx_format.specs.TablesOf.{tables_of};
+ghost use Rattle.rule_model.specs.Tab.{tab};
+ghost use Rattle.play_host.specs.HostText.{host_end, host_text};
+ghost use Rattle.keyman_run.specs.Endings.{end_status};
+ghost use Rattle.keyman_run.specs.Orders.{bytes_host_work, host_script_work, host_work, tables_host_work};
+ghost use Rattle.keyman_run.specs.Run.{Does};
+ghost use Rattle.keyman_run.specs.Steps.{Gives, Tells, itself};
+
+use crate::preparing::{Stop, first_line, own_names, read_file, read_stop};
+use crate::running::{end_status, tell_stop, write_status};
+use crate::status::Status;
+use host_script::{HostEntry, read_host};
+use keyman_words::{FileName, read};
+use kmn_base::limits::TEXT_BYTES;
+use kmn_base::{Code, Seq};
+use kmn_outside::{Folder, Sink};
+use kmx_verifier::{Verified, verify};
+use play_host::play_host;
+use play_session::Session;
+use std::alloc::Global;
+use text_host::Host;
+use virtual_keys::KeyDictionary;
+
+/// Plays a script in the fields of a host over a compiled file.
+pub fn host_on_file<F: Folder, S: Sink>(
+    alloc: Global,
+    file: &FileName<'_>,
+    keys: &FileName<'_>,
+    folder: &mut F,
+    out: &mut S,
+) -> Status
+    ensures { Does (host_work file.now keys.now) F.Folder folder.old folder.new S.Sink out.old out.new result }
+{
+    match read_file(alloc, file, folder) {
+        Ok(bytes) => host_on_bytes(alloc, bytes.as_slice(), keys, folder, out),
+        Err(stop) => tell_stop(alloc, stop, out),
+    }
+}
+
+/// Plays a script in a host over the bytes of a file, or prints the file's first fault.
+#[tactic(auto, using(crate::proofs::HostRuns::hosts_valid))]
+fn host_on_bytes<F: Folder, S: Sink>(
+    alloc: Global,
+    bytes: &[u8],
+    keys: &FileName<'_>,
+    folder: &mut F,
+    out: &mut S,
+) -> Status
+    ensures { Does (bytes_host_work bytes.now keys.now) F.Folder folder.old folder.new S.Sink out.old out.new result }
+{
+    match verify(alloc, bytes) {
+        Ok(file) => host_on_valid(alloc, &file, keys, folder, out),
+        Err(error) => tell_stop(alloc, Stop::from(error), out),
+    }
+}
+
+/// Reads a script for the keyboard of a valid file, and plays it in a host over the file.
+fn host_on_valid<'a, F: Folder, S: Sink>(
+    alloc: Global,
+    file: &'a Verified<'a>,
+    keys: &FileName<'_>,
+    folder: &mut F,
+    out: &mut S,
+) -> Status
+    ensures { Does (tables_host_work (tables_of file.now) keys.now) F.Folder folder.old folder.new S.Sink out.old out.new result }
+{
+    match read_for_file(alloc, file, keys, folder) {
+        Ok(entries) => tell_hosted(alloc, file, entries.as_slice(), out),
+        Err(stop) => tell_stop(alloc, stop, out),
+    }
+}
+
+/// Reads a host's script for the keyboard of a valid file, for whose names of keys a session is started.
+fn read_for_file<'a, F: Folder>(
+    alloc: Global,
+    file: &'a Verified<'a>,
+    keys: &FileName<'_>,
+    folder: &mut F,
+) -> Result<Seq<HostEntry>, Stop>
+    ensures { Gives itself (host_script_work (tab (tables_of file.now)).dictionary keys.now) F.Folder folder.old folder.new result }
+{
+    let session = Session::start(alloc, file)?;
+    read_host_entries(alloc, keys, own_names(&session), folder)
+}
+
+/// Reads a host's script for a keyboard with these names of keys.
+fn read_host_entries<F: Folder>(
+    alloc: Global,
+    keys: &FileName<'_>,
+    names: &KeyDictionary,
+    folder: &mut F,
+) -> Result<Seq<HostEntry>, Stop>
+    ensures { Gives itself (host_script_work names.now keys.now) F.Folder folder.old folder.new result }
+{
+    let script = read(alloc, keys, TEXT_BYTES, folder).map_err(|error| read_stop(
+        error,
+        first_line(Code::P06),
+    ))?;
+    Ok(read_host(alloc, script.as_slice(), names)?)
+}
+
+/// Prints what the fields of a host over a valid file do with a script.
+#[tactic(auto, using(play_transcript::proofs::PrintingLaws::none_begun))]
+fn tell_hosted<'a, S: Sink>(
+    alloc: Global,
+    file: &'a Verified<'a>,
+    entries: &[HostEntry],
+    out: &mut S,
+) -> Status
+    ensures { Tells (end_status (host_end (tables_of file.now) entries.now)) (host_text (tables_of file.now) entries.now) S.Sink out.old out.new result }
+{
+    match play_host(alloc, Host::over(alloc, file), entries, out) {
+        Ok(end) => end_status(end),
+        Err(error) => write_status(error),
+    }
+}

@@ -1,0 +1,48 @@
+//! The command `shadow`: a source is compiled, and what is printed is which of its lines never fire.
+
+ghost use Rattle.std.specs.Prelude.{◌≡◌};
+ghost use Rattle.keyman_run.specs.Inputs.{few_records};
+ghost use Rattle.keyman_run.specs.Orders.{shadow_work};
+ghost use Rattle.keyman_run.specs.Run.{Does};
+ghost use Rattle.keyman_run.specs.Steps.{IsCompiled, TellsDead};
+
+use crate::preparing::{Stop, read_and_compile};
+use crate::running::{tell_line, tell_stop};
+use crate::status::Status;
+use keyman_lines::Reason;
+use keyman_words::FileName;
+use kmn_compiler::Compiled;
+use kmn_outside::{Folder, Sink};
+use kmx_format::rule_count;
+use shadow_text::{SHADOW_RECORDS, dead_text};
+use std::alloc::Global;
+
+/// Compiles a source, and prints which of its lines never fire.
+pub fn shadow_rules<F: Folder, S: Sink>(
+    alloc: Global,
+    source: &FileName<'_>,
+    folder: &mut F,
+    out: &mut S,
+) -> Status
+    ensures { Does (shadow_work source.now) F.Folder folder.old folder.new S.Sink out.old out.new result }
+{
+    match read_and_compile(alloc, source, folder) {
+        Ok(compiled) => tell_dead(alloc, &compiled, out),
+        Err(stop) => tell_stop(alloc, stop, out),
+    }
+}
+
+/// Prints which lines of a compiled source never fire, unless there are too many records to be searched.
+fn tell_dead<S: Sink>(alloc: Global, compiled: &Compiled, out: &mut S) -> Status
+    requires { IsCompiled compiled.now }
+    ensures { TellsDead (few_records compiled.now.tables) S.Sink out.old out.new result }
+{
+    let count = rule_count(compiled.tables.groups.as_slice());
+    if count > SHADOW_RECORDS as u64 {
+        return tell_stop(alloc, Stop::Refused(Reason::Records(count)), out);
+    }
+    match dead_text(alloc, &compiled.tables) {
+        Ok(text) => tell_line(text.as_slice(), Status::Done, out),
+        Err(_memory) => Status::Memory,
+    }
+}

@@ -1,0 +1,15 @@
+use Rattle.std.proofs.Common.{◌≡◌, ◌++◌, ◌∙◌, List, ℕ, ap, subst, rules}
+use Rattle.play_transcript.specs.Printing.{IsBegun}
+use Rattle.play_transcript.proofs.PrintingLaws.{fault_prints}
+use Rattle.play_host.specs.HostText.{front, preview_line}
+use Rattle.play_host.proofs.FieldLaws.{shown_lines}
+use Rattle.play_host.proofs.playing.play_preview.Goals as goal
+
+pub returns-in_err-put_line-in-Ok-clause-prints : goal.returns-in_err-put_line-in-Ok-clause-prints
+returns-in_err-put_line-in-Ok-clause-prints g c = λ told.
+    let line : c.in_ok-line-in-Ok.line ≡ preview_line c.in-Ok.preview.outcome c.in-Ok.preview.inserted = search rules in
+    fault_prints _ _ _ _ _ c.from_residual-in_err-put_line-in-Ok.ensures.1
+    (subst (λ (lines : List ℕ). IsBegun (g.S.Sink.written c.args.out.now) (g.S.Sink.written c.put_line.new.out) lines)
+    (ap (λ (text : List ℕ). front c.args.play.now.field ++ text) line
+    ∙ shown_lines c.args.play.now c.args.press c.in-Ok.preview.outcome c.in-Ok.preview.inserted c.in-Ok.ensures.happens c.in-Ok.ensures.outcome c.in-Ok.ensures.inserted)
+    (c.in_err-put_line-in-Ok.ensures.prints told))

@@ -1,0 +1,13 @@
+use Rattle.std.proofs.Common.{◌+◌, ◌∙◌, List, length, get_or, ap, rules, arith}
+use Rattle.play_session.specs.Session.{SessionState}
+use Rattle.play_transcript.proofs.PrintingLaws.{fault_prints}
+use Rattle.play_host.proofs.FieldLaws.{text_begun}
+use Rattle.play_host.proofs.playing.put_texts.Goals as goal
+
+pub returns-in_err-put_text-clause-prints : goal.returns-in_err-put_text-clause-prints
+returns-in_err-put_text-clause-prints g c = λ told.
+    fault_prints _ _ _ _ _ c.from_residual.ensures.1
+    (text_begun c.args.host.now.sessions c.loop-session.session-index c.session-item.result c.session-item.result
+    (omega (arith, ap length c.fields-session-items.ensures.value))
+    (c.session-item.is ∙ ap (λ (sessions : List SessionState). get_or sessions c.loop-session.session-index c.session-item.result) c.fields-session-items.ensures.value)
+    (c.loop-session.field + 1) _ _ _ _ (c.loop-session.invariant.printed told) (c.in_err-put_text.ensures.prints (search rules)))

@@ -1,0 +1,5 @@
+pub mod EachEntry
+pub mod Fields
+pub mod HostCalls
+pub mod HostText
+pub mod Playing

@@ -1,0 +1,11 @@
+pub mod Counts
+pub mod DeadRules
+pub mod Examples
+pub mod Flags
+pub mod FoundCovers
+pub mod Keys
+pub mod Ranges
+pub mod Records
+pub mod Rows
+pub mod Sound
+pub mod Tried

@@ -1,0 +1,7 @@
+use Rattle.std.proofs.Common.{List, Bool, subst, sym}
+use Rattle.rule_shadow.specs.Flags.{TellOptions}
+use Rattle.rule_shadow.proofs.Flags.{marked_tell}
+use Rattle.rule_shadow.proofs.finder.covers.Goals as goal
+
+pub new-requires : goal.new-requires
+new-requires c = subst (λ (flags : List Bool). TellOptions c.args.tables.now flags) (sym c.mark_options.ensures) (marked_tell c.args.tables.now 20000 c.requires.store_count)

@@ -1,0 +1,10 @@
+use Rattle.std.proofs.Common.{◌≡◌, drop, not, ◌||◌}
+use Rattle.std.specs.List.{list_all}
+use Rattle.virtual_keys.specs.Fits.{key_fits}
+use Rattle.rule_shadow.specs.Keys.{presses_of}
+use Rattle.rule_shadow.proofs.key_cover.fit_with.Given as goal
+
+abbrev pub invariant-loop-mods : goal.invariant-loop-mods
+invariant-loop-mods l =
+    list_all (λ press. not (key_fits l.b press) || key_fits l.a press) (presses_of (drop l.mods-index l.modifiers) l.code)
+    ≡ list_all (λ press. not (key_fits l.b press) || key_fits l.a press) (presses_of l.modifiers l.code)

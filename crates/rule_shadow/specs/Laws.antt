@@ -1,0 +1,51 @@
+-- The law of certificates.
+use Rattle.std.specs.Prelude.{◌≡◌, ◌≢◌, ℕ, true, is_some, List, position, slice_get, Option, Some}
+use Rattle.kmn_base.specs.declared.items.Item.{Item}
+use Rattle.kmn_base.specs.declared.items.Element.{Element}
+use Rattle.kmn_base.specs.declared.keys.KeyPress.{KeyPress}
+use Rattle.rule_model.specs.declared.event_state.EventState.{EventState}
+use Rattle.rule_model.specs.declared.program.Program.{Program}
+use Rattle.rule_model.specs.declared.program.GroupDef.{GroupDef}
+use Rattle.rule_model.specs.declared.tables.Rule.{Rule}
+use Rattle.rule_model.specs.declared.tables.Group.{Group}
+use Rattle.rule_model.specs.declared.tables.Tables.{Tables}
+use Rattle.rule_model.specs.Content.{content}
+use Rattle.rule_model.specs.Hold.{holds}
+use Rattle.rule_model.specs.Choose.{Chosen}
+use Rattle.rule_model.specs.Enter.{chosen_in}
+use Rattle.rule_model.specs.Naming.{names_of}
+use Rattle.rule_model.specs.Src.{src, src_group}
+use Rattle.rule_model.specs.Tab.{tab, tab_rule}
+use Rattle.compile_laws.specs.WellNamed.{IsWellNamed}
+use Rattle.compile_laws.specs.Compiles.{Compiles}
+use Rattle.rule_shadow.specs.declared.cert.Cert.{Cert}
+use Rattle.kmx_format.specs.Writable.{IsWritable}
+use Rattle.rule_shadow.specs.Covers.{covers}
+
+-- the number of the first record of a group that holds, at a moment with these option values
+abbrev pub first_number : Tables → Group → List (List Element) → List Item → KeyPress → Option ℕ
+first_number tables group values left press =
+    position (λ rule. is_some (holds (content (tab tables).stores values) left press (tab_rule tables.stores group.using_keys rule))) group.rules
+
+-- a record with a certificate is at no moment and for no press the first that holds
+abbrev pub CoveredNeverGoFirst : Type 0
+CoveredNeverGoFirst =
+    (tables : Tables) (n number : ℕ) (group : Group) (cert : Cert) → IsWritable tables → slice_get tables.groups n ≡ Some group → covers tables n number cert ≡ true →
+    (values : List (List Element)) (left : List Item) (press : KeyPress) → first_number tables group values left press ≢ Some number
+
+-- a rule in a line of a group is chosen at no moment and for no press; rules of a group have lines of their own
+abbrev pub IsDead : Program → GroupDef → ℕ → Type 0
+IsDead program group line =
+    (s : EventState) (press : KeyPress) (chosen : Chosen) → chosen_in (src program) press (src_group (names_of program) group) s ≡ Some chosen → chosen.0.line ≢ line
+
+-- each record of a line of a group has a certificate
+abbrev pub AreCovered : Tables → ℕ → Group → ℕ → Type 0
+AreCovered tables n group line =
+    (number : ℕ) (r : Rule) → slice_get group.rules number ≡ Some r → r.line ≡ line → (cert : Cert) × (covers tables n number cert ≡ true)
+
+-- a rule of a program whose records all have certificates is dead
+abbrev pub CoveredRulesAreDead : Type 0
+CoveredRulesAreDead =
+    (program : Program) (tables : Tables) → IsWellNamed program → Compiles program tables → IsWritable tables →
+    (n : ℕ) (group : GroupDef) (compiled : Group) → slice_get program.groups n ≡ Some group → slice_get tables.groups n ≡ Some compiled →
+    (line : ℕ) → AreCovered tables n compiled line → IsDead program group line

@@ -1,0 +1,6 @@
+pub mod Keys
+pub mod Places
+pub mod Flags
+pub mod Covers
+pub mod Finding
+pub mod Laws

@@ -1,0 +1,145 @@
+ghost use Rattle.std.specs.Prelude.{◌≡◌, ◌≤◌, length, slice_get, filter_map, option_map};
+ghost use Rattle.std.specs.Option.{option_flatten};
+ghost use Rattle.rule_model.specs.Match.{item_of};
+ghost use Rattle.rule_shadow.specs.Places.{items_of, patterns_of};
+ghost use Rattle.rule_shadow.specs.Covers.{items_at, narrowed, nothing_narrowed, covers_by, covers_under, covers_list};
+
+use crate::cert::Cert;
+use crate::covering::{covers_rule, item_of};
+use crate::place_list::{is_matched, places};
+use crate::subject::Subject;
+use kmn_base::{Element, Item};
+use rule_model::Pat;
+
+/// A pattern of a context by its place.
+fn pattern_at(context: &[Pat], place: u32) -> Option<Pat>
+    ensures { result ≡ slice_get (patterns_of context.now) place }
+{
+    let [pattern, rest @ ..] = context else {
+        return None;
+    };
+    if !is_matched(*pattern) {
+        return pattern_at(rest, place);
+    }
+    if place == 0 {
+        return Some(*pattern);
+    }
+    pattern_at(rest, place - 1)
+}
+
+/// The item to which a place is narrowed.
+fn given_at(narrowing: &[Option<Item>], place: u32) -> Option<Item>
+    ensures { result ≡ option_flatten (slice_get narrowing.now place) }
+{
+    narrowing.get(place as usize).copied().flatten()
+}
+
+/// The store by whose items a certificate may split at a place.
+pub fn split_store(subject: &Subject, narrowing: &[Option<Item>], place: u32) -> Option<u32>
+    ensures { option_map (items_of subject.now.tables.now) result ≡ items_at subject.now.tables.now subject.now.rule.now narrowing.now place }
+{
+    if given_at(narrowing, place).is_some() {
+        return None;
+    }
+    match pattern_at(subject.rule.context.as_slice(), place) {
+        Some(Pat::Any(store)) => {
+            if subject.tables.is_fixed(store) {
+                Some(store)
+            } else {
+                None
+            }
+        }
+        _ => None,
+    }
+}
+
+/// No place is narrowed.
+pub fn nothing_narrowed() -> [Option<Item>; 60]
+    ensures { result ≡ nothing_narrowed }
+{
+    [None; 60]
+}
+
+/// A narrowing with one place more.
+pub fn narrowed(narrowing: &[Option<Item>; 60], place: u32, item: Item) -> [Option<Item>; 60]
+    ensures { result ≡ narrowed narrowing.now place item }
+{
+    let mut more = *narrowing;
+    if place < 60 {
+        more[place as usize] = Some(item);
+    }
+    more
+}
+
+/// Whether the record of a number, which is less, covers a record under a narrowing.
+fn covers_by(subject: &Subject, narrowing: &[Option<Item>], by: u32) -> bool
+    requires { length subject.now.rule.now.context ≤ 60 }
+    ensures { result ≡ covers_by subject.now.tables.now subject.now.group.now subject.now.number subject.now.rule.now narrowing.now by }
+{
+    if by >= subject.number {
+        return false;
+    }
+    match subject.group.rules.as_slice().get(by as usize) {
+        Some(q) => {
+            let places = places(subject.tables, narrowing, subject.rule.context.as_slice());
+            covers_rule(
+                subject.tables,
+                subject.group.using_keys,
+                places.as_slice(),
+                q,
+                subject.rule,
+            )
+        }
+        None => false,
+    }
+}
+
+/// Whether there is a part for each item, and each part is so with the place narrowed to its item.
+#[cycle(certs)]
+fn covers_parts(
+    subject: &Subject,
+    narrowing: &[Option<Item>; 60],
+    place: u32,
+    elements: &[Element],
+    parts: &[Cert],
+) -> bool
+    requires { length subject.now.rule.now.context ≤ 60 }
+    ensures { result ≡ covers_list subject.now.tables.now subject.now.group.now subject.now.number subject.now.rule.now narrowing.now place (filter_map item_of elements.now) parts.now }
+{
+    let mut next = 0;
+    for element in elements {
+        if let Some(item) = item_of(*element) {
+            if next >= parts.len() {
+                return false;
+            }
+            let inner = narrowed(narrowing, place, item);
+            if !covers_under(subject, &inner, &parts[next]) {
+                return false;
+            }
+            next += 1;
+        }
+    }
+    next == parts.len()
+}
+
+/// Whether what a certificate says of a record is so, under a narrowing.
+#[cycle(certs)]
+#[tactic(auto, using(crate::proofs::Rows::covers_row))]
+pub fn covers_under(subject: &Subject, narrowing: &[Option<Item>; 60], cert: &Cert) -> bool
+    requires { length subject.now.rule.now.context ≤ 60 }
+    ensures { result ≡ covers_under subject.now.tables.now subject.now.group.now subject.now.number subject.now.rule.now narrowing.now cert.now }
+{
+    match cert {
+        Cert::By { rule } => covers_by(subject, narrowing, *rule),
+        Cert::Split { place, parts } => match split_store(subject, narrowing, *place) {
+            Some(store) => covers_parts(
+                subject,
+                narrowing,
+                *place,
+                subject.tables.elements(store),
+                parts.as_slice(),
+            ),
+            None => false,
+        },
+    }
+}

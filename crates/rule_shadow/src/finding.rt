@@ -1,0 +1,183 @@
+//! What covers a record: the least record before it, or the first place at which least records cover it item by item.
+
+ghost use Rattle.std.specs.Prelude.{◌≡◌, ◌≤◌, ◌<◌, ◌^◌, ◌+◌, [], length, IfOk, filter_map, map};
+ghost use Rattle.std.specs.List.{position_from};
+ghost use Rattle.rule_model.specs.Match.{item_of};
+ghost use Rattle.rule_shadow.specs.declared.cert.Cert.{By};
+ghost use Rattle.rule_shadow.specs.Keys.{fitting_presses};
+ghost use Rattle.rule_shadow.specs.Covers.{covers_rule, nothing_narrowed};
+ghost use Rattle.rule_shadow.specs.Finding.{Says, least_by, least_onto, split_rules, first_split, found_for};
+
+use crate::cert::{Cert, Place};
+use crate::certs::{narrowed, nothing_narrowed, split_store};
+use crate::covering::{conditions_too, cover_last, item_of, keeps_nul};
+use crate::key_cover::{fits_each, fitting_presses};
+use crate::place_list::{is_matched, places};
+use crate::subject::Subject;
+use kmn_base::slices::before;
+use kmn_base::{Element, Item, Memory, Seq};
+use rule_model::{Pat, Rule};
+use std::alloc::Global;
+use virtual_keys::Pressed;
+
+/// What is found for a record: a record that covers it, a place with a record for each item, or nothing.
+#[derive(Drop)]
+pub enum Found {
+    NotFound,
+    /// The least number of a record that covers it.
+    ByRule(u32),
+    /// A place, counted from 0, and for each item of its store the least number of a record that covers it there.
+    SplitAt(u32, Seq<u32>),
+}
+
+/// Whether a record covers one whose places have these ranges. What most often fails is asked first: the first press.
+#[tactic(auto, using(crate::proofs::Counts::asked_first, crate::proofs::Tried::fitting_tell))]
+fn covers_record(subject: &Subject, presses: &[Pressed], places: &[Place], q: &Rule) -> bool
+    requires { presses.now ≡ fitting_presses subject.now.rule.now.key }
+    ensures { result ≡ covers_rule subject.now.tables.now subject.now.group.now.using_keys places.now q.now subject.now.rule.now }
+{
+    let of_q = q.context.as_slice();
+    let of_r = subject.rule.context.as_slice();
+    (!subject.group.using_keys || fits_each(q.key, presses))
+        && cover_last(subject.tables, of_q, places)
+        && keeps_nul(of_q, of_r)
+        && conditions_too(subject.tables, of_r, of_q)
+}
+
+/// The first of some records that covers one.
+fn first_covering(
+    subject: &Subject,
+    presses: &[Pressed],
+    places: &[Place],
+    rules: &[Rule],
+) -> Option<u32>
+    requires few { length rules.now < 2 ^ 32 }
+    requires fitting { presses.now ≡ fitting_presses subject.now.rule.now.key }
+    ensures { result ≡ position_from (λ q. covers_rule subject.now.tables.now subject.now.group.now.using_keys places.now q subject.now.rule.now) 0 rules.now }
+{
+    for n in 0..rules.len() {
+        if covers_record(subject, presses, places, &rules[n]) {
+            return Some(n as u32);
+        }
+    }
+    None
+}
+
+/// The least record before one that covers it under a narrowing.
+fn least_by(subject: &Subject, presses: &[Pressed], narrowing: &[Option<Item>; 60]) -> Option<u32>
+    requires few { length subject.now.rule.now.context ≤ 60 }
+    requires fitting { presses.now ≡ fitting_presses subject.now.rule.now.key }
+    ensures { result ≡ least_by subject.now.tables.now subject.now.group.now subject.now.number subject.now.rule.now narrowing.now }
+{
+    let places = places(subject.tables, narrowing, subject.rule.context.as_slice());
+    let rules = before(subject.group.rules.as_slice(), subject.number as usize);
+    first_covering(subject, presses, places.as_slice(), rules)
+}
+
+/// The least record for each item to which a place is narrowed, where each item has one.
+fn least_each(
+    alloc: Global,
+    subject: &Subject,
+    presses: &[Pressed],
+    place: u32,
+    elements: &[Element],
+) -> Result<Option<Seq<u32>>, Memory>
+    requires few { length subject.now.rule.now.context ≤ 60 }
+    requires fitting { presses.now ≡ fitting_presses subject.now.rule.now.key }
+    ensures { IfOk result (λ rules. rules ≡ least_onto subject.now.tables.now subject.now.group.now subject.now.number subject.now.rule.now place (filter_map item_of elements.now) []) }
+{
+    let mut rules = Vec::new(alloc);
+    for element in elements {
+        if let Some(item) = item_of(*element) {
+            let narrowing = narrowed(&nothing_narrowed(), place, item);
+            match least_by(subject, presses, &narrowing) {
+                Some(q) => rules.push(q)?,
+                None => return Ok(None),
+            }
+        }
+    }
+    Ok(Some(Seq::from_vec(rules)))
+}
+
+/// The least records by which a record splits at a place.
+fn split_rules(
+    alloc: Global,
+    subject: &Subject,
+    presses: &[Pressed],
+    place: u32,
+) -> Result<Option<Seq<u32>>, Memory>
+    requires few { length subject.now.rule.now.context ≤ 60 }
+    requires fitting { presses.now ≡ fitting_presses subject.now.rule.now.key }
+    ensures { IfOk result (λ rules. rules ≡ split_rules subject.now.tables.now subject.now.group.now subject.now.number subject.now.rule.now place) }
+{
+    match split_store(subject, &nothing_narrowed(), place) {
+        Some(store) => {
+            let elements = subject.tables.elements(store);
+            least_each(alloc, subject, presses, place, elements)
+        }
+        None => Ok(None),
+    }
+}
+
+/// The first place, from one on, at which a record splits.
+fn first_split(
+    alloc: Global,
+    subject: &Subject,
+    presses: &[Pressed],
+    place: u32,
+    context: &[Pat],
+) -> Result<Found, Memory>
+    requires few { length subject.now.rule.now.context ≤ 60 }
+    requires fitting { presses.now ≡ fitting_presses subject.now.rule.now.key }
+    requires places { place + length context.now ≤ 60 }
+    ensures { IfOk result (λ found. found ≡ first_split subject.now.tables.now subject.now.group.now subject.now.number subject.now.rule.now place context.now) }
+{
+    let [pattern, rest @ ..] = context else {
+        return Ok(Found::NotFound);
+    };
+    if !is_matched(*pattern) {
+        return first_split(alloc, subject, presses, place, rest);
+    }
+    match split_rules(alloc, subject, presses, place)? {
+        Some(rules) => Ok(Found::SplitAt(place, rules)),
+        None => first_split(alloc, subject, presses, place + 1, rest),
+    }
+}
+
+/// What is found for a record.
+pub fn found_for(alloc: Global, subject: &Subject) -> Result<Found, Memory>
+    requires { length subject.now.rule.now.context ≤ 60 }
+    ensures { IfOk result (λ found. found ≡ found_for subject.now.tables.now subject.now.group.now subject.now.number subject.now.rule.now) }
+{
+    let presses = fitting_presses(alloc, subject.rule.key)?;
+    let presses = presses.as_slice();
+    match least_by(subject, presses, &nothing_narrowed()) {
+        Some(q) => Ok(Found::ByRule(q)),
+        None => first_split(alloc, subject, presses, 0, subject.rule.context.as_slice()),
+    }
+}
+
+/// A part for each record.
+fn parts_of(alloc: Global, rules: &[u32]) -> Result<Vec<Cert>, Memory>
+    ensures { IfOk result (λ parts. parts.items ≡ map By rules.now) }
+{
+    let mut parts = Vec::new(alloc);
+    for rule in rules {
+        parts.push(Cert::By { rule: *rule })?;
+    }
+    Ok(parts)
+}
+
+/// The certificate that says what was found.
+pub fn certificate(alloc: Global, found: Found) -> Result<Option<Cert>, Memory>
+    ensures { IfOk result (Says found) }
+{
+    match found {
+        Found::NotFound => Ok(None),
+        Found::ByRule(rule) => Ok(Some(Cert::By { rule })),
+        Found::SplitAt(place, rules) => {
+            let parts = parts_of(alloc, rules.as_slice())?;
+            Ok(Some(Cert::Split { place, parts }))
+        }
+    }
+}

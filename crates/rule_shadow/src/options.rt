@@ -1,0 +1,82 @@
+//! Which stores are options: those that some item uses as one.
+
+ghost use Rattle.std.specs.Prelude.{◌≡◌, ◌++◌, [], ◌∷◌, false, IfOk, flat_map, length, replicate};
+ghost use Rattle.rule_model.specs.Tab.{pattern_options, output_options, rule_options, group_options, tab_options};
+ghost use Rattle.indexed_tables.specs.OptionFlags.{with_flags};
+
+use indexed_tables::mark;
+use kmn_base::Memory;
+use rule_model::{Group, Out, Pat, Rule, Tables};
+use std::alloc::Global;
+
+fn mark_context(flags: &mut [bool], context: &[Pat])
+    ensures { flags.new ≡ with_flags flags.old (flat_map pattern_options context.now) }
+{
+    for pattern in context {
+        if let Pat::Equal(store, _) | Pat::Unequal(store, _) = pattern {
+            mark(flags, *store);
+        }
+    }
+}
+
+fn mark_outputs(flags: &mut [bool], outputs: &[Out])
+    ensures { flags.new ≡ with_flags flags.old (flat_map output_options outputs.now) }
+{
+    for output in outputs {
+        if let Out::Set(store, _) | Out::Save(store) | Out::Reset(store) = output {
+            mark(flags, *store);
+        }
+    }
+}
+
+#[tactic(auto, using(indexed_tables::proofs::OptionFlags::with_flags_append))]
+fn mark_rule(flags: &mut [bool], rule: &Rule)
+    ensures { flags.new ≡ with_flags flags.old (rule_options rule.now) }
+{
+    mark_context(flags, rule.context.as_slice());
+    mark_outputs(flags, rule.output.as_slice());
+}
+
+#[tactic(auto, using(indexed_tables::proofs::OptionFlags::with_flags_append))]
+fn mark_rules(flags: &mut [bool], rules: &[Rule])
+    ensures { flags.new ≡ with_flags flags.old (flat_map rule_options rules.now) }
+{
+    for rule in rules {
+        mark_rule(flags, rule);
+    }
+}
+
+#[tactic(auto, using(indexed_tables::proofs::OptionFlags::with_flags_append))]
+fn mark_group(flags: &mut [bool], group: &Group)
+    ensures { flags.new ≡ with_flags flags.old (group_options group.now) }
+{
+    mark_rules(flags, group.rules.as_slice());
+    mark_outputs(flags, group.on_match.as_slice());
+    mark_outputs(flags, group.on_nomatch.as_slice());
+}
+
+#[tactic(auto, using(indexed_tables::proofs::OptionFlags::with_flags_append))]
+fn mark_groups(flags: &mut [bool], groups: &[Group])
+    ensures { flags.new ≡ with_flags flags.old (flat_map group_options groups.now) }
+{
+    for group in groups {
+        mark_group(flags, group);
+    }
+}
+
+/// Sets the flag of each store that some item of the tables uses as an option.
+#[tactic(auto, unfolding(rule_model::specs::Tab::tab_options))]
+pub fn mark_options(flags: &mut [bool], tables: &Tables)
+    ensures { flags.new ≡ with_flags flags.old (tab_options tables.now) }
+{
+    mark_groups(flags, tables.groups.as_slice());
+}
+
+/// A flag for each store: whether some item uses it as an option.
+pub fn option_flags(alloc: Global, tables: &Tables) -> Result<Vec<bool>, Memory>
+    ensures { IfOk result (λ flags. flags.items ≡ with_flags (replicate (length tables.now.stores) false) (tab_options tables.now)) }
+{
+    let mut flags = vec![in alloc; false; tables.stores.len()]?;
+    mark_options(flags.as_mut_slice(), tables);
+    Ok(flags)
+}

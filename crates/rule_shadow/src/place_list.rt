@@ -1,0 +1,118 @@
+ghost use Rattle.std.specs.Prelude.{◌≡◌, ◌+◌, ◌≤◌, ◌++◌, [], length};
+ghost use Rattle.kmx_format.specs.Writable.{is_matched};
+ghost use Rattle.rule_shadow.specs.Places.{first_given, store_range, range_at, stated_range, range_of, places_from};
+
+use crate::cert::{Place, Range};
+use crate::flagged::FlaggedTables;
+use arrayvec::ArrayVec;
+use kmn_base::Item;
+use kmn_base::slices::behind;
+use rule_model::Pat;
+
+/// The range of a store's items, where it is no option.
+fn store_range(tables: &FlaggedTables, store: u32) -> Range
+    ensures { result ≡ store_range tables.now store }
+{
+    if tables.is_fixed(store) {
+        Range::Store(store)
+    } else {
+        Range::Unknown
+    }
+}
+
+/// The range of an item before, by its offset.
+fn range_at(seen: &[Range], offset: u32) -> Range
+    ensures { result ≡ range_at seen.now offset }
+{
+    match (offset as usize).checked_sub(1) {
+        Some(before) => seen.get(before).copied().unwrap_or(Range::Unknown),
+        None => Range::Unknown,
+    }
+}
+
+/// The range that a pattern states, behind those of the items before it.
+fn stated_range(tables: &FlaggedTables, seen: &[Range], pattern: Pat) -> Range
+    ensures { result ≡ stated_range tables.now seen.now pattern }
+{
+    match pattern {
+        Pat::Char(c) => Range::One(Item::Char(c)),
+        Pat::Mark(m) => Range::One(Item::Mark(m)),
+        Pat::Any(store) | Pat::Index(store, _) => store_range(tables, store),
+        Pat::ContextAt(offset) => range_at(seen, offset),
+        _ => Range::Unknown,
+    }
+}
+
+/// The range of a pattern at a place that may be narrowed.
+fn range_of(tables: &FlaggedTables, seen: &[Range], given: Option<Item>, pattern: Pat) -> Range
+    ensures { result ≡ range_of tables.now seen.now given pattern }
+{
+    match given {
+        Some(item) => Range::One(item),
+        None => stated_range(tables, seen, pattern),
+    }
+}
+
+/// Whether an item of a context is a pattern.
+pub fn is_matched(pattern: Pat) -> bool
+    ensures { result ≡ is_matched pattern }
+{
+    !matches!(
+        &pattern,
+        Pat::Equal(..) | Pat::Unequal(..) | Pat::SystemEqual(..) | Pat::SystemUnequal(..) | Pat::Nul
+    )
+}
+
+/// The item to which the first place is narrowed, if any.
+fn first_given(narrowing: &[Option<Item>]) -> Option<Item>
+    ensures { result ≡ first_given narrowing.now }
+{
+    match narrowing {
+        [] => None,
+        [given, ..] => *given,
+    }
+}
+
+/// Adds the places of a context behind the ranges of the items before it.
+fn add_places(
+    tables: &FlaggedTables,
+    narrowing: &[Option<Item>],
+    context: &[Pat],
+    seen: &mut ArrayVec<Range, 60>,
+    places: &mut ArrayVec<Place, 60>,
+)
+    requires seen { length seen.old.items + length context.now ≤ 60 }
+    requires places { length places.old.items + length context.now ≤ 60 }
+    ensures { places.new.items ≡ places.old.items ++ places_from tables.now narrowing.now seen.old.items context.now }
+{
+    let [pattern, rest @ ..] = context else {
+        return;
+    };
+    if !is_matched(*pattern) {
+        seen.push(Range::Unknown);
+        add_places(tables, narrowing, rest, seen, places);
+        return;
+    }
+    let range = range_of(tables, seen.as_slice(), first_given(narrowing), *pattern);
+    places.push(Place {
+        pattern: *pattern,
+        range,
+    });
+    seen.push(range);
+    add_places(tables, behind(narrowing, 1), rest, seen, places);
+}
+
+/// The places of a context, some of which are narrowed.
+pub fn places(
+    tables: &FlaggedTables,
+    narrowing: &[Option<Item>],
+    context: &[Pat],
+) -> ArrayVec<Place, 60>
+    requires { length context.now ≤ 60 }
+    ensures { result.items ≡ places_from tables.now narrowing.now [] context.now }
+{
+    let mut places = ArrayVec::new();
+    let mut seen = ArrayVec::new();
+    add_places(tables, narrowing, context, &mut seen, &mut places);
+    places
+}

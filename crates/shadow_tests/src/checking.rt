@@ -1,0 +1,106 @@
+//! Certificates that are written by hand.
+
+use crate::sources::tables;
+use kmn_base::Memory;
+use rule_shadow::{Cert, Finder, covers};
+use std::alloc::Global;
+use std::test::Fail;
+
+/// Records of three patterns, numbered from 0: one for each way to take `a` and `b` three times, in their order, and one of three
+/// `any`.
+const EIGHT: &str = "\
+store(v) 'ab' / H / 'a' 'a' 'a' + '1' / 'a' 'a' 'b' + '1' / 'a' 'b' 'a' + '1' / 'a' 'b' 'b' + '1' / 'b' 'a' 'a' + '1' / \
+'b' 'a' 'b' + '1' / 'b' 'b' 'a' + '1' / 'b' 'b' 'b' + '1' / any(v) any(v) any(v) + '1'";
+
+/// On each line the number of a record, whether its certificate is right, and the certificate as it is built: a number is a
+/// part `By`, and `p:n` makes the last n parts a split at place p.
+const CASES: &str = "\
+8 yes 0 1 2:2 2 3 2:2 1:2 4 5 2:2 6 7 2:2 1:2 0:2
+8 yes 0 4 0:2 2 6 0:2 1:2 1 5 0:2 3 7 0:2 1:2 2:2
+8 no 0
+8 no 8
+8 no 9
+8 no 4294967295
+8 no 0 1 2:2
+8 no 1 0 2:2 2 3 2:2 1:2 4 5 2:2 6 7 2:2 1:2 0:2
+8 no 0 1 2:2 2 3 2:2 1:2 4 5 2:2 6 2:1 1:2 0:2
+8 no 0 1 2:2 2 3 2:2 1:2 4 5 2:2 6 7 7 2:3 1:2 0:2
+8 no 0 1 2:2 2 3 2:2 1:2 0:1
+8 no 0 1 0:2 2 3 0:2 1:2 4 5 0:2 6 7 0:2 1:2 0:2
+8 no 0 1 3:2 2 3 3:2 1:2 4 5 3:2 6 7 3:2 1:2 0:2
+8 no 0:0
+8 no 0 1 4294967295:2
+7 no 0 1 2:2 2 3 2:2 1:2 4 5 2:2 6 7 2:2 1:2 0:2
+0 no 8
+9 no 0 1 2:2 2 3 2:2 1:2 4 5 2:2 6 7 2:2 1:2 0:2";
+
+/// A certificate `By`, or a split with so many of the last parts.
+fn built(parts: &mut Vec<Cert>, word: &str) -> Result<Cert, Memory> {
+    match word.split_once(":") {
+        None => Ok(Cert::By {
+            rule: word.parse().unwrap_or(0),
+        }),
+        Some((place, count)) => {
+            let count = count.parse().unwrap_or(0);
+            let first = parts.len().saturating_sub(count);
+            Ok(Cert::Split {
+                place: place.parse().unwrap_or(0),
+                parts: parts.split_off(first)?,
+            })
+        }
+    }
+}
+
+/// The certificate that words build.
+fn certificate(alloc: Global, words: &str) -> Result<Option<Cert>, Memory> {
+    let mut parts = Vec::new(alloc);
+    for word in words.split(" ") {
+        let part = built(&mut parts, word)?;
+        parts.push(part)?;
+    }
+    Ok(parts.pop())
+}
+
+/// Whether a certificate is right or wrong as a line says, with and without a finder.
+fn is_so(alloc: Global, finder: &Finder, case: &str) -> Result<bool, Memory> {
+    let (rule, rest) = case.split_once(" ").unwrap_or((case, ""));
+    let (wanted, words) = rest.split_once(" ").unwrap_or((rest, ""));
+    let rule = rule.parse().unwrap_or(0);
+    match certificate(alloc, words)? {
+        Some(cert) => Ok(finder.covers(0, rule, &cert) == (wanted == "yes")),
+        None => Ok(false),
+    }
+}
+
+/// The first certificate of which something else is said.
+fn wrong_case(alloc: Global) -> Result<Option<&'static str>, Fail> {
+    let tables = tables(alloc, EIGHT)?;
+    let finder = Finder::new(alloc, &tables)?;
+    for case in CASES.lines() {
+        if !is_so(alloc, &finder, case)? {
+            return Ok(Some(case));
+        }
+    }
+    Ok(None)
+}
+
+#[test]
+fn checks(rt: HostRuntime) -> Result<(), Fail> {
+    let wrong = wrong_case(rt.alloc())?;
+    assert!(rt; wrong.is_none(), "{}", wrong.unwrap_or(""));
+    Ok(())
+}
+
+/// Without a finder, of a group that isn't there, and of what isn't searched for.
+#[test]
+fn checks_alone(rt: HostRuntime) -> Result<(), Fail> {
+    let tables = tables(rt.alloc(), EIGHT)?;
+    let deep = "0 1 2:2 2 3 2:2 1:2 4 5 2:2 6 7 2:2 1:2 0:2";
+    let Some(cert) = certificate(rt.alloc(), deep)? else {
+        return Ok(());
+    };
+    assert!(rt; covers(&tables, 0, 8, &cert));
+    assert!(rt; !covers(&tables, 1, 8, &cert));
+    assert!(rt; rule_shadow::find(rt.alloc(), &tables, 0, 8)?.is_none());
+    Ok(())
+}

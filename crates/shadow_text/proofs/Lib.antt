@@ -1,0 +1,3 @@
+pub mod Groups
+mod Numbers
+pub mod DeadRules

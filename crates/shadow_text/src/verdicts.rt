@@ -1,0 +1,146 @@
+//! What is found for each record of a keyboard, by lines of the source.
+
+ghost use Rattle.std.specs.Prelude.{◌≡◌, ◌≤◌, ◌++◌, length, filter_map, IfOk, OnOk};
+ghost use Rattle.kmn_base.specs.declared.limits.TheConstants.{RECORDS};
+ghost use Rattle.kmx_format.specs.Writable.{IsWritable};
+ghost use Rattle.shadow_text.specs.Verdicts.{rising, line_at, found_lines, verdict_of, group_verdicts, verdicts};
+
+use kmn_base::{Memory, Seq};
+use rule_model::{Rule, Tables};
+use rule_shadow::{Finder, Found};
+use std::alloc::Global;
+use std::collections::BTreeSet;
+
+/// The line of a record, and where something was found for it the lines of the records that come before it, rising.
+#[derive(Drop)]
+pub(crate) struct Verdict {
+    pub line: u32,
+    pub by: Option<Seq<u32>>,
+}
+
+/// Numbers, each once.
+fn distinct(alloc: Global, numbers: &[u32]) -> Result<BTreeSet<u32>, Memory>
+    ensures { IfOk result (λ kept. kept.keys ≡ rising numbers.now) }
+{
+    let mut kept = BTreeSet::new(alloc);
+    for number in numbers {
+        kept.insert(*number)?;
+    }
+    Ok(kept)
+}
+
+/// Numbers, each once, rising.
+pub(crate) fn rising(alloc: Global, numbers: &[u32]) -> Result<Vec<u32>, Memory>
+    ensures { IfOk result (λ kept. kept.items ≡ rising numbers.now) }
+{
+    let kept = distinct(alloc, numbers)?;
+    let mut list = Vec::new(alloc);
+    for number in kept.iter() {
+        list.push(*number)?;
+    }
+    Ok(list)
+}
+
+/// The line of the record of a number.
+fn line_at(rules: &[Rule], number: u32) -> Option<u32>
+    ensures { result ≡ line_at rules.now number }
+{
+    rules.get(number as usize).map(|rule| rule.line)
+}
+
+/// The lines of the records of some numbers.
+fn lines_at(alloc: Global, rules: &[Rule], numbers: &[u32]) -> Result<Vec<u32>, Memory>
+    ensures { IfOk result (λ lines. lines.items ≡ filter_map (line_at rules.now) numbers.now) }
+{
+    let mut lines = Vec::new(alloc);
+    for number in numbers {
+        if let Some(line) = line_at(rules, *number) {
+            lines.push(line)?;
+        }
+    }
+    Ok(lines)
+}
+
+/// The lines of the records of some numbers, each once, rising.
+fn rising_lines(alloc: Global, rules: &[Rule], numbers: &[u32]) -> Result<Seq<u32>, Memory>
+    ensures { IfOk result (λ lines. lines ≡ rising (filter_map (line_at rules.now) numbers.now)) }
+{
+    let lines = lines_at(alloc, rules, numbers)?;
+    let kept = rising(alloc, lines.as_slice())?;
+    Ok(Seq::from_vec(kept))
+}
+
+/// The lines of the records that were found, where something was.
+fn found_lines(alloc: Global, rules: &[Rule], found: Found) -> Result<Option<Seq<u32>>, Memory>
+    ensures { IfOk result (λ lines. lines ≡ found_lines rules.now found) }
+{
+    match found {
+        Found::NotFound => Ok(None),
+        Found::ByRule(number) => {
+            let lines = rising_lines(alloc, rules, &[number])?;
+            Ok(Some(lines))
+        }
+        Found::SplitAt(_, numbers) => {
+            let lines = rising_lines(alloc, rules, numbers.as_slice())?;
+            Ok(Some(lines))
+        }
+    }
+}
+
+/// What is found for a record, which has this number in the group of a number.
+fn verdict_of(
+    alloc: Global,
+    finder: &Finder,
+    group: u32,
+    rules: &[Rule],
+    number: u32,
+    rule: &Rule,
+) -> Result<Verdict, Memory>
+    ensures { IfOk result (λ verdict. verdict ≡ verdict_of finder.now group rules.now number rule.now) }
+{
+    let found = finder.found(alloc, group, number)?;
+    let by = found_lines(alloc, rules, found)?;
+    Ok(Verdict {
+        line: rule.line,
+        by,
+    })
+}
+
+/// Puts what is found for the records of a group behind other verdicts.
+fn put_group(
+    alloc: Global,
+    finder: &Finder,
+    group: u32,
+    rules: &[Rule],
+    verdicts: &mut Vec<Verdict>,
+) -> Result<(), Memory>
+    requires { length rules.now ≤ RECORDS }
+    ensures { OnOk result (verdicts.new.items ≡ verdicts.old.items ++ group_verdicts finder.now group rules.now) }
+{
+    for number in 0..rules.len() {
+        let verdict = verdict_of(alloc, finder, group, rules, number as u32, &rules[number])?;
+        verdicts.push(verdict)?;
+    }
+    Ok(())
+}
+
+/// What is found for each record, group by group.
+#[tactic(auto, using(crate::proofs::Groups::few_in_group), unfolding(crate::specs::Verdicts::verdicts))]
+pub(crate) fn verdicts(alloc: Global, tables: &Tables) -> Result<Vec<Verdict>, Memory>
+    requires { IsWritable tables.now }
+    ensures { IfOk result (λ all. all.items ≡ verdicts tables.now) }
+{
+    let finder = Finder::new(alloc, tables)?;
+    let groups = tables.groups.as_slice();
+    let mut all = Vec::new(alloc);
+    for group in 0..groups.len() {
+        put_group(
+            alloc,
+            &finder,
+            group as u32,
+            groups[group].rules.as_slice(),
+            &mut all,
+        )?;
+    }
+    Ok(all)
+}
