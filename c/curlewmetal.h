@@ -64,8 +64,9 @@ uint32_t curlew_copy(curlew_field *field, curlew_field *other);
 /* Closes a field, also one that isn't open. */
 void curlew_close(curlew_field *field);
 
-/* A key goes down. `code` is a Windows key code, as curlew_key_code tells. `mods` adds up left control 1, right control 2,
- * left alt 4, right alt 8, shift 16 and caps lock 256; other bits are ignored. MEMORY, LENGTH. */
+/* A key goes down. `code` is a Windows key code, as curlew_key_code tells, or that of a key of the keyboard's own, as
+ * curlew_own_key_code tells. `mods` adds up left control 1, right control 2, left alt 4, right alt 8, shift 16 and caps lock 256;
+ * other bits are ignored. MEMORY, LENGTH. */
 uint32_t curlew_key(curlew_field *field, uint16_t code, uint16_t mods, curlew_edit *edit);
 /* What the key would do; nothing happens. What it would insert is written into the room, and `changes` is 0. */
 uint32_t curlew_preview(curlew_field *field, uint16_t code, uint16_t mods, curlew_edit *edit,
@@ -101,8 +102,13 @@ uint32_t curlew_option_name(curlew_field *field, uint32_t store, uint8_t *room, 
 uint32_t curlew_option_value(curlew_field *field, uint32_t store, uint32_t saved, uint32_t *room, size_t count,
                              size_t *whole);
 
-/* The code of the key of a name: of K_A it is 65; 0 where no key has the name. */
+/* The code of the key of a name that every keyboard knows, in ASCII and without regard to case: of K_A it is 65; 0 where there
+ * is none. */
 uint16_t curlew_key_code(const uint8_t *name, size_t size);
+/* The code of the key of a name in this field: that of curlew_key_code, else that of a key that the keyboard names itself, as
+ * T_new or U_0041. Such codes begin at 256, and are those of this file alone. The name is UTF-8, without regard to the case of
+ * ASCII letters. 0 where the keyboard knows no such key, or the field isn't open. */
+uint16_t curlew_own_key_code(curlew_field *field, const uint8_t *name, size_t size);
 
 #ifdef __cplusplus
 }

@@ -1,5 +1,5 @@
-/* An input method in small: example FILE.kmx reads names of keys, as K_A, from standard input, one a line, and prints the edit
- * of each and the text before the caret. docs/C.md explains the loop. */
+/* An input method in small: example FILE.kmx reads names of keys, as K_A, or T_new where the keyboard has it, from standard input,
+ * one a line, and prints the edit of each and the text before the caret. docs/C.md explains the loop. */
 #include "curlewmetal.h"
 #include <stdio.h>
 #include <stdlib.h>
@@ -51,7 +51,7 @@ int main(int words, char **word) {
   char line[80];
   while (answer == CURLEW_OK && fgets(line, sizeof line, stdin)) {
     line[strcspn(line, "\r\n")] = 0;
-    uint16_t code = curlew_key_code((const uint8_t *)line, strlen(line));
+    uint16_t code = curlew_own_key_code(&field, (const uint8_t *)line, strlen(line));
     if (code == 0) { printf("no key: %s\n", line); continue; }
     curlew_edit edit;
     answer = curlew_key(&field, code, 0, &edit);

@@ -1,8 +1,9 @@
 /* The test of the library, which bench/c-library compiles and runs: test WORK FILE.kmx ..
  *
- * play: reads events from standard input and prints the lines of a transcript.      answers: each answer of each call.
+ * play: reads the entries of a script from standard input, and prints the lines of its transcript.
+ * host: the same, in as many fields as they open.      answers: each answer of each call.
  * memory: plays with each allocation refused in turn.      damage: opens the file with each byte changed, and plays it.
- * threads: two fields on two threads.      speed: what a key costs. */
+ * threads: two fields on two threads.      speed: what a key costs, of a name behind the file's, if one is there. */
 #include "curlewmetal.h"
 #include <pthread.h>
 #include <stdio.h>
@@ -67,7 +68,16 @@ void __wrap_free(void *p) {
 
 /* ---- a transcript */
 
+#define NAME 4096
+#define FIELDS 64
+#define UNKNOWN 100   /* no answer of the library: a script sets an option that the keyboard hasn't, which does nothing there */
+
 static uint32_t room[1000100];
+/* The fields of a script. The first is never typed in, and the others begin as copies of it. */
+static curlew_field fields[FIELDS + 1];
+static unsigned opened, turned, steps[FIELDS + 1], shown, failed;
+/* What stands before each line of a field: nothing, or its number where a script has many. */
+static char mark[16];
 
 static void print_characters(const uint32_t *text, size_t count) {
   if (count == 0) printf("-");
@@ -86,24 +96,51 @@ static void print_changes(curlew_field *field) {
     size_t length = 0, count = 0;
     is(curlew_option_name(field, store, name, sizeof name, &length) == CURLEW_OK, "the name of a change");
     is(curlew_option_value(field, store, saved, room, SIZE(room), &count) == CURLEW_OK, "the value of a change");
-    printf("%s %.*s ", saved ? "save" : "opt", (int)length, (const char *)name);
+    printf("%s%s %.*s ", mark, saved ? "save" : "opt", (int)length, (const char *)name);
     print_characters(room, count);
     printf("\n");
   }
 }
 
-static void print_step(curlew_field *field, unsigned number, const curlew_edit *edit) {
-  printf("%u del=%u ins=", number, (unsigned)edit->deleted);
-  print_characters(room, curlew_inserted(field, room, SIZE(room)));
-  printf(" pass=%u beep=%u ctx=", (unsigned)edit->passed, (unsigned)edit->beeps);
+static void print_edit(const curlew_edit *edit) {
+  printf(" del=%u ins=", (unsigned)edit->deleted);
+  print_characters(room, edit->inserted);
+  printf(" pass=%u beep=%u", (unsigned)edit->passed, (unsigned)edit->beeps);
+}
+
+static void print_step(curlew_field *field, const curlew_edit *edit) {
+  is(curlew_inserted(field, room, SIZE(room)) == edit->inserted, "how much a step inserted");
+  printf("%s%u", mark, steps[turned]);
+  print_edit(edit);
+  printf(" ctx=");
   print_characters(room, curlew_context(field, room, SIZE(room)));
   printf("\n");
   print_changes(field);
 }
 
+/* A step that did nothing is none here, so that the field still tells the last one. */
+static void print_nothing(curlew_field *field) {
+  printf("%s%u del=0 ins=- pass=0 beep=0 ctx=", mark, steps[turned]);
+  print_characters(room, curlew_context(field, room, SIZE(room)));
+  printf("\n");
+}
+
+static void print_text(curlew_field *field) {
+  printf("%stext ", mark);
+  print_characters(room, curlew_text(field, 0, room, SIZE(room)));
+  printf("|");
+  print_characters(room, curlew_text(field, 1, room, SIZE(room)));
+  printf("\n");
+}
+
+static unsigned read_number(void) {
+  unsigned number = 0;
+  if (scanf("%u", &number) != 1) exit(2);
+  return number;
+}
+
 static size_t read_text(uint32_t *text, size_t most) {
-  unsigned count = 0, c;
-  if (scanf("%u", &count) != 1) exit(2);
+  unsigned count = read_number(), c = 0;
   for (unsigned i = 0; i < count; i++) {
     if (scanf("%x", &c) != 1) exit(2);
     if (i < most) text[i] = c;
@@ -111,67 +148,199 @@ static size_t read_text(uint32_t *text, size_t most) {
   return count;
 }
 
-static uint32_t event(curlew_field *field, char kind, curlew_edit *edit) {
-  static uint32_t text[4096];
-  char word[4096];
-  unsigned a = 0, b = 0;
-  if (kind == 'k' && scanf("%4095s %u", word, &a) == 2) {
-    uint16_t code = curlew_key_code((const uint8_t *)word, strlen(word));
-    curlew_edit seen;
-    uint32_t previewed = curlew_preview(field, code, (uint16_t)a, &seen, room, SIZE(room));
-    uint32_t answer = curlew_key(field, code, (uint16_t)a, edit);
-    is(previewed == answer, "what a preview answers");
-    if (answer == CURLEW_OK)
-      is(seen.deleted == edit->deleted && seen.inserted == edit->inserted && seen.passed == edit->passed, "a preview");
-    return answer;
+/* A name, which is given by two hexadecimal digits for each byte. */
+static size_t read_name(uint8_t *name) {
+  static char word[2 * NAME + 1];
+  unsigned byte = 0;
+  if (scanf("%8192s", word) != 1) exit(2);
+  size_t length = strlen(word) / 2;
+  for (size_t i = 0; i < length; i++) {
+    if (sscanf(word + 2 * i, "%2x", &byte) != 1) exit(2);
+    name[i] = (uint8_t)byte;
   }
-  if (kind == 'c' && scanf("%u", &a) == 1) return curlew_caret(field, a);
-  if (kind == 'e' && scanf("%u %u", &a, &b) == 2) return curlew_replace(field, a, b, text, read_text(text, SIZE(text)));
-  if (kind == 'o' && scanf("%4095s", word) == 1) {
-    uint8_t name[2048];
-    size_t length = strlen(word) / 2;
-    for (size_t i = 0; i < length; i++) {
-      if (sscanf(word + 2 * i, "%2x", &a) != 1) exit(2);
-      name[i] = (uint8_t)a;
-    }
-    uint32_t answer = curlew_set(field, name, length, text, read_text(text, SIZE(text)));
-    return answer == CURLEW_NONE ? 100 : answer;
-  }
-  exit(2);
+  return length;
 }
 
-static void play(void) {
-  curlew_field field = {0};
+/* The code of a key by its name, which each keyboard has or this one alone. */
+static uint16_t read_key(curlew_field *field) {
+  static uint8_t name[NAME];
+  size_t length = read_name(name);
+  uint16_t code = curlew_own_key_code(field, name, length), common = curlew_key_code(name, length);
+  is(code != 0 && (common ? code == common : code >= 256), "the code of a key");
+  return code;
+}
+
+/* What a call that did nothing leaves as it was. */
+typedef struct { size_t left, right, inserted, context; uint32_t items[64]; } state;
+
+static state seen(curlew_field *field) {
+  state now;
+  memset(&now, 0, sizeof now);
+  now.left = curlew_text(field, 0, room, 0);
+  now.right = curlew_text(field, 1, room, 0);
+  now.inserted = curlew_inserted(field, room, 0);
+  now.context = curlew_context(field, now.items, SIZE(now.items));
+  return now;
+}
+
+static uint32_t press(curlew_field *field, curlew_edit *edit) {
+  uint16_t code = read_key(field), mods = (uint16_t)read_number();
+  curlew_edit told = {0, 0, 0, 0, 0};
+  uint32_t previewed = curlew_preview(field, code, mods, &told, room, SIZE(room));
+  uint32_t answer = curlew_key(field, code, mods, edit);
+  is(previewed == answer, "what a preview answers");
+  if (answer == CURLEW_OK)
+    is(told.deleted == edit->deleted && told.inserted == edit->inserted && told.passed == edit->passed, "a preview");
+  return answer;
+}
+
+static uint32_t event(curlew_field *field, char kind, curlew_edit *edit) {
+  static uint32_t text[4096];
+  static uint8_t name[NAME];
+  unsigned from, to;
+  size_t length;
+  uint32_t answer;
+  switch (kind) {
+    case 'k': return press(field, edit);
+    case 'c': return curlew_caret(field, read_number());
+    case 'e':
+      from = read_number();
+      to = read_number();
+      return curlew_replace(field, from, to, text, read_text(text, SIZE(text)));
+    case 'o':
+      length = read_name(name);
+      answer = curlew_set(field, name, length, text, read_text(text, SIZE(text)));
+      return answer == CURLEW_NONE ? UNKNOWN : answer;
+    default: exit(2);
+  }
+}
+
+static uint32_t step(curlew_field *field, char kind) {
+  curlew_edit edit = {0, 0, 0, 0, 0};
+  state before = seen(field);
+  uint32_t answer = event(field, kind, &edit);
+  steps[turned]++;
+  if (answer == CURLEW_OK) {
+    print_step(field, &edit);
+    return CURLEW_OK;
+  }
+  state after = seen(field);
+  is(memcmp(&before, &after, sizeof before) == 0, "a field after a call that did nothing");
+  if (answer != UNKNOWN) return answer;
+  print_nothing(field);
+  return CURLEW_OK;
+}
+
+static uint32_t show(curlew_field *field) {
+  curlew_edit edit = {0, 0, 0, 0, 0};
+  uint16_t code = read_key(field), mods = (uint16_t)read_number();
+  uint32_t answer = curlew_preview(field, code, mods, &edit, room, SIZE(room));
+  shown++;
+  if (answer != CURLEW_OK) return answer;
+  printf("%spreview", mark);
+  print_edit(&edit);
+  printf("\n");
+  return CURLEW_OK;
+}
+
+/* Whether the whole text is as a line of the script says. */
+static void expect(curlew_field *field) {
+  static uint32_t text[4096];
+  unsigned line = read_number();
+  size_t count = read_text(text, SIZE(text)), left = curlew_text(field, 0, room, SIZE(room));
+  size_t whole = left + curlew_text(field, 1, room + left, SIZE(room) - left);
+  if (whole == count && memcmp(room, text, count * sizeof *text) == 0) return;
+  failed++;
+  printf("%sexpect failed line=%u\n", mark, line);
+}
+
+/* Turns to a field of a script that has many. */
+static void turn(unsigned number) {
+  turned = number;
+  sprintf(mark, "f%u ", number);
+}
+
+static uint32_t add_field(void) {
+  uint32_t answer = curlew_copy(&fields[0], &fields[++opened]);
+  turned = opened;
+  return answer;
+}
+
+static uint32_t entry(char kind) {
+  uint32_t answer = CURLEW_OK;
+  switch (kind) {
+    case 'n':
+      answer = add_field();
+      turn(opened);
+      return answer;
+    case 'f': turn(read_number()); return CURLEW_OK;
+    case 'p': return show(&fields[turned]);
+    case 'x': expect(&fields[turned]); return CURLEW_OK;
+    default: return step(&fields[turned], kind);
+  }
+}
+
+/* The steps of all fields. */
+static unsigned steps_of_all(void) {
+  unsigned all = 0;
+  for (unsigned i = 1; i <= opened; i++) all += steps[i];
+  return all;
+}
+
+static void print_end(uint32_t answer) {
+  if (answer != CURLEW_OK) {
+    const char *code = answer == CURLEW_PLACE ? "E1" : answer == CURLEW_LENGTH ? "E2" : "unknown";
+    printf("refused %s event %u\n", code, steps_of_all() + shown);
+    return;
+  }
+  for (unsigned i = 1; i <= opened; i++) {
+    if (mark[0]) turn(i);
+    print_text(&fields[i]);
+  }
+  printf("end events=%u failed=%u\n", steps_of_all(), failed);
+}
+
+/* Plays the entries on standard input, in one field or in as many as they open. */
+static void play(int many) {
   curlew_fault fault = {0, 0, 0};
-  uint32_t answer = curlew_open(&field, bytes, size, &fault);
+  uint32_t answer = curlew_open(&fields[0], bytes, size, &fault);
   if (answer == CURLEW_REFUSED) {
     printf("refused V%02u at %u", (unsigned)fault.rule, (unsigned)fault.at);
     if (fault.rule == 14) printf(" code %02X", (unsigned)fault.unit);
     printf("\n");
     return;
   }
+  if (answer == CURLEW_OK && !many) answer = add_field();
   char kind;
-  unsigned number = 0;
-  while (answer == CURLEW_OK && scanf(" %c", &kind) == 1) {
-    curlew_edit edit = {0, 0, 0, 0, 0};
-    answer = event(&field, kind, &edit);
-    number++;
-    if (answer == 100) {   /* in a script this is a step that does nothing; here it is none, and the last one would be told */
-      printf("%u del=0 ins=- pass=0 beep=0 ctx=", number);
-      print_characters(room, curlew_context(&field, room, SIZE(room)));
-      printf("\n");
-      answer = CURLEW_OK;
-    } else if (answer == CURLEW_OK) print_step(&field, number, &edit);
-  }
-  if (answer == CURLEW_OK) {
-    printf("text ");
-    print_characters(room, curlew_text(&field, 0, room, SIZE(room)));
-    printf("|");
-    print_characters(room, curlew_text(&field, 1, room, SIZE(room)));
-    printf("\n");
-  } else {
-    printf("refused E%u event %u\n", answer == CURLEW_PLACE ? 1u : 2u, number);
-  }
+  while (answer == CURLEW_OK && scanf(" %c", &kind) == 1) answer = entry(kind);
+  print_end(answer);
+  for (unsigned i = 0; i <= opened; i++) curlew_close(&fields[i]);
+}
+
+/* A file whose own keys are T_new and U_0041. */
+static const char own_keys[] =
+  "KXTS\0\12\0\0\0\0\0\0\0\0\0\0\0\0\0\0\0\0\0\0\1\0\0\0\1\0\0\0"
+  "@\0\0\0L\0\0\0\377\377\377\377\0\0\0\0\0\0\0\0\0\0\0\0\0\0\0\0\0\0\0\0"
+  "\42\0\0\0\0\0\0\0x\0\0\0\222\0\0\0d\0\0\0\0\0\0\0\0\0\0\0\1\0\0\0"
+  "\1\0\0\0\0\1\0\0\1\0\0\0\0@\0\0\226\0\0\0\0\0\0\0T\0_\0n\0e\0"
+  "w\0 \0U\0_\0000\0000\0004\0001\0\0\0g\0\0\0x\0\0";
+
+static uint16_t own_code(curlew_field *field, const char *name) {
+  return curlew_own_key_code(field, (const uint8_t *)name, strlen(name));
+}
+
+static void key_codes(void) {
+  curlew_field field = {0};
+  curlew_fault fault = {9, 9, 9};
+  curlew_edit edit;
+  is(own_code(&field, "K_A") == 0 && own_code(&field, "T_new") == 0, "codes of a closed field");
+  is(curlew_open(&field, (const uint8_t *)own_keys, sizeof own_keys, &fault) == CURLEW_OK, "a file with own keys");
+  is(own_code(&field, "T_new") == 256 && own_code(&field, "U_0041") == 257, "the codes of own keys");
+  is(own_code(&field, "t_NEW") == 256 && own_code(&field, "k_a") == 65 && own_code(&field, "K_A") == 65, "codes without case");
+  is(own_code(&field, "T_ne") == 0 && own_code(&field, "T_new U_0041") == 0 && own_code(&field, "") == 0, "names of no key");
+  is(curlew_key_code((const uint8_t *)"T_new", 5) == 0, "an own key isn't one of all");
+  is(curlew_key(&field, 256, 0, &edit) == CURLEW_OK && curlew_text(&field, 0, room, 9) == 1 && room[0] == 'x', "an own key");
+  is(own_code(&field, "T_new") == 256, "the same code behind a key");
   curlew_close(&field);
 }
 
@@ -222,6 +391,7 @@ static void answers(void) {
   curlew_close(&other);
   curlew_close(&other);
   is(!field.held && !other.held, "closed fields");
+  key_codes();
 }
 
 /* ---- memory */
@@ -324,29 +494,50 @@ static double now(void) {
   return (double)t.tv_sec * 1e9 + (double)t.tv_nsec;
 }
 
-/* The least of ten runs, in nanoseconds: a key with its text, the key back, a text told anew, a copy. */
-static void speed(void) {
+static void least(double *of, double start, double count) {
+  double took = (now() - start) / count;
+  if (took < *of) *of = took;
+}
+
+/* The characters on standard input, which stand before the caret. */
+static size_t read_before(uint32_t *text, size_t most) {
+  size_t count = 0;
+  unsigned c;
+  while (count < most && scanf("%x", &c) == 1) text[count++] = c;
+  return count;
+}
+
+/* Prints the least of ten runs, in nanoseconds: of the key of a name, behind the text on standard input, with what it inserts,
+ * or of A and backspace in turn; of a text of 64 characters that is told; of a copy; and of one start. */
+static void speed(const char *name) {
+  static uint32_t begun[1000000];
   curlew_field field = {0}, other = {0};
   curlew_fault fault;
   curlew_edit edit;
   uint32_t text[64];
-  double key = 1e18, told = 1e18, copy = 1e18, start = now();
+  uint16_t pair[2] = {65, 8};
+  double key = 1e18, told = 1e18, copy = 1e18, open = 1e18, start = now();
+  size_t count = name ? read_before(begun, SIZE(begun)) : 0;
   is(curlew_open(&field, bytes, size, &fault) == CURLEW_OK, "a file");
-  double open = now() - start;
+  least(&open, start, 1);
+  if (name) pair[0] = pair[1] = own_code(&field, name);
+  is(pair[0] != 0, "the code of the key");
   for (int i = 0; i < 64; i++) text[i] = (uint32_t)('a' + i % 26);
   for (int run = 0; run < 10; run++) {
+    is(curlew_before(&field, begun, count) == CURLEW_OK, "the text before the keys");
     start = now();
     for (int i = 0; i < 100000; i++) {
-      is(curlew_key(&field, i & 1 ? 8 : 65, 0, &edit) == CURLEW_OK, "a key");
+      is(curlew_key(&field, pair[i & 1], 0, &edit) == CURLEW_OK, "a key");
       curlew_inserted(&field, room, 64);
     }
-    if (now() - start < key * 1e5) key = (now() - start) / 1e5;
+    least(&key, start, 1e5);
+    is(curlew_before(&field, text, 64) == CURLEW_OK, "a text");
     start = now();
     for (int i = 0; i < 100000; i++) is(curlew_before(&field, text, 64) == CURLEW_OK, "a text");
-    if (now() - start < told * 1e5) told = (now() - start) / 1e5;
+    least(&told, start, 1e5);
     start = now();
     for (int i = 0; i < 1000; i++) is(curlew_copy(&field, &other) == CURLEW_OK, "a copy");
-    if (now() - start < copy * 1e3) copy = (now() - start) / 1e3;
+    least(&copy, start, 1e3);
   }
   printf("key %.0f ns, before %.0f ns, copy %.0f ns, open %.0f ns\n", key, told, copy, open);
   curlew_close(&field);
@@ -356,12 +547,13 @@ static void speed(void) {
 int main(int words, char **word) {
   const char *work = words > 2 ? word[1] : "";
   if (words > 2) read_file(word[2]);
-  if (!strcmp(work, "play")) play();
+  if (!strcmp(work, "play")) play(0);
+  else if (!strcmp(work, "host")) play(1);
   else if (!strcmp(work, "answers")) answers();
   else if (!strcmp(work, "memory")) memory();
   else if (!strcmp(work, "damage")) damage();
   else if (!strcmp(work, "threads")) threads();
-  else if (!strcmp(work, "speed")) speed();
+  else if (!strcmp(work, "speed")) speed(words > 3 ? word[3] : NULL);
   else return 2;
   return wrong != 0;
 }

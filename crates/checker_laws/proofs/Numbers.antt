@@ -1,6 +1,6 @@
 -- The numbers that the names of an accepted program have in its file, and that looking them up finds them.
 use Rattle.std.proofs.Common.{◌≡◌, ℕ, suc, ◌+◌, ◌^◌, ◌<◌, ◌≤◌, Bool, true, false, List, [], ◌∷◌, ◌++◌, length, map, cond, Option, Some, None, is_some, unwrap_or, option_map, refl, sym, ap, ◌∙◌, arith, if◌then◌else◌, length-append, take_all}
-use Rattle.std.specs.Prelude.{nat_eq, flat_map, position, ◌||◌}
+use Rattle.std.specs.Prelude.{nat_eq, flat_map, position}
 use Rattle.std.specs.List.{list_all, list_any}
 use Rattle.std.specs.Str.{bytes_eq}
 use Rattle.std.proofs.lemmas.Bool.{and_parts, and_from}
@@ -23,7 +23,7 @@ use Rattle.rule_model.specs.Naming.{names_of, stores_of, rule_items, all_rules, 
 use Rattle.compile_laws.specs.Numbers.{numbers_of, number_of_store, number_of_group, number_of_value, compiled_stores, dictionary_stores, value_store, values_of}
 use Rattle.compile_laws.specs.WellNamed.{is_store, is_group}
 use Rattle.compile_laws.proofs.Linked.{is_value}
-use Rattle.compile_laws.proofs.Places.{position-map}
+use Rattle.virtual_keys.proofs.PositionLemmas.{position-map}
 use Rattle.compile_laws.proofs.Values.{list_all-flat_map}
 use Rattle.store_table.specs.Names.{group_names}
 use Rattle.store_table.specs.Numbering.{lists_of, below, number_in, mark_in}
@@ -122,7 +122,7 @@ module _ (program : Program) where
   store_number name h = place_below (λ (store : Store). same_name store.name name) (stores_of program) h
 
   pub group_is_place : (name : List ℕ) → number_of_group (numbers_of program) name ≡ unwrap_or (position (λ (group : GroupDef). same_name group.name name) program.groups) 0
-  group_is_place name = ap (λ (o : Option ℕ). unwrap_or o 0) (position-map (λ known. same_name known name) (λ (group : GroupDef). group.name) program.groups)
+  group_is_place name = ap (λ (o : Option ℕ). unwrap_or o 0) (position-map (λ (group : GroupDef). group.name) (λ known. same_name known name) program.groups)
 
   pub group_number : (name : List ℕ) → is_group program name ≡ true → number_of_group (numbers_of program) name < length program.groups
   group_number name h =
@@ -156,7 +156,7 @@ module _ (program : Program) where
     unfolding lists_of
     store_found name h =
         let place : place_in (map (λ (store : Store). store.name) (stores_of program)) name ≡ position (λ (store : Store). same_name store.name name) (stores_of program) =
-        place_either_way name (map (λ (store : Store). store.name) (stores_of program)) ∙ position-map (λ known. same_name known name) (λ (store : Store). store.name) (stores_of program) in
+        place_either_way name (map (λ (store : Store). store.name) (stores_of program)) ∙ position-map (λ (store : Store). store.name) (λ known. same_name known name) (stores_of program) in
         let few = few_stores program read whole in
         let ends = stores_end in
         let lower = store_number name h in
@@ -166,7 +166,7 @@ module _ (program : Program) where
     unfolding lists_of
     group_found name h =
         let place : place_in (group_names program.groups) name ≡ position (λ (group : GroupDef). same_name group.name name) program.groups =
-        place_either_way name (group_names program.groups) ∙ position-map (λ known. same_name known name) (λ (group : GroupDef). group.name) program.groups in
+        place_either_way name (group_names program.groups) ∙ position-map (λ (group : GroupDef). group.name) (λ known. same_name known name) program.groups in
         let few = few_groups program whole in
         let lower = place_below (λ (group : GroupDef). same_name group.name name) program.groups h in
         ap (below (2 ^ 32)) place ∙ found_below (2 ^ 32) (position (λ (group : GroupDef). same_name group.name name) program.groups) h (omega arith)

@@ -22,12 +22,12 @@ use Rattle.rule_model.specs.declared.program.Program.{Program}
 use Rattle.rule_model.specs.declared.tables.Rule.{Rule}
 use Rattle.rule_model.specs.Hold.{key_of_element}
 use Rattle.rule_model.specs.Naming.{stores_of, elements_named, rule_items}
-use Rattle.rule_model.specs.Src.{is_plain, is_plain_kind, is_match_kind, is_nomatch_kind, is_on_match, is_on_nomatch}
+use Rattle.rule_model.specs.Src.{is_plain, is_plain_kind, is_on_match, is_on_nomatch}
 use Rattle.compile_laws.specs.Numbers.{numbers_of, compiled_stores}
 use Rattle.compile_laws.specs.Compiles.{has_halves, half_key, file_record, key_records, records_from, own_key, keyed_records, rule_records, statement_outputs, file_group}
 use Rattle.compile_laws.specs.Ordered.{in_order, ordered_group}
 use Rattle.compile_laws.specs.WellNamed.{is_known_pattern, is_known_output, is_known_key, is_known_rule}
-use Rattle.compile_laws.proofs.Known.{has_values}
+use Rattle.compile_laws.proofs.Known.{has_values, match_kind, nomatch_kind}
 use Rattle.compile_laws.proofs.Ordered.{in_order_permutes}
 use Rattle.kmx_format.specs.Writable.{IsWritableKey, IsWritableRule, IsWritableMatchOutput, IsWritableGroup}
 use Rattle.kmx_format.proofs.WritableParts.{no_output}
@@ -211,16 +211,6 @@ module _ (program : Program) (read : IsRead program) (whole : IsUnrefused progra
       (subst (λ (n : ℕ). list_all (is_known_output program n) rule.output ≡ true) (ap length bare.0) parts.outputs) parts.output_values
       (other_code rule.kind rule not_one sound.code) sound.short.output
 
-  match_other : (k : RuleKind) → is_match_kind k ≡ true → is_plain_kind k ≡ false
-  match_other kind.Plain h = absurd (cc)
-  match_other kind.OnMatch h = refl
-  match_other kind.OnNoMatch h = refl
-
-  nomatch_other : (k : RuleKind) → is_nomatch_kind k ≡ true → is_plain_kind k ≡ false
-  nomatch_other kind.Plain h = absurd (cc)
-  nomatch_other kind.OnMatch h = refl
-  nomatch_other kind.OnNoMatch h = refl
-
   -- a group with its records in order
   pub group_written : (group : GroupDef) → IsReadGroup group → All (IsSoundRule program group.using_keys) group.rules → IsWritableGroup stores groups (ordered_group (file_group (numbers_of program) group))
   group_written group is sound =
@@ -229,6 +219,6 @@ module _ (program : Program) (read : IsRead program) (whole : IsUnrefused progra
         name = name_written group.name is.name;
         rules = All-permutation (IsWritableRule stores groups group.using_keys) records (in_order records) (in_order_permutes records)
             (All-filtered (IsSoundRule program group.using_keys) (IsWritableRule stores groups group.using_keys) is_plain (rule_records (numbers_of program)) (rule_written group.using_keys) group.rules sound);
-        on_match = statement_written group.using_keys is_on_match (λ (rule : RuleDef). match_other rule.kind) (find is_on_match group.rules) (all_found (IsSoundRule program group.using_keys) is_on_match group.rules sound);
-        on_nomatch = statement_written group.using_keys is_on_nomatch (λ (rule : RuleDef). nomatch_other rule.kind) (find is_on_nomatch group.rules) (all_found (IsSoundRule program group.using_keys) is_on_nomatch group.rules sound);
+        on_match = statement_written group.using_keys is_on_match (λ (rule : RuleDef). match_kind rule.kind) (find is_on_match group.rules) (all_found (IsSoundRule program group.using_keys) is_on_match group.rules sound);
+        on_nomatch = statement_written group.using_keys is_on_nomatch (λ (rule : RuleDef). nomatch_kind rule.kind) (find is_on_nomatch group.rules) (all_found (IsSoundRule program group.using_keys) is_on_nomatch group.rules sound);
       }

@@ -19,7 +19,7 @@ use Rattle.rule_model.specs.declared.tables.Group.{Group}
 use Rattle.rule_model.specs.declared.tables.Tables.{Tables}
 use Rattle.rule_model.specs.Keyboard.{Ref, Named, Numbered, Keyboard, GroupMeaning, Output}
 use Rattle.rule_model.specs.Content.{content, group_at}
-use Rattle.rule_model.specs.Hold.{holds, holds_with}
+use Rattle.rule_model.specs.Hold.{holds_with}
 use Rattle.rule_model.specs.Choose.{choose}
 use Rattle.rule_model.specs.Act.{items_caught}
 use Rattle.rule_model.specs.Enter.{by_default, default_of, nothing, act_if_any, do_unmatched, do_group, chosen_in, in_group, enter_group}
@@ -33,7 +33,8 @@ use Rattle.compile_laws.proofs.Keyboards.{src_groups, src_choice, src_cased, tab
 use Rattle.compile_laws.proofs.Linked.{Linked}
 use Rattle.compile_laws.proofs.Known.{has_values, KnownGroup, KnownStatement, group_known}
 use Rattle.compile_laws.proofs.Values.{values_known}
-use Rattle.compile_laws.proofs.Places.{position-map, FirstPlace, first_place, at_place}
+use Rattle.compile_laws.proofs.Places.{FirstPlace, first_place, at_place}
+use Rattle.virtual_keys.proofs.PositionLemmas.{position-map}
 use Rattle.compile_laws.proofs.Outputs.{SameEntry, outputs-same}
 use Rattle.compile_laws.proofs.Choices.{ChosenRule, best_now, best-map, best_known, BestKnown, src_chosen, tab_chosen, choice-kept}
 
@@ -127,13 +128,13 @@ module _ (p : Program) (t : Tables) (ok : IsWellNamed p) (c : Compiles p t) (nam
       let file : Group = file_group (numbers_of p) g in
       let expanded : k < length (map (file_group (numbers_of p)) p.groups) = omega (arith, here.within, length-map p.groups (file_group (numbers_of p))) in
       let within : k < length t.groups = omega (arith, expanded, c.groups.count) in
-      let number : number_of_group (numbers_of p) name ≡ k = ap (λ o. unwrap_or o 0) (position-map (λ known. same_name known name) (λ (g : GroupDef). g.name) p.groups ∙ at_k) in
+      let number : number_of_group (numbers_of p) name ≡ k = ap (λ o. unwrap_or o 0) (position-map (λ (g : GroupDef). g.name) (λ known. same_name known name) p.groups ∙ at_k) in
       record {
         stated = g;
         compiled = get_or t.groups k file;
         named =
             (λ i. group_at (src_groups p i) (Named name))
-            ∙ (ap (option_and_then (slice_get (map (src_group (names_of p)) p.groups))) (position-map (λ (group : GroupMeaning). same_name group.name name) (src_group (names_of p)) p.groups ∙ at_k)
+            ∙ (ap (option_and_then (slice_get (map (src_group (names_of p)) p.groups))) (position-map (src_group (names_of p)) (λ (group : GroupMeaning). same_name group.name name) p.groups ∙ at_k)
             ∙ (slice_get-map (src_group (names_of p)) p.groups k ∙ ap (option_map (src_group (names_of p))) here.reads));
         numbered =
             (λ i. slice_get (tab_groups t i) (number i))

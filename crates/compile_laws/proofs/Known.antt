@@ -94,12 +94,13 @@ statement_known p using_keys q other (r ∷ rs) known valued =
     (λ e. (ap (λ n. list_all (is_known_output p n) r.output) (sym (parts.statement (other r e))) ∙ parts.rule.output, parts.rule.output_values, parts.statement (other r e)))
     (λ _. statement_known p using_keys q other rs k.1 v.1)
 
-match_kind : (k : RuleKind) → is_match_kind k ≡ true → is_plain_kind k ≡ false
+-- a rule of a statement is no rule with a context
+pub match_kind : (k : RuleKind) → is_match_kind k ≡ true → is_plain_kind k ≡ false
 match_kind Plain h = absurd (false≢true h)
 match_kind OnMatch h = refl
 match_kind OnNoMatch h = refl
 
-nomatch_kind : (k : RuleKind) → is_nomatch_kind k ≡ true → is_plain_kind k ≡ false
+pub nomatch_kind : (k : RuleKind) → is_nomatch_kind k ≡ true → is_plain_kind k ≡ false
 nomatch_kind Plain h = absurd (false≢true h)
 nomatch_kind OnMatch h = refl
 nomatch_kind OnNoMatch h = refl

@@ -1,31 +1,9 @@
 -- The first place that passes a test, and what stands there.
-use Rattle.std.proofs.Common.{◌≡◌, ℕ, zero, suc, ◌+◌, ◌<◌, Bool, true, false, not, cond, ltb, List, [], ◌∷◌, ◌++◌, length, map, get_or, Option, Some, None, refl, sym, ap, ◌∙◌, arith, is_some}
-use Rattle.std.specs.Prelude.{slice_get, position, option_map}
-use Rattle.std.specs.List.{position_or_len}
-use Rattle.std.proofs.lemmas.Bool.Decides.{nat_tests}
+use Rattle.std.proofs.Common.{◌≡◌, ℕ, zero, suc, ◌+◌, ◌<◌, Bool, true, false, List, [], ◌∷◌, ◌++◌, length, get_or, Option, Some, None, refl, ap, ◌∙◌, arith, is_some}
+use Rattle.std.specs.Prelude.{slice_get, position}
 use Rattle.std.proofs.lemmas.List.Quantifiers.{position-Some}
 use Rattle.std.proofs.lemmas.Option.{slice_get-get_or, none-some}
 use Rattle.std.proofs.lemmas.Bool.{false≢true}
-
-from_zero : (l : ℕ) → cond {A = Option ℕ} (ltb 0 (suc l)) (Some 0) None ≡ Some 0
-from_zero l = grind (arith, nat_tests)
-
-later : (m l : ℕ) → cond {A = Option ℕ} (ltb (1 + m) (suc l)) (Some (1 + m)) None ≡ option_map suc (cond (ltb m l) (Some m) None)
-later m l = grind (arith, nat_tests)
-
-step : (b : Bool) (m l : ℕ) → cond (ltb (cond (not b) (1 + m) 0) (suc l)) (Some (cond (not b) (1 + m) 0)) None ≡ cond b (Some 0) (option_map suc (cond (ltb m l) (Some m) None))
-step true m l = from_zero l
-step false m l = later m l
-
--- the first place by recursion
-pub position-cons : {X : Type 0} (p : X → Bool) (x : X) (xs : List X) → position p (x ∷ xs) ≡ cond (p x) (Some 0) (option_map suc (position p xs))
-position-cons p x xs = step (p x) (position_or_len p xs) (length xs)
-
-pub position-map : {X Y : Type 0} (p : Y → Bool) (f : X → Y) (xs : List X) → position p (map f xs) ≡ position (λ x. p (f x)) xs
-position-map p f [] = refl
-position-map p f (x ∷ xs) =
-    position-cons p (f x) (map f xs)
-    ∙ (ap (λ o. cond (p (f x)) (Some 0) (option_map suc o)) (position-map p f xs) ∙ sym (position-cons (λ x. p (f x)) x xs))
 
 -- what stands at a first place
 pub record FirstPlace {X : Type 0} (p : X → Bool) (xs : List X) (k : ℕ) : Type 0 where

@@ -31,7 +31,7 @@ use Rattle.compile_laws.specs.Compiles.{file_pattern, has_halves, half_key, file
 use Rattle.compile_laws.specs.WellNamed.{is_known_pattern, is_known_key, is_fixed, are_keys}
 use Rattle.compile_laws.proofs.Linked.{Linked}
 use Rattle.compile_laws.proofs.Known.{KnownRule, has_values}
-use Rattle.compile_laws.proofs.Places.{position-cons}
+use Rattle.virtual_keys.proofs.NamePlaces.{position_cons}
 use Rattle.compile_laws.proofs.Patterns.{SameContext, pattern-same, context_caught, context_caught-same, holds-parts}
 use Rattle.compile_laws.proofs.Least.{FirstIfAny, Ascending, first_found}
 
@@ -308,7 +308,7 @@ module _ (p : Program) (t : Tables) (l : Linked p t) (values : List (List Elemen
       (λ i. record_now (numbers_of p) press r (Some (first i)) k)
       (λ m. let after : n + suc m ≡ n + 1 + m = omega arith in λ i. record_now (numbers_of p) press r (Some (after i)) (key_or_any (slice_get es m)))
       (store_found r known keyed es (n + 1) each.1)
-      ∙ (λ i. option_map h (option_and_then (λ catches. sym (position-cons (λ e. fits_press_with cased press (key_of_element e)) e es) i) (context_of r)))))
+      ∙ (λ i. option_map h (option_and_then (λ catches. sym (position_cons (λ e. fits_press_with cased press (key_of_element e)) e es) i) (context_of r)))))
 
   own_place : (b : Bool) → (if b then key.Any else key.Any) ≡ key.Any
   own_place true = refl

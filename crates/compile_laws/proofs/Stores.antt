@@ -28,7 +28,8 @@ use Rattle.rule_model.proofs.SystemOptions.{names_behind, system_option_is, cont
 use Rattle.compile_laws.proofs.Keyboards.{src_stores, tab_stores}
 use Rattle.compile_laws.proofs.Linked.{Linked, is_value}
 use Rattle.compile_laws.proofs.Options.{options-same, options-within}
-use Rattle.compile_laws.proofs.Places.{position-cons, FirstPlace, first_place, at_place, slice_get-append_left, slice_get-append_right}
+use Rattle.compile_laws.proofs.Places.{FirstPlace, first_place, at_place, slice_get-append_left, slice_get-append_right}
+use Rattle.virtual_keys.proofs.NamePlaces.{position_cons}
 
 with_options-same : (a b : List ℕ) → ((n : ℕ) → list_any (nat_eq n) a ≡ list_any (nat_eq n) b) → (n : ℕ) (xs : List Store) → with_options a n xs ≡ with_options b n xs
 with_options-same a b same n [] = refl
@@ -128,9 +129,9 @@ place-named : (name : List ℕ) (options : List ℕ) (n : ℕ) (xs : List Store)
 place-named name options n [] = refl
 place-named name options n (x ∷ xs) =
     let x' : StoreMeaning = record { name = x.name; elements = x.elements; is_option = list_any (nat_eq n) options; is_system = false } in
-    position-cons (is_called name) x' (with_options options (n + 1) xs)
+    position_cons (is_called name) x' (with_options options (n + 1) xs)
     ∙ (ap (λ o. cond (same_name x.name name) (Some 0) (option_map suc o)) (place-named name options (n + 1) xs)
-    ∙ sym (position-cons (λ (store : Store). same_name store.name name) x xs))
+    ∙ sym (position_cons (λ (store : Store). same_name store.name name) x xs))
 
 one_further : (x : StoreMeaning) (xs : List StoreMeaning) (o : Option ℕ) → elements_at (x ∷ xs) (option_map suc o) ≡ elements_at xs o
 one_further x xs None = refl
@@ -146,12 +147,12 @@ position-none : {X : Type 0} (p : X → Bool) (xs : List X) → list_any p xs �
 position-none p [] h = refl
 position-none p (x ∷ xs) h =
     let each = or_parts (p x) (list_any p xs) h in
-    position-cons p x xs ∙ λ i. cond (each.0 i) (Some 0) (option_map suc (position-none p xs each.1 i))
+    position_cons p x xs ∙ λ i. cond (each.0 i) (Some 0) (option_map suc (position-none p xs each.1 i))
 
 behind_none : (p : StoreMeaning → Bool) → list_any p system_options ≡ false → (xs : List StoreMeaning) → position p (xs ++ system_options) ≡ position p xs
 behind_none p none [] = position-none p system_options none
 behind_none p none (x ∷ xs) =
-    position-cons p x (xs ++ system_options) ∙ (ap (λ o. cond (p x) (Some 0) (option_map suc o)) (behind_none p none xs) ∙ sym (position-cons p x xs))
+    position_cons p x (xs ++ system_options) ∙ (ap (λ o. cond (p x) (Some 0) (option_map suc o)) (behind_none p none xs) ∙ sym (position_cons p x xs))
 
 named_behind : (name : List ℕ) (xs : List StoreMeaning) → store_number (xs ++ system_options) (Named name) ≡ store_number xs (Named name)
 named_behind name xs = behind_none (is_called name) refl xs
@@ -163,7 +164,7 @@ elements-named name options n [] = refl
 elements-named name options n (x ∷ xs) =
     let x' : StoreMeaning = record { name = x.name; elements = x.elements; is_option = list_any (nat_eq n) options; is_system = false } in
     let rest = with_options options (n + 1) xs in
-    ap (elements_at (x' ∷ rest)) (position-cons (is_called name) x' rest)
+    ap (elements_at (x' ∷ rest)) (position_cons (is_called name) x' rest)
     ∙ here_or_there (same_name x.name name) x' rest (position (is_called name) rest) x
     (find (λ (store : Store). same_name store.name name) xs) refl (elements-named name options (n + 1) xs)
 

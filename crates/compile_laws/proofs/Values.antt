@@ -13,11 +13,11 @@ use Rattle.rule_model.specs.Tab.{distinct_onto}
 use Rattle.compile_laws.specs.Numbers.{item_values, values_of}
 use Rattle.compile_laws.proofs.Linked.{is_value}
 use Rattle.compile_laws.proofs.Known.{has_values}
-use Rattle.compile_laws.proofs.Places.{position-cons}
+use Rattle.virtual_keys.proofs.NamePlaces.{position_cons}
 
 pub any_position : {X : Type 0} (p : X → Bool) (xs : List X) → is_some (position p xs) ≡ list_any p xs
 any_position p [] = refl
-any_position p (x ∷ xs) = ap is_some (position-cons p x xs) ∙ (go (p x) (position p xs) ∙ ap (λ b. p x || b) (any_position p xs))
+any_position p (x ∷ xs) = ap is_some (position_cons p x xs) ∙ (go (p x) (position p xs) ∙ ap (λ b. p x || b) (any_position p xs))
   where
     go : (b : Bool) (o : Option ℕ) → is_some (cond b (Some 0) (option_map suc o)) ≡ (b || is_some o)
     go true o = refl

@@ -1,4 +1,4 @@
-//! The tests of the crates that check and compile sources: `ordering` of `rule_order`, `checks` of `rule_checker`,
+//! The tests of the crates that check and compile sources: `ordering` of `kmn_compiler`, `checks` of `rule_checker`,
 //! `expanding` of `rule_expand`, and `compiling` of `kmn_compiler`.
 //!
 //! They stand here because a crate with tests is proved twice, once with them and once without: so each of those crates is

@@ -1,8 +1,8 @@
 //! Records in the order of the rules, and in that of a file.
 
 use kmn_base::{Memory, RuleKey, Seq};
+use kmn_compiler::order;
 use rule_model::{Group, Pat, Rule, Tables};
-use rule_order::order;
 use std::alloc::Global;
 use std::test::Fail;
 

@@ -1,5 +1,5 @@
 -- The window of what was put, filled and read again.
-use Rattle.std.proofs.Common.{get_or, zero, suc, append_assoc, min, ◌+◌, ◌≡◌, ℕ, ◌<◌, ◌≤◌, ◌-◌, true, false, List, [], ◌∷◌, ◌++◌, length, drop, take, map, eqb, sym, ◌∙◌, ap, inl, inr, arith, length-append, length-drop}
+use Rattle.std.proofs.Common.{get_or, zero, suc, append_assoc, min, ◌+◌, ◌≡◌, ℕ, ◌<◌, ◌≤◌, ◌-◌, true, false, List, [], ◌∷◌, ◌++◌, length, drop, take, map, eqb, refl, sym, ◌∙◌, ap, inl, inr, arith, length-append, length-drop}
 use Rattle.std.specs.Prelude.{◌||◌}
 use Rattle.std.specs.List.{remove, ends_with}
 use Rattle.std.proofs.lemmas.List.{drop-append-le, drop-map, drop-take, length-map, length-take}
@@ -39,6 +39,11 @@ filled_in text old before missing few at is =
     ∙ ap (λ n. drop n (map Char front ++ old)) start
     ∙ drop-append-le place (map Char front) old (omega (arith, many, parted))
     ∙ ap (λ xs. xs ++ old) (drop-map Char place front ∙ ap (map Char) last))
+
+-- where none are missing, the items are what is filled
+pub none_missing : (text : List ℕ) (old : List Item) → length old ≤ 64 → min (length text - length (characters old)) (64 - length old) ≡ 0
+    → old ≡ filled text old
+none_missing text old few none = filled_in text old (length text - length (characters old)) 0 few refl (sym none)
 
 -- the characters from a place on begin with the one there
 pub next_character : (text : List ℕ) (place n : ℕ) → place < length text → 0 < n

@@ -1,4 +1,4 @@
-ghost use Rattle.std.specs.Prelude.{◌≡◌, ◌≤◌, ◌<◌, ◌-◌, ◌+◌, ◌^◌, [], ◌∷◌, ◌++◌, length, drop};
+ghost use Rattle.std.specs.Prelude.{◌≡◌, ◌≤◌, ◌<◌, ◌-◌, ◌+◌, ◌^◌, [], ◌∷◌, ◌++◌, length, drop, min};
 ghost use Rattle.std.specs.List.{suffix_len};
 ghost use Rattle.kmn_base.specs.Lists.{characters, is_mark, without_last, window, read_again};
 ghost use Rattle.context_cache.specs.Cached.{filled, StandsAtEnd};
@@ -81,16 +81,31 @@ impl Cache {
         end_marks(self.items.as_slice())
     }
 
+    /// How many more characters of a text of this length there is room for before the items, whose characters are its last ones.
+    fn missing(&self, text_len: usize) -> usize
+        requires { length (characters self.now) ≤ text_len }
+        ensures { result ≡ min (text_len - length (characters self.now)) (64 - length self.now) }
+    {
+        if self.items.is_full() {
+            return 0;
+        }
+        let before = text_len - character_count(self.items.as_slice());
+        before.min(WINDOW_ITEMS - self.items.len())
+    }
+
     /// Puts the characters of a text before the items, until there are 64 items or the text is at its start. The text is
     /// `older` and then `newer`, and ends with the items' characters.
-    #[tactic(auto, using(crate::proofs::Windows::filled_in))]
+    #[tactic(auto, using(crate::proofs::Windows::filled_in, crate::proofs::Windows::none_missing))]
     pub fn fill(&mut self, older: &[char], newer: &[char])
         requires few { length older.now + length newer.now < 2 ^ 33 }
         requires stands { StandsAtEnd self.old (older.now ++ newer.now) }
         ensures { self.new ≡ filled (older.now ++ newer.now) self.old }
     {
+        let missing = self.missing(older.len() + newer.len());
+        if missing == 0 {
+            return;
+        }
         let before = older.len() + newer.len() - character_count(self.items.as_slice());
-        let missing = before.min(WINDOW_ITEMS - self.items.len());
         let mut filled = ArrayVec::new();
         push_characters(&mut filled, older, newer, before - missing, missing);
         push_items(&mut filled, self.items.as_slice());

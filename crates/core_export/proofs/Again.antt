@@ -9,7 +9,7 @@ use Rattle.std.proofs.lemmas.Nat.{le_bytes_4}
 use Rattle.kmn_base.proofs.SmallBytes.{AreBytes, byte_small}
 use Rattle.kmx_format.specs.File.{word}
 use Rattle.kmx_format.specs.TablesOf.{word_at}
-use Rattle.kmx_view.specs.View.{store_count, group_count}
+use Rattle.kmx_parts.specs.View.{store_count, group_count}
 use Rattle.core_export.specs.Checksum.{checksum}
 use Rattle.core_export.specs.Words.{with_word}
 use Rattle.core_export.specs.Export.{pointed, pointed_stores, pointed_records, pointed_groups, played_version, are_contents_pointed, are_contexts_pointed, are_groups_pointed, replaced}

@@ -15,7 +15,7 @@ use Rattle.kmx_format.proofs.FileStands.{StandsAt, end_within, front, back, same
 use Rattle.kmx_format.proofs.FileRecords.{offset_of-le, length-store_record, length-rule_record, length-rule_records, rule_records-append}
 use Rattle.kmx_format.proofs.FileGroups.{length-group_record}
 use Rattle.kmx_format.proofs.FileLaw.{Parts, parts, law, version-small}
-use Rattle.kmx_view.specs.View.{store_count, group_count}
+use Rattle.kmx_parts.specs.View.{store_count, group_count}
 use Rattle.kmx_verifier.specs.FaultOf.{IsValid}
 use Rattle.kmx_verifier.proofs.FileValid.{file_of_valid}
 use Rattle.core_export.specs.Checksum.{checksum}

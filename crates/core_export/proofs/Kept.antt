@@ -1,27 +1,27 @@
 -- A file whose offsets 0 point to a zero unit has the same fault and the same tables, where its strings lie behind all
 -- that was replaced.
-use Rattle.std.proofs.Common.{◌≡◌, ◌≢◌, ℕ, zero, suc, ◌+◌, ◌*◌, ◌^◌, ◌<◌, ◌≤◌, ◌⊎◌, Bool, true, not, ◌&&◌, ◌||◌, nat_eq, nat_lt, List, [], ◌∷◌, ◌++◌, length, map, drop, bit_and, None, refl, sym, ap, ap₂, ◌∙◌, inl, inr, arith, ne_eqb}
-use Rattle.std.specs.Prelude.{Ok, Err, nat_le, if◌then◌else◌}
-use Rattle.std.specs.List.{list_any, filter_map}
+use Rattle.std.proofs.Common.{◌≡◌, ◌≢◌, ℕ, zero, suc, ◌+◌, ◌*◌, ◌^◌, ◌<◌, ◌≤◌, ◌⊎◌, Bool, true, not, ◌&&◌, ◌||◌, nat_eq, nat_lt, List, [], ◌∷◌, length, map, drop, bit_and, None, refl, sym, ap, ap₂, ◌∙◌, inl, inr, arith, ne_eqb}
+use Rattle.std.specs.Prelude.{nat_le, if◌then◌else◌}
+use Rattle.std.specs.List.{filter_map}
 use Rattle.std.specs.Str.{encode_utf8_all}
 use Rattle.std.specs.Char.Utf16.{utf16_lossy_chars}
 use Rattle.kmn_base.specs.Spelling.{unit_bytes, whole_units}
-use Rattle.kmn_base.specs.declared.codes.Code.TheVariants.{V09, V10, V12, V13, V15}
+use Rattle.kmn_base.specs.declared.codes.Code.TheVariants.{V09, V10, V15}
 use Rattle.kmn_base.specs.declared.keys.TheConstants.{SHIFT_FLAGS}
 use Rattle.kmn_base.specs.declared.limits.TheConstants.{FILE_NAME_UNITS, CONTEXT_ITEMS, OUTPUT_ITEMS, RECORDS}
 use Rattle.kmn_base.specs.declared.units.UnitItem.{UnitItem}
-use Rattle.item_codec.specs.Walk.{spelled_size, results_of}
+use Rattle.item_codec.specs.Walk.{results_of}
 use Rattle.rule_model.specs.declared.tables.Store.{Store}
 use Rattle.rule_model.specs.declared.tables.Rule.{Rule}
 use Rattle.rule_model.specs.declared.tables.Group.{Group}
 use Rattle.kmx_format.specs.TablesOf.{word_at, before_zero, string_at, items_of, name_at, element_of_unit_item, pattern_of_unit_item, output_of_unit_item, stores_from, store_at, key_of, rule_at, rules_from, uses_keys_at, group_at, groups_from}
-use Rattle.kmx_view.specs.View.{has_zero, is_ended, store_count, group_count}
+use Rattle.kmx_parts.specs.View.{has_zero, is_ended, store_count, group_count}
 use Rattle.kmx_verifier.specs.declared.faults.StringKind.{StringKind}
 use Rattle.kmx_verifier.specs.declared.faults.StringKind.TheVariants as of
 use Rattle.kmx_verifier.specs.declared.faults.Target.{Target}
-use Rattle.kmx_verifier.specs.Items.{target_of, may_stand, code_of, stores_named, groups_named, points_right}
-use Rattle.kmx_verifier.specs.FaultOf.{or_else, broken, broken_by, item_fault, walk_fault, context_fault, read_at, item_count, string_fault, context_string_fault, name_fault, too_many_elements, store_fault, elements_in, stores_fault, context_targets, flags_fault, record_fault, records_fault, records_place_fault, group_strings_fault, group_fault, groups_fault}
-use Rattle.kmx_verifier.proofs.Walking.{Results}
+use Rattle.kmx_verifier.specs.Items.{target_of}
+use Rattle.kmx_verifier.specs.FaultOf.{or_else, broken, broken_by, walk_fault, context_fault, read_at, item_count, string_fault, context_string_fault, name_fault, too_many_elements, store_fault, elements_in, stores_fault, context_targets, flags_fault, record_fault, records_fault, records_place_fault, group_strings_fault, group_fault, groups_fault}
+use Rattle.kmx_verifier.proofs.Looking.{walk_same, context_same}
 use Rattle.core_export.specs.Export.{are_contents_pointed, are_contexts_pointed, are_groups_pointed}
 use Rattle.core_export.proofs.Outside.{later, Refilled, StoresKept, RecordsKept, GroupsKept}
 
@@ -106,23 +106,6 @@ module _ (bytes fin : List ℕ) (unit high : ℕ) (sizes : length bytes ≡ leng
         walked = inr zero_string.0;
       }
 
-  -- ---- walks
-
-  item_same : (kind : StringKind) (targets : List Target) (item : UnitItem) (at : ℕ) → item_fault bytes kind targets item at ≡ item_fault fin kind targets item at
-  item_same kind targets item at =
-      ap₂ (λ n g. or_else (broken_by (code_of item) at (not (may_stand kind item)))
-      (or_else (broken V12 at (list_any (nat_lt n) (stores_named item) || list_any (nat_lt g) (groups_named item))) (or_else (broken V13 at (not (points_right targets item))) None))) stores groups
-
-  walk_same : (kind : StringKind) (targets : List Target) (at : ℕ) (results : Results) → walk_fault bytes kind targets at results ≡ walk_fault fin kind targets at results
-  walk_same kind targets at [] = refl
-  walk_same kind targets at (Err bad ∷ results) = refl
-  walk_same kind targets at (Ok item ∷ results) = ap₂ or_else (item_same kind targets item at) (walk_same kind targets (at + spelled_size item) results)
-
-  context_same : (before : List Target) (at : ℕ) (results : Results) → context_fault bytes before at results ≡ context_fault fin before at results
-  context_same before at [] = refl
-  context_same before at (Err bad ∷ results) = refl
-  context_same before at (Ok item ∷ results) = ap₂ or_else (item_same of.Context before item at) (context_same (before ++ target_of item ∷ []) (at + spelled_size item) results)
-
   module _ (place : ℕ) (kept : StringKept place) where
     at_bytes : ℕ
     at_bytes = word_at bytes place
@@ -134,7 +117,7 @@ module _ (bytes fin : List ℕ) (unit high : ℕ) (sizes : length bytes ≡ leng
         by_place : (word_at bytes place ≡ word_at fin place) ⊎ (string_at bytes (word_at bytes place) ≡ [])
             → walk_fault bytes kind targets (word_at bytes place) (read_at bytes (word_at bytes place)) ≡ walk_fault fin kind targets (word_at fin place) (read_at fin (word_at fin place))
         by_place (inl is) =
-            walk_same kind targets (word_at bytes place) (read_at bytes (word_at bytes place))
+            walk_same bytes fin stores groups kind targets (word_at bytes place) (read_at bytes (word_at bytes place))
             ∙ ap₂ (λ at (s : List ℕ). walk_fault fin kind targets at (results_of (unit_bytes s))) is kept.same
         by_place (inr none) =
             ap (λ (s : List ℕ). walk_fault bytes kind targets (word_at bytes place) (results_of (unit_bytes s))) none
@@ -148,7 +131,7 @@ module _ (bytes fin : List ℕ) (unit high : ℕ) (sizes : length bytes ≡ leng
         by_place : (word_at bytes place ≡ word_at fin place) ⊎ (string_at bytes (word_at bytes place) ≡ [])
             → context_fault bytes [] (word_at bytes place) (read_at bytes (word_at bytes place)) ≡ context_fault fin [] (word_at fin place) (read_at fin (word_at fin place))
         by_place (inl is) =
-            context_same [] (word_at bytes place) (read_at bytes (word_at bytes place))
+            context_same bytes fin stores groups [] (word_at bytes place) (read_at bytes (word_at bytes place))
             ∙ ap₂ (λ at (s : List ℕ). context_fault fin [] at (results_of (unit_bytes s))) is kept.same
         by_place (inr none) =
             ap (λ (s : List ℕ). context_fault bytes [] (word_at bytes place) (results_of (unit_bytes s))) none

@@ -1,7 +1,7 @@
 -- What is made of a file, once it is known to say the same.
 use Rattle.std.proofs.Common.{◌≡◌, ℕ, ◌^◌, ◌<◌, ◌≤◌, false, nat_lt, ltb-false, List, length, Some, sym, subst, ap, ◌∙◌, arith}
 use Rattle.kmx_format.specs.TablesOf.{word_at}
-use Rattle.kmx_view.specs.View.{store_count, group_count}
+use Rattle.kmx_parts.specs.View.{store_count, group_count}
 use Rattle.kmx_verifier.specs.FaultOf.{size_fault, fault_of, IsValid}
 use Rattle.kmx_verifier.proofs.Sound.{or_else-none, broken-none}
 use Rattle.core_export.specs.Checksum.{checksum}

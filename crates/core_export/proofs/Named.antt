@@ -16,7 +16,7 @@ use Rattle.kmx_format.specs.Writable.{IsWritable}
 use Rattle.kmx_format.proofs.FileStands.{StandsAt, front, first_word_at, nth_word_at}
 use Rattle.kmx_format.proofs.FileRecords.{offset_of-le}
 use Rattle.kmx_format.proofs.FileLaw.{Parts, parts}
-use Rattle.kmx_view.specs.View.{store_count, group_count}
+use Rattle.kmx_parts.specs.View.{store_count, group_count}
 use Rattle.core_export.specs.Export.{end_of, end_in_groups, end_in_stores, zero_unit, with_played_version}
 use Rattle.core_export.specs.ExportLaws.{IsFirstNamed, NamedFilesHaveZeroUnits, ExportingKeepsMeaning}
 

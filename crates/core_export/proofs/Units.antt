@@ -7,7 +7,7 @@ use Rattle.std.proofs.lemmas.Bool.Decides.{eqb_tells}
 use Rattle.std.proofs.lemmas.List.{drop-drop}
 use Rattle.kmn_base.specs.Spelling.{whole_units}
 use Rattle.kmx_format.specs.TablesOf.{word_at, before_zero, string_at, uses_keys_at}
-use Rattle.kmx_view.specs.View.{has_zero, is_ended, store_count, group_count}
+use Rattle.kmx_parts.specs.View.{has_zero, is_ended, store_count, group_count}
 use Rattle.kmx_verifier.specs.declared.faults.StringKind.{StringKind}
 use Rattle.kmx_verifier.specs.declared.faults.StringKind.TheVariants as of
 use Rattle.kmx_verifier.specs.declared.faults.Target.{Target}

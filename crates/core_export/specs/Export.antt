@@ -4,12 +4,13 @@ use Rattle.std.specs.Option.{option_or}
 use Rattle.rule_model.specs.declared.tables.Tables.{Tables}
 use Rattle.kmx_format.specs.declared.sizes.TheConstants.{STORE_BYTES, GROUP_BYTES, RULE_BYTES}
 use Rattle.kmx_format.specs.TablesOf.{word_at, string_at, tables_of}
-use Rattle.kmx_view.specs.View.{store_count, group_count}
+use Rattle.kmx_parts.specs.View.{store_count, group_count}
 use Rattle.kmx_verifier.specs.FaultOf.{IsValid}
+use Rattle.core_differences.specs.Saves.{saving_line}
 use Rattle.core_export.specs.Checksum.{checksum}
 use Rattle.core_export.specs.Words.{with_word}
 use Rattle.core_export.specs.declared.errors.ExportError.{ExportError}
-use Rattle.core_export.specs.declared.errors.ExportError.TheVariants.{NoZeroUnit, Entangled, Memory}
+use Rattle.core_export.specs.declared.errors.ExportError.TheVariants.{SavesTwice, NoZeroUnit, Entangled, Memory}
 
 -- ---- a zero unit that the file has
 
@@ -121,20 +122,38 @@ pub record IsExport (bytes out : List ℕ) : Type 0 where
   pub version : word_at out 4 ≡ played_version (word_at bytes 4)
   pub checksum : word_at out 8 ≡ checksum (with_word 8 0 out)
 
--- why a file isn't exported: it has no string at all; or its parts lie on one another, so that with the words replaced it
--- would say something else; want of memory tells nothing
+-- why the words of a file aren't replaced: it has no string at all; or its parts lie on one another, so that with the words
+-- replaced it would say something else; want of memory tells nothing
+abbrev pub IsWordsError : List ℕ → ExportError → Type 0
+IsWordsError bytes (SavesTwice line) = ⊥
+IsWordsError bytes NoZeroUnit = zero_unit bytes ≡ None
+IsWordsError bytes Entangled = (unit : ℕ) × (zero_unit bytes ≡ Some unit) × (SaysTheSame bytes (exported bytes unit) → ⊥)
+IsWordsError bytes Memory = Unit {0}
+
+-- what comes of the words
+abbrev pub Replaces : List ℕ → Result (List ℕ) ExportError → Type 0
+Replaces bytes (Ok out) = (unit : ℕ) × (zero_unit bytes ≡ Some unit) × (out ≡ exported bytes unit) × IsExport bytes out
+Replaces bytes (Err error) = IsWordsError bytes error
+
+-- no event may save twice, at which the engine crashes
+abbrev pub SavesOnce : List ℕ → Type 0
+SavesOnce bytes = saving_line (tables_of bytes) ≡ None
+
+-- why a file isn't exported: an event may save twice, first at this line; or else its words aren't replaced
 abbrev pub IsExportError : List ℕ → ExportError → Type 0
-IsExportError bytes NoZeroUnit = zero_unit bytes ≡ None
-IsExportError bytes Entangled = (unit : ℕ) × (zero_unit bytes ≡ Some unit) × (SaysTheSame bytes (exported bytes unit) → ⊥)
+IsExportError bytes (SavesTwice line) = saving_line (tables_of bytes) ≡ Some line
+IsExportError bytes NoZeroUnit = SavesOnce bytes × IsWordsError bytes NoZeroUnit
+IsExportError bytes Entangled = SavesOnce bytes × IsWordsError bytes Entangled
 IsExportError bytes Memory = Unit {0}
 
 -- what the exporter answers
 abbrev pub Exports : List ℕ → Result (List ℕ) ExportError → Type 0
-Exports bytes (Ok out) = (unit : ℕ) × (zero_unit bytes ≡ Some unit) × (out ≡ exported bytes unit) × IsExport bytes out
+Exports bytes (Ok out) = SavesOnce bytes × Replaces bytes (Ok out)
 Exports bytes (Err error) = IsExportError bytes error
 
 -- an answer tells whether something holds; want of memory tells nothing
 abbrev pub Judges : Type 0 → ExportError → Type 0
+Judges holds (SavesTwice line) = ⊥
 Judges holds NoZeroUnit = ⊥
 Judges holds Entangled = holds → ⊥
 Judges holds Memory = Unit {0}

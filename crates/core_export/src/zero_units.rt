@@ -5,7 +5,7 @@ ghost use Rattle.kmn_base.specs.declared.limits.TheConstants.{FILE_BYTES};
 ghost use Rattle.core_export.specs.Export.{end_of, end_in_records, end_in_group, end_in_groups, end_in_stores, zero_unit};
 
 use kmx_format::sizes::{GROUP_BYTES, RULE_BYTES, STORE_BYTES};
-use kmx_view::{string_bytes, word_at};
+use kmx_parts::{string_bytes, word_at};
 
 /// The zero unit that ends the string at an offset.
 #[tactic(auto, using(crate::proofs::Steps::ends_behind))]

@@ -1,11 +1,15 @@
 -- What the calls tell, and what they make of a session.
-use Rattle.std.specs.Prelude.{ℕ, Bool, true, false, nat_eq, if◌then◌else◌, ◌&&◌, List, length, Option, is_some}
+use Rattle.std.specs.Prelude.{ℕ, Bool, true, false, nat_eq, if◌then◌else◌, ◌&&◌, List, length, Option, is_some, unwrap_or}
 use Rattle.std.specs.List.{list_any}
+use Rattle.std.specs.Option.{option_or}
 use Rattle.kmn_base.specs.declared.events.Event.{Event}
 use Rattle.kmn_base.specs.declared.events.Event.TheVariants as event
 use Rattle.kmn_base.specs.Lists.{characters}
+use Rattle.virtual_keys.specs.Dictionary.{code_in}
+use Rattle.virtual_keys.specs.Keys.{key_code}
 use Rattle.rule_model.specs.declared.tables.Tables.{Tables}
 use Rattle.rule_model.specs.Event.{State, Happening, has_name}
+use Rattle.rule_model.specs.Tab.{tab}
 use Rattle.rule_engine.specs.Engine.{name_of}
 use Rattle.play_session.specs.Changes.{option_stores}
 use Rattle.play_session.specs.Session.{SessionState, after_step}
@@ -51,3 +55,7 @@ is_option_named name tables store number = is_some number && has_name name (name
 -- some option of tables has a name
 abbrev pub knows_option : List ℕ → Tables → Bool
 knows_option name tables = list_any (λ store. has_name name (name_of tables store)) (option_stores tables)
+
+-- the code that a name of a key has with a file: of the keys that all keyboards have, else of the file's own; 0 where it has none
+abbrev pub own_key_code : List ℕ → Tables → ℕ
+own_key_code name tables = unwrap_or (option_or (key_code name) (code_in (tab tables).dictionary name)) 0

@@ -14,7 +14,7 @@ ghost use Rattle.rule_engine.specs.Engine.{name_of};
 ghost use Rattle.play_session.specs.Printed.{value_of};
 ghost use Rattle.play_session.specs.Session.{first_session, happened, after_step};
 ghost use Rattle.curlew_calls.specs.Answers.{IsCause, IsSettingCause};
-ghost use Rattle.curlew_calls.specs.Calls.{key, edit_of, text_at, edit_before, told_before, knows_option, is_option_named};
+ghost use Rattle.curlew_calls.specs.Calls.{key, edit_of, text_at, edit_before, told_before, knows_option, is_option_named, own_key_code};
 ghost use Rattle.call_numbers.specs.Numbers.{written, item_numbers, element_numbers};
 
 use crate::errors::CallError;
@@ -223,6 +223,17 @@ impl OpenField {
         put_items(room, self.session.engine().context())
     }
 
+    /// The code that a name of a key has with the file: of the keys that all keyboards have, else of the file's own; 0 where it
+    /// has none. Names are compared without ASCII case.
+    pub fn own_key_code(&self, name: &[u8]) -> u16
+        ensures { result ≡ own_key_code name.now self.now.tables }
+    {
+        match key_named(name) {
+            Some(code) => code,
+            None => self.session.engine().names().code_of(name).unwrap_or(0),
+        }
+    }
+
     /// The host gives the option of a name a value, as current and as saved one. `NoOption` comes exactly where no option has the
     /// name, which is compared without ASCII case.
     #[tactic(auto)]
@@ -307,7 +318,7 @@ impl OpenField {
     }
 }
 
-/// The code of the key of a name, as K_A; 0 where no key has it.
+/// The code of the key of a name, as K_A, that all keyboards have; 0 where none has it.
 pub fn key_code(name: &[u8]) -> u16
     ensures { result ≡ unwrap_or (key_code name.now) 0 }
 {

@@ -32,7 +32,7 @@ use Rattle.std.specs.contracts.impls.GlobalAllocator.TheImpl.{ghosts}
 use Rattle.std.specs.Global.{Global}
 use Rattle.curlew_calls.specs.contracts.field.OpenField.{the_row as R}
 use Rattle.curlewmetal.specs.contracts.field.Field as field
-use Rattle.curlewmetal.specs.contracts.parts.Parts as parts
+use Rattle.curlewmetal.specs.contracts.parts.BoxParts as parts
 use Rattle.curlewmetal.specs.Owned.{held_owns}
 
 abbrev pub Z : RattleType

@@ -13,7 +13,7 @@ ghost use Rattle.play_session.specs.Printed.{value_of};
 ghost use Rattle.play_session.specs.Session.{first_session, happened, after_step};
 ghost use Rattle.call_numbers.specs.Numbers.{written, bit, item_numbers, element_numbers};
 ghost use Rattle.curlew_calls.specs.Answers.{IsCause, IsSettingCause};
-ghost use Rattle.curlew_calls.specs.Calls.{key, edit_of, text_at, edit_before, told_before, knows_option};
+ghost use Rattle.curlew_calls.specs.Calls.{key, edit_of, text_at, edit_before, told_before, knows_option, own_key_code};
 ghost use Rattle.curlewmetal.specs.Answers.{Told, Because, Answers, is_set, fault_numbers};
 ghost use Rattle.curlewmetal.specs.declared.answers.TheConstants.{OK, REFUSED, CLOSED, NONE};
 
@@ -385,4 +385,18 @@ pub extern "C" fn curlew_key_code(name: &[u8]) -> u16
     ensures { result ≡ unwrap_or (key_code name.now) 0 }
 {
     curlew_calls::key_code(name)
+}
+
+#[tactic(auto, using(crate::proofs::Opened::told_of_closed, crate::proofs::Opened::told_of_opened))]
+#[unsafe(no_mangle)]
+pub extern "C" fn curlew_own_key_code(alloc: Global, field: &mut Field, name: &[u8]) -> u16
+    ensures stays { field.new.held ≡ field.old.held }
+    ensures told { MatchOption field.old.held (result ≡ 0) (λ session. result ≡ own_key_code name.now session.tables) }
+{
+    let Some(held) = mem::replace(field, Field::none(alloc)).into_box() else {
+        return 0;
+    };
+    let code = held.own_key_code(name);
+    *field = Field::of(held);
+    code
 }

@@ -4,7 +4,7 @@ ghost use Rattle.std.specs.Prelude.{◌≡◌, Option, Some, None, option_map};
 ghost use Rattle.play_session.specs.Session.{SessionState};
 ghost use Rattle.curlewmetal.specs.Owned.{held_owns};
 
-use crate::parts::Parts;
+use crate::parts::BoxParts;
 use curlew_calls::OpenField;
 use std::alloc::Global;
 use std::marker::Model;
@@ -45,7 +45,7 @@ impl Field {
     pub(crate) fn of(held: Box<OpenField>) -> Field
         ensures { result.held ≡ Some held.value }
     {
-        Field::of_parts(Parts::of(held))
+        Field::of_parts(BoxParts::of(held))
     }
 
     /// The field of a handle, None where it has none.
@@ -59,10 +59,10 @@ impl Field {
     }
 
     /// A handle of the field of these parts.
-    fn of_parts(parts: Parts<OpenField, Global>) -> Field
+    fn of_parts(parts: BoxParts<OpenField, Global>) -> Field
         ensures { result.held ≡ Some parts.value }
     {
-        let Parts { ptr, alloc } = parts;
+        let BoxParts { ptr, alloc } = parts;
         Field {
             at: ptr as *mut Opaque,
             alloc,
@@ -70,14 +70,14 @@ impl Field {
     }
 
     /// The parts of a handle's field, None where the pointer is null.
-    fn into_parts(self) -> Option<Parts<OpenField, Global>>
+    fn into_parts(self) -> Option<BoxParts<OpenField, Global>>
         ensures { option_map (λ parts. parts.value) result ≡ self.held }
     {
         let Field { at, alloc } = self;
         if at == ptr::null_mut() {
             return None;
         }
-        Some(Parts {
+        Some(BoxParts {
             ptr: at as *mut OpenField,
             alloc,
         })

@@ -6,32 +6,32 @@ use std::alloc::Allocator;
 use std::marker::Model;
 
 /// What a box is made of. It owns what the box owned.
-pub struct Parts<T, A: Allocator> {
+pub struct BoxParts<T, A: Allocator> {
     pub(crate) ptr: *mut T,
     pub(crate) alloc: A,
     pub ghost value: { T },
 }
 
-impl<T, A: Allocator> Model for Parts<T, A> {
+impl<T, A: Allocator> Model for BoxParts<T, A> {
     ghost also_owns = { λ p. box_owns (A.dealloc_token p.alloc) T.row p.ptr p.value };
 }
 
-impl<T, A: Allocator> Parts<T, A> {
+impl<T, A: Allocator> BoxParts<T, A> {
     /// The parts of a box.
-    pub(crate) fn of(held: Box<T, A>) -> Parts<T, A>
+    pub(crate) fn of(held: Box<T, A>) -> BoxParts<T, A>
     where
         T: Drop,
         ensures { result.value ≡ held.value }
     {
         let (ptr, alloc) = Box::into_raw_with_allocator(held);
-        Parts { ptr, alloc }
+        BoxParts { ptr, alloc }
     }
 
     /// The box again.
     pub(crate) fn into_box(self) -> Box<T, A>
         ensures { result.value ≡ self.value }
     {
-        let Parts { ptr, alloc } = self;
+        let BoxParts { ptr, alloc } = self;
         unsafe { Box::from_raw(alloc, ptr) }
     }
 }

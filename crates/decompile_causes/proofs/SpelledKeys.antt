@@ -18,7 +18,7 @@ use Rattle.rule_model.specs.declared.program.KeyName.{KeyName}
 use Rattle.rule_model.specs.declared.tables.Store.{Store}
 use Rattle.rule_model.specs.declared.tables.Tables.{Tables}
 use Rattle.rule_model.specs.Tab.{words, element_char, store_elements, is_dictionary, tab_dictionary, tab_options}
-use Rattle.compile_laws.proofs.Places.{position-cons}
+use Rattle.virtual_keys.proofs.NamePlaces.{position_cons}
 use Rattle.checker_laws.proofs.Lists.{All-distinct, all_true}
 use Rattle.kmn_text.specs.Names.{is_source_name}
 use Rattle.kmn_text.specs.Spelled.{IsSpelledName, IsSpelledKey}
@@ -46,12 +46,12 @@ found-at [] store h = absurd (none-some store h)
 found-at (x ∷ stores) store h = by (is_dictionary x) refl h (λ g. found-at stores store g)
   where
     by : (b : Bool) → is_dictionary x ≡ b → (if b then Some x else find is_dictionary stores) ≡ Some store → (find is_dictionary stores ≡ Some store → FoundAt stores store) → FoundAt (x ∷ stores) store
-    by true e g rest = record { place = 0; found = position-cons is_dictionary x stores ∙ cond-true (is_dictionary x) (Some 0) (option_map suc (position is_dictionary stores)) e; at = g }
+    by true e g rest = record { place = 0; found = position_cons is_dictionary x stores ∙ cond-true (is_dictionary x) (Some 0) (option_map suc (position is_dictionary stores)) e; at = g }
     by false e g rest =
         let more = rest g in
         record {
           place = suc more.place;
-          found = position-cons is_dictionary x stores ∙ cond-false (is_dictionary x) (Some 0) (option_map suc (position is_dictionary stores)) e ∙ ap (option_map suc) more.found;
+          found = position_cons is_dictionary x stores ∙ cond-false (is_dictionary x) (Some 0) (option_map suc (position is_dictionary stores)) e ∙ ap (option_map suc) more.found;
           at = more.at;
         }
 

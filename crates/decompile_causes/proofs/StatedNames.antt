@@ -4,7 +4,7 @@ use Rattle.std.specs.Prelude.{nat_eq, slice_get, unwrap_or, option_map, position
 use Rattle.std.specs.List.{list_any}
 use Rattle.std.proofs.lemmas.Bool.{eqb-true, or_right}
 use Rattle.kmn_base.specs.Names.{same_name}
-use Rattle.compile_laws.proofs.Places.{position-cons}
+use Rattle.virtual_keys.proofs.NamePlaces.{position_cons}
 use Rattle.rule_model.specs.declared.program.StoreDef.{StoreDef}
 use Rattle.rule_model.specs.declared.tables.Store.{Store}
 use Rattle.rule_model.specs.declared.tables.Group.{Group}
@@ -13,7 +13,7 @@ use Rattle.decompile_laws.specs.Names.{is_written}
 use Rattle.decompile_laws.specs.Items.{Names}
 use Rattle.decompile_laws.specs.Back.{back_stores, back_group, back_groups}
 use Rattle.decompile_laws.specs.WrittenOut.{is_ordinary}
-use Rattle.decompile_laws.proofs.Apart.{same-itself}
+use Rattle.virtual_keys.proofs.NamePlaces.{same_name-self}
 use Rattle.decompile_laws.proofs.Calls.{written-here}
 use Rattle.decompile_causes.proofs.CalledNames.{AreNamed}
 use Rattle.kmn_lines.proofs.Sizes.{clash}
@@ -21,7 +21,7 @@ use Rattle.kmn_lines.proofs.Sizes.{clash}
 -- among names
 pub named-cons : (x : List ℕ) (names : List (List ℕ)) (name : List ℕ) → is_named (x ∷ names) name ≡ (same_name name x || is_named names name)
 unfolding is_named
-named-cons x names name = ap is_some (position-cons (same_name name) x names) ∙ by (same_name name x) (position (same_name name) names)
+named-cons x names name = ap is_some (position_cons (same_name name) x names) ∙ by (same_name name x) (position (same_name name) names)
   where
     by : (b : Bool) (o : Option ℕ) → is_some (if b then Some 0 else option_map suc o) ≡ (b || is_some o)
     by true o = refl
@@ -29,7 +29,7 @@ named-cons x names name = ap is_some (position-cons (same_name name) x names) �
     by false (Some n) = refl
 
 named-first : (names : List (List ℕ)) (name : List ℕ) → is_named (name ∷ names) name ≡ true
-named-first names name = named-cons name names name ∙ ap (λ (b : Bool). b || is_named names name) (same-itself name)
+named-first names name = named-cons name names name ∙ ap (λ (b : Bool). b || is_named names name) (same_name-self name)
 
 pub named-behind : (front names : List (List ℕ)) (name : List ℕ) → is_named names name ≡ true → is_named (front ++ names) name ≡ true
 named-behind [] names name h = h

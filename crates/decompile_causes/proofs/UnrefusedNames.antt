@@ -25,7 +25,8 @@ use Rattle.decompile_laws.specs.Marks.{greatest_mark}
 use Rattle.decompile_laws.specs.Items.{Names, store_called, group_called}
 use Rattle.decompile_laws.specs.Back.{back_stores, back_groups, back_begins, numbered, stated_marks, stated_key, mark_store, key_store, version_text, mark_stores, key_stores, front_stores, free_stores, names_for, written_stores, written_begins, written_groups, back}
 use Rattle.decompile_laws.specs.WrittenOut.{is_ordinary, CanBeWrittenOut}
-use Rattle.decompile_laws.proofs.Apart.{Differs, AreFree, AreApart, own_name, later, free-differs, names_apart, same-itself, same-turned, source-some}
+use Rattle.decompile_laws.proofs.Apart.{Differs, AreFree, AreApart, own_name, later, free-differs, names_apart, same-turned, source-some}
+use Rattle.virtual_keys.proofs.NamePlaces.{same_name-self}
 use Rattle.decompile_laws.proofs.Free.{AreDistinct, free_names-free, free_names-count}
 use Rattle.decompile_laws.proofs.Groups.{group_name, groups_apart, names_taken, group_count}
 use Rattle.decompile_laws.proofs.Good.{IsNamed, groups_good}
@@ -194,7 +195,7 @@ module _ (tables : Tables) (can : IsPlayable tables) (said : IsSayable tables) (
       let more = front-names stated in
       front-fine stated [] front behind (refl, (λ before. chars-fine stated before (version_text tables.version)), more.0)
       (stores_apart stated names (1 + length (front_stores tables)) front names.stores tables.stores (have-names (named_stores tables) 0 names.stores tables.stores calls) apart
-      ((λ some. clash (same_name [] []) (same-itself []) some), more.1))
+      ((λ some. clash (same_name [] []) (same_name-self []) some), more.1))
 
   -- what items name is stated
   store-known : (n : ℕ) → IsNamed tables n → is_named (store_names (written_stores tables)) (store_called names n) ≡ true

@@ -15,7 +15,7 @@ use Rattle.rule_model.specs.declared.program.Program.{Program}
 use Rattle.rule_model.specs.declared.tables.Store.{Store}
 use Rattle.rule_model.specs.Naming.{stores_of, rule_items, all_rules}
 use Rattle.rule_model.specs.Src.{pattern_uses, output_uses, rule_uses, group_uses, numbers_named, src_options, is_plain, is_on_match, is_on_nomatch}
-use Rattle.compile_laws.proofs.Places.{position-cons}
+use Rattle.virtual_keys.proofs.NamePlaces.{position_cons}
 use Rattle.store_table.specs.Names.{is_named}
 use Rattle.store_table.specs.Known.{known, option_named, rule_options}
 use Rattle.virtual_keys.proofs.NamePlaces.{some_place}
@@ -165,7 +165,7 @@ option_used program written n h = found-used program n (flat_map group_uses prog
 -- no store before a first place passes
 pub none_before : {X : Type 0} (p : X → Bool) (xs : List X) (k : ℕ) → position p xs ≡ Some k → AllByRecursion (λ x. p x ≡ false) (take k xs)
 none_before p [] k e = absurd (none-some k e)
-none_before p (x ∷ xs) k e = by (p x) refl (position p xs) refl k (sym (position-cons p x xs) ∙ e) (λ j at. none_before p xs j at)
+none_before p (x ∷ xs) k e = by (p x) refl (position p xs) refl k (sym (position_cons p x xs) ∙ e) (λ j at. none_before p xs j at)
   where
     by : (b : Bool) → p x ≡ b → (o : Option ℕ) → position p xs ≡ o → (k : ℕ) → cond b (Some 0) (option_map suc o) ≡ Some k
         → ((j : ℕ) → position p xs ≡ Some j → AllByRecursion (λ y. p y ≡ false) (take j xs)) → AllByRecursion (λ y. p y ≡ false) (take k (x ∷ xs))

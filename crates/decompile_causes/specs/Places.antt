@@ -5,6 +5,7 @@ use Rattle.rule_model.specs.declared.tables.Rule.{Rule}
 use Rattle.rule_model.specs.declared.tables.Store.{Store}
 use Rattle.rule_model.specs.declared.tables.Group.{Group}
 use Rattle.rule_model.specs.Tab.{tab_options}
+use Rattle.kmx_format.specs.declared.places.TheConstants.{GROUPS_AT, STORES_AT}
 use Rattle.kmx_format.specs.declared.sizes.TheConstants.{STORE_BYTES, GROUP_BYTES, RULE_BYTES}
 use Rattle.kmx_format.specs.TablesOf.{word_at, tables_of}
 use Rattle.decompile_laws.specs.Items.{Names}
@@ -40,8 +41,8 @@ group_causes bytes names place (group ∷ groups) =
 -- all places of causes
 unfoldable pub cause_places : List ℕ → List ℕ
 cause_places bytes =
-    store_causes (names_for (tables_of bytes)) (tab_options (tables_of bytes)) (word_at bytes 32) 0 (tables_of bytes).stores
-    ++ group_causes bytes (names_for (tables_of bytes)) (word_at bytes 36) (tables_of bytes).groups
+    store_causes (names_for (tables_of bytes)) (tab_options (tables_of bytes)) (word_at bytes STORES_AT) 0 (tables_of bytes).stores
+    ++ group_causes bytes (names_for (tables_of bytes)) (word_at bytes GROUPS_AT) (tables_of bytes).groups
 
 -- the least of them: arrays may lie anywhere in a file
 abbrev pub least : List ℕ → Option ℕ

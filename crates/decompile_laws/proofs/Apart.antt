@@ -7,6 +7,7 @@ use Rattle.std.proofs.lemmas.Slice.Eq.{bytes_eq-Decides}
 use Rattle.std.proofs.lemmas.Option.{none-some, same_Some}
 use Rattle.std.proofs.lemmas.Bool.{false_from_ne_true, not-true, and_parts, or_parts, cond_both}
 use Rattle.kmn_base.specs.Names.{same_name}
+use Rattle.virtual_keys.proofs.NamePlaces.{same_name-self}
 use Rattle.rule_model.specs.declared.tables.Store.{Store}
 use Rattle.decompile_laws.specs.Names.{is_free, keeps_name, is_written, store_names}
 use Rattle.kmn_text.specs.Names.{is_source_name}
@@ -22,10 +23,6 @@ StandsFirst name zero (None ∷ names) = ⊥
 StandsFirst name zero (Some other ∷ names) = (other ≡ name) × (same_name name name ≡ true)
 StandsFirst name (suc n) (None ∷ names) = StandsFirst name n names
 StandsFirst name (suc n) (Some other ∷ names) = (same_name other name ≡ false) × StandsFirst name n names
-
-pub same-itself : (name : List ℕ) → same_name name name ≡ true
-unfolding same_name
-same-itself name = (bytes_eq-Decides (str_to_ascii_lowercase name) (str_to_ascii_lowercase name)).1 refl
 
 pub same-turned : (a b : List ℕ) → same_name a b ≡ false → same_name b a ≡ false
 unfolding same_name
@@ -143,7 +140,7 @@ names_apart named taken free earlier n [] f enough all = tt
 names_apart named taken free earlier n (store ∷ stores) f enough all =
     let some_free : 0 < length free = omega arith in
     cond_both (not (is_written named n store)) _ _ AreApart (λ e. names_apart named taken free earlier (n + 1) stores f (omega arith) all.1)
-    (λ e. cond_both (not (nat_eq store.system 0)) _ _ AreApart (λ e. (λ k. clash (same_name [] []) (same-itself []) k, names_apart named taken free earlier (n + 1) stores f (omega arith) all.1))
+    (λ e. cond_both (not (nat_eq store.system 0)) _ _ AreApart (λ e. (λ k. clash (same_name [] []) (same_name-self []) k, names_apart named taken free earlier (n + 1) stores f (omega arith) all.1))
     (λ e. cond_both (not (is_system_name store.name) && keeps_name earlier store.name) _ _ AreApart
     (λ e. (
       λ k. later store.name named free (earlier ++ store.name ∷ []) (n + 1) stores (source-some store.name (and_parts (is_source_name store.name) _ (and_parts _ (keeps_name earlier store.name) e).1).0)
@@ -166,7 +163,7 @@ each-at x name (suc n) (Some y ∷ names) apart at = each-at x name n names apar
 pub stands_first : (name : List ℕ) (n : ℕ) (names : List (Option (List ℕ))) → same_name name [] ≡ false → AreApart names → slice_get names n ≡ Some (Some name) → StandsFirst name n names
 stands_first name n [] some apart at = absurd (none-some (Some name) at)
 stands_first name zero (None ∷ names) some apart at = absurd (none-some name (same_Some None (Some name) at))
-stands_first name zero (Some x ∷ names) some apart at = (same_Some x name (same_Some (Some x) (Some name) at), same-itself name)
+stands_first name zero (Some x ∷ names) some apart at = (same_Some x name (same_Some (Some x) (Some name) at), same_name-self name)
 stands_first name (suc n) (None ∷ names) some apart at = stands_first name n names some apart at
 stands_first name (suc n) (Some [] ∷ names) some apart at = (same-turned name [] some, stands_first name n names some apart.1 at)
 stands_first name (suc n) (Some (byte ∷ bytes) ∷ names) some apart at = (each-at (byte ∷ bytes) name n names (apart.0 (filled byte bytes)) at, stands_first name n names some apart.1 at)

@@ -7,8 +7,9 @@ use Rattle.std.proofs.lemmas.Option.{none-some, same_Some}
 use Rattle.std.proofs.lemmas.Bool.{cond-true, cond-false, or_parts, or_right}
 use Rattle.kmn_base.specs.Names.{same_name}
 use Rattle.rule_model.specs.Tab.{distinct_onto}
-use Rattle.compile_laws.proofs.Places.{position-cons}
-use Rattle.decompile_laws.proofs.Apart.{same-itself, Differs}
+use Rattle.virtual_keys.proofs.NamePlaces.{position_cons}
+use Rattle.decompile_laws.proofs.Apart.{Differs}
+use Rattle.virtual_keys.proofs.NamePlaces.{same_name-self}
 use Rattle.decompile_laws.proofs.Free.{AreDistinct}
 
 -- a name is one of these
@@ -81,14 +82,14 @@ pub found-at : (p : List ℕ → Bool) (name : List ℕ) (k : ℕ) (xs : List (L
     → AreDistinct xs → slice_get xs k ≡ Some name → position p xs ≡ Some k
 found-at p name k [] here others d at = absurd (none-some name at)
 found-at p name zero (x ∷ xs) here others d at =
-    position-cons p x xs ∙ cond-true (p x) _ _ (ap p (same_Some x name at) ∙ here)
+    position_cons p x xs ∙ cond-true (p x) _ _ (ap p (same_Some x name at) ∙ here)
 found-at p name (suc k) (x ∷ xs) here others d at =
-    position-cons p x xs ∙ (cond-false (p x) _ _ (others x (differs-at x name k xs d.0 at)) ∙ ap (option_map suc) (found-at p name k xs here others d.1 at))
+    position_cons p x xs ∙ (cond-false (p x) _ _ (others x (differs-at x name k xs d.0 at)) ∙ ap (option_map suc) (found-at p name k xs here others d.1 at))
 
 pub at-among : (names : List (List ℕ)) (k : ℕ) (name : List ℕ) → slice_get names k ≡ Some name → Among names name
 at-among [] k name at = absurd (none-some name at)
 at-among (x ∷ names) zero name at =
-    ap (λ b. b || list_any (λ y. same_name y name) names) (ap (λ k. same_name k name) (same_Some x name at) ∙ same-itself name)
+    ap (λ b. b || list_any (λ y. same_name y name) names) (ap (λ k. same_name k name) (same_Some x name at) ∙ same_name-self name)
 at-among (x ∷ names) (suc k) name at = or_right (same_name x name) (list_any (λ y. same_name y name) names) (at-among names k name at)
 
 -- a number of a range stands in it

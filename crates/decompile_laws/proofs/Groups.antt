@@ -19,7 +19,7 @@ use Rattle.rule_model.specs.Choose.{choose}
 use Rattle.rule_model.specs.Naming.{SourceNames, names_of}
 use Rattle.rule_model.specs.Src.{src, src_group, src_rule, src_pattern, src_outputs, is_plain, is_on_match, is_on_nomatch}
 use Rattle.rule_model.specs.Tab.{tab, tab_group, tab_rule, tab_output, output_if_any}
-use Rattle.compile_laws.proofs.Places.{position-map}
+use Rattle.virtual_keys.proofs.PositionLemmas.{position-map}
 use Rattle.compile_laws.proofs.Keyboards.{src_choice}
 use Rattle.decompile_laws.specs.Names.{is_free, keeps_name, group_names}
 use Rattle.kmn_text.specs.Names.{is_source_name}
@@ -28,7 +28,8 @@ use Rattle.decompile_laws.specs.Back.{back_rule, back_rules, back_statement, mat
 use Rattle.decompile_laws.specs.WrittenOut.{fall_from, has_falling_contexts}
 use Rattle.decompile_laws.proofs.Alike.{SameRule, SameGroup, SameOptional}
 use Rattle.decompile_laws.proofs.SameTraces.{NoneBefore, AreInOrder, best_is_first}
-use Rattle.decompile_laws.proofs.Apart.{Has, Differs, AreFree, has-append, has-last, free-not, free-drop, first-free, differs-first, differs-drop, taken-differs, source-some, same-itself, same-turned}
+use Rattle.decompile_laws.proofs.Apart.{Has, Differs, AreFree, has-append, has-last, free-not, free-drop, first-free, differs-first, differs-drop, taken-differs, source-some, same-turned}
+use Rattle.virtual_keys.proofs.NamePlaces.{same_name-self}
 use Rattle.decompile_laws.proofs.Free.{AreDistinct}
 use Rattle.decompile_laws.proofs.Distinct.{found-at}
 use Rattle.decompile_laws.proofs.Good.{GoodOutput, GoodRule, GoodGroup}
@@ -102,9 +103,9 @@ pub found-group : (n : SourceNames) (names : Names) (line : ℕ) (called : List 
     → AreDistinct called → slice_get called k ≡ Some name
     → position (λ (g : GroupMeaning). same_name g.name name) (map (src_group n) (back_groups names line called groups)) ≡ Some k
 found-group n names line called groups k name same d at =
-    sym (position-map (λ known. same_name known name) (λ (g : GroupMeaning). g.name) (map (src_group n) (back_groups names line called groups)))
+    sym (position-map (λ (g : GroupMeaning). g.name) (λ known. same_name known name) (map (src_group n) (back_groups names line called groups)))
     ∙ (ap (position (λ known. same_name known name)) (back-names n names line called groups same)
-    ∙ found-at (λ known. same_name known name) name k called (same-itself name) (λ x e. e) d at)
+    ∙ found-at (λ known. same_name known name) name k called (same_name-self name) (λ x e. e) d at)
 
 -- and is the group of that number
 pub record BackAt (n : SourceNames) (names : Names) (groups : List Group) (list : List GroupMeaning) (k : ℕ) : Type 0 where

@@ -13,7 +13,7 @@ use Rattle.rule_model.specs.Naming.{SourceNames, store_of, stores_onto, is_dropp
 use Rattle.rule_model.specs.Src.{numbers_named}
 use Rattle.rule_model.specs.System.{system_options}
 use Rattle.rule_model.specs.Tab.{with_options}
-use Rattle.compile_laws.proofs.Places.{position-cons}
+use Rattle.virtual_keys.proofs.NamePlaces.{position_cons}
 use Rattle.decompile_laws.specs.Items.{Names, back_element}
 use Rattle.decompile_laws.specs.Back.{back_stores}
 use Rattle.decompile_laws.proofs.Apart.{StandsFirst}
@@ -139,11 +139,11 @@ within n [] stores f name first along = absurd first
 within n (call ∷ calls) [] f name first along = absurd (omega (arith, along))
 within zero (None ∷ calls) (store ∷ stores) f name first along = absurd first
 within zero (Some other ∷ calls) (store ∷ stores) f name (is, same) along =
-    position-cons (λ (store : Store). same_name store.name name) (record { system = store.system; name = other; elements = map f store.elements }) (thin_stores f calls stores)
+    position_cons (λ (store : Store). same_name store.name name) (record { system = store.system; name = other; elements = map f store.elements }) (thin_stores f calls stores)
     ∙ cond-true (same_name other name) _ _ (ap (λ k. same_name k name) is ∙ same)
 within (suc n) (None ∷ calls) (store ∷ stores) f name first along = within n calls stores f name first (omega (arith, along))
 within (suc n) (Some other ∷ calls) (store ∷ stores) f name (apart, first) along =
-    position-cons (λ (store : Store). same_name store.name name) (record { system = store.system; name = other; elements = map f store.elements }) (thin_stores f calls stores)
+    position_cons (λ (store : Store). same_name store.name name) (record { system = store.system; name = other; elements = map f store.elements }) (thin_stores f calls stores)
     ∙ (cond-false (same_name other name) _ _ apart ∙ (ap (option_map suc) (within n calls stores f name first (omega (arith, along)))
     ∙ (let e : suc (written_before n calls) ≡ 1 + written_before n calls = omega arith in ap (λ (k : ℕ). Some k) e)))
 
@@ -153,7 +153,7 @@ pub found-behind : (front : List Store) (n : ℕ) (calls : List (Option (List �
 found-behind [] n calls stores f name other first along =
     within n calls stores f name first along ∙ (let e : written_before n calls ≡ 0 + written_before n calls = omega arith in ap (λ (k : ℕ). Some k) e)
 found-behind (x ∷ front) n calls stores f name (apart, other) first along =
-    position-cons (λ (store : Store). same_name store.name name) x (front ++ thin_stores f calls stores)
+    position_cons (λ (store : Store). same_name store.name name) x (front ++ thin_stores f calls stores)
     ∙ (cond-false (same_name x.name name) _ _ apart ∙ (ap (option_map suc) (found-behind front n calls stores f name other first along)
     ∙ (let e : suc (length front + written_before n calls) ≡ suc (length front) + written_before n calls = omega arith in ap (λ (k : ℕ). Some k) e)))
 

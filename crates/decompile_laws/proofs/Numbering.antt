@@ -22,7 +22,8 @@ use Rattle.decompile_laws.specs.Marks.{greatest_mark, table_marks}
 use Rattle.decompile_laws.specs.Items.{key_by_code, key_by_name, key_called}
 use Rattle.decompile_laws.specs.Back.{back_stores, numbered, mark_store, key_store, stated_marks, stated_key, version_text, mark_stores, key_stores, front_stores, free_stores, names_for, written_stores, written_begins, written_groups, back}
 use Rattle.decompile_laws.specs.WrittenOut.{CanBeWrittenOut}
-use Rattle.decompile_laws.proofs.Apart.{same-itself, same-turned}
+use Rattle.decompile_laws.proofs.Apart.{same-turned}
+use Rattle.virtual_keys.proofs.NamePlaces.{same_name-self}
 use Rattle.decompile_laws.proofs.Free.{AreDistinct, candidates_distinct}
 use Rattle.decompile_laws.proofs.Good.{IsMark, IsKey, groups_good, stores_good}
 use Rattle.decompile_laws.proofs.Distinct.{Among, distinct-first, distinct-apart, found-at}
@@ -150,7 +151,7 @@ mark-number t p c m ok =
     let some = ok.0 in
     ap (λ (names : List (List ℕ)). 1 + unwrap_or (position (λ known. same_name known (decimal m)) names) 0) (marks-are t p c)
     ∙ (ap (λ (o : Option ℕ). 1 + unwrap_or o 0)
-    (found-at (λ known. same_name known (decimal m)) (decimal m) (m - 1) (mark_list t) (same-itself (decimal m)) (λ x e. e) (marks-distinct t p) (mark-at t m ok))
+    (found-at (λ known. same_name known (decimal m)) (decimal m) (m - 1) (mark_list t) (same_name-self (decimal m)) (λ x e. e) (marks-distinct t p) (mark-at t m ok))
     ∙ omega (arith, some))
 
 pub key-number : (t : Tables) → IsPlayable t → CanBeWrittenOut t → (flags code : ℕ) → IsKey t code → key_number (names_of (back t)) (key_called (names_for t) flags code) ≡ code
@@ -162,5 +163,5 @@ key-number t p c flags code ok =
     (λ named. ap (key_number (names_of (back t))) (cond-false (nat_lt code 256) (key_by_code flags code) (key_by_name (names_for t) flags code) named.large)
     ∙ ((λ i. unwrap_or (code_in (keys-are t p c i) (called-name t (names_for t) code refl named i)) 0)
     ∙ (ap (λ (o : Option ℕ). unwrap_or (option_map (λ place. 256 + place) o) 0)
-    (found-at (same_name named.name) named.name (code - 256) (key_list t) (same-itself named.name) (λ x e. same-turned x named.name e) (keys-distinct t) named.at)
+    (found-at (same_name named.name) named.name (code - 256) (key_list t) (same_name-self named.name) (λ x e. same-turned x named.name e) (keys-distinct t) named.at)
     ∙ (let large = ltb-false code 256 named.large in omega (arith, large)))))

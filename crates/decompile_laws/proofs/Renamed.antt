@@ -6,7 +6,7 @@ use Rattle.std.specs.Prelude.{nat_lt, nat_le, ◌&&◌, ◌||◌, bit_or, bit_an
 use Rattle.std.proofs.lemmas.Option.{slice_get-map}
 use Rattle.kmn_base.specs.declared.items.Item.TheVariants as item
 use Rattle.kmn_base.specs.declared.items.Element.TheVariants as element
-use Rattle.compile_laws.proofs.Places.{position-map}
+use Rattle.virtual_keys.proofs.PositionLemmas.{position-map}
 use Rattle.std.specs.Fmt.{decimal}
 use Rattle.kmn_base.specs.declared.items.Element.{Element}
 use Rattle.kmn_base.specs.declared.items.Item.{Item}
@@ -57,7 +57,7 @@ is-plain (item.Mark m) (element.Mark n) = refl
 is-plain (item.Mark m) (element.Key flags code) = refl
 
 place-plain : (x : Item) (es : List Element) → place_of x (map plain es) ≡ place_of x es
-place-plain x es = position-map (is_item x) plain es ∙ (λ i. position (λ e. is-plain x e i) es)
+place-plain x es = position-map plain (is_item x) es ∙ (λ i. position (λ e. is-plain x e i) es)
 
 element-plain : (x : Item) (o : Option Element) → is_element x (option_map plain o) ≡ is_element x o
 element-plain x None = refl

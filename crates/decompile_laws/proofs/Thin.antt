@@ -8,7 +8,7 @@ use Rattle.kmn_base.specs.Names.{same_name}
 use Rattle.rule_model.specs.Keyboard.{Named, Numbered, StoreMeaning}
 use Rattle.rule_model.specs.Content.{options_before, store_number, elements_of_store, elements_at, content_of, content_at, content, option_of, option_at, option_number}
 use Rattle.rule_model.specs.Trace.{options_of}
-use Rattle.compile_laws.proofs.Places.{position-cons}
+use Rattle.virtual_keys.proofs.NamePlaces.{position_cons}
 use Rattle.decompile_laws.proofs.Apart.{StandsFirst}
 
 -- a store under another name, with each element changed; a name means no system option
@@ -52,7 +52,7 @@ stands f name n (other ∷ names) [] more first keeps = absurd keeps
 stands f name zero (None ∷ names) (store ∷ stores) more first keeps = absurd first
 stands f name zero (Some other ∷ names) (store ∷ stores) more (is, same) (named, keeps) = record {
   place = 0;
-  found = position-cons (is_called name) (renamed f other store) (thin f names stores ++ more)
+  found = position_cons (is_called name) (renamed f other store) (thin f names stores ++ more)
       ∙ cond-true (same_name other name) _ _ (ap (λ k. same_name k name) is ∙ same);
   store = store;
   old = refl;
@@ -73,7 +73,7 @@ stands f name (suc n) (None ∷ names) (store ∷ stores) more first (plain, kee
 stands f name (suc n) (Some other ∷ names) (store ∷ stores) more (apart, first) (named, keeps) =
     let rest = stands f name n names stores more first keeps in record {
       place = suc rest.place;
-      found = position-cons (is_called name) (renamed f other store) (thin f names stores ++ more)
+      found = position_cons (is_called name) (renamed f other store) (thin f names stores ++ more)
           ∙ cond-false (same_name other name) _ _ apart ∙ ap (option_map suc) rest.found;
       store = rest.store;
       old = rest.old;
@@ -90,7 +90,7 @@ behind f name n [] new_stores old_stores other plain s = s
 behind f name n (x ∷ front) new_stores old_stores (apart, other) (fixed, plain) s =
     let more = behind f name n front new_stores old_stores other plain s in record {
       place = suc more.place;
-      found = position-cons (is_called name) x (front ++ new_stores) ∙ cond-false (is_called name x) _ _ apart ∙ ap (option_map suc) more.found;
+      found = position_cons (is_called name) x (front ++ new_stores) ∙ cond-false (is_called name x) _ _ apart ∙ ap (option_map suc) more.found;
       store = more.store;
       old = more.old;
       new = more.new;

@@ -1,17 +1,17 @@
 -- The names of a key dictionary are fewer than there are codes: each takes a character and a space of one store.
-use Rattle.std.proofs.Common.{◌≡◌, ℕ, suc, ◌+◌, ◌*◌, ◌<◌, ◌≤◌, Bool, true, false, not, List, [], ◌∷◌, ◌++◌, length, get_or, Option, Some, refl, sym, ap, ◌∙◌, arith, cond, length-append, append-nil, if◌then◌else◌}
+use Rattle.std.proofs.Common.{◌≡◌, ℕ, suc, ◌+◌, ◌*◌, ◌≤◌, Bool, true, false, not, List, [], ◌∷◌, ◌++◌, length, Option, Some, refl, ap, ◌∙◌, arith, cond, length-append, if◌then◌else◌}
 use Rattle.std.specs.Prelude.{All, filter, filter_map, find, nat_eq, encode_utf8_all}
 use Rattle.std.specs.Char.{encode_utf8}
 use Rattle.std.specs.List.{list_any, slice_split, onto_first}
 use Rattle.std.proofs.lemmas.Bool.Decides.{nat_tests}
-use Rattle.std.proofs.lemmas.List.{get_or_default}
 use Rattle.std.proofs.lemmas.List.Elements.{All-head, All-tail}
 use Rattle.std.proofs.lemmas.List.Splits.{slice_split-cons_yes, slice_split-cons_no}
-use Rattle.std.proofs.lemmas.Str.{encode_ascii, inside_one}
+use Rattle.std.proofs.lemmas.Str.{encode_ascii}
 use Rattle.kmn_base.specs.declared.items.Element.{Element}
 use Rattle.kmn_base.specs.declared.items.Element.TheVariants as element
 use Rattle.kmn_base.specs.declared.limits.TheConstants.{STORE_ELEMENTS, KEY_NAMES}
 use Rattle.kmn_base.specs.Names.{same_name}
+use Rattle.virtual_keys.proofs.WordBytes.{HasNoSpace, bytes_of}
 use Rattle.rule_model.specs.declared.tables.Store.{Store}
 use Rattle.rule_model.specs.Tab.{distinct_onto, element_char, is_dictionary, store_elements, tab_dictionary, words}
 
@@ -61,29 +61,12 @@ onto-begun b (part ∷ parts) = omega arith
 abbrev parted : List ℕ → List (List ℕ)
 parted = slice_split (nat_eq 32)
 
--- no byte of a text is a space
-abbrev HasNoSpace : List ℕ → Type 0
-HasNoSpace text = All (λ byte. nat_eq 32 byte ≡ false) text
-
 bytes-begun : (bytes text : List ℕ) → HasNoSpace bytes → taken_begun (parted (bytes ++ text)) ≡ taken_begun (parted text)
 bytes-begun [] text h = refl
 bytes-begun (b ∷ bytes) text h =
     ap taken_begun (slice_split-cons_no (nat_eq 32) b (bytes ++ text) (All-head (λ byte. nat_eq 32 byte ≡ false) b bytes h))
     ∙ onto-begun b (parted (bytes ++ text))
     ∙ bytes-begun bytes text (All-tail (λ byte. nat_eq 32 byte ≡ false) b bytes h)
-
--- a character that is no space has no byte that is one
-bytes_of : (c : ℕ) → nat_eq c 32 ≡ false → HasNoSpace (encode_utf8 c)
-bytes_of c other = λ k d below. differ k d below (nat_eq 32 (get_or (encode_utf8 c) k d)) refl
-  where
-    differ : (k d : ℕ) → k < length (encode_utf8 c) → (same : Bool) → nat_eq 32 (get_or (encode_utf8 c) k d) ≡ same → same ≡ false
-    differ k d below false e = refl
-    differ k d below true e =
-        let byte : get_or (encode_utf8 c) k 0 ≡ get_or (encode_utf8 c) k d = get_or_default (encode_utf8 c) k 0 d below in
-        let space : 32 ≡ get_or (encode_utf8 c) k d = grind (arith, nat_tests) in
-        let is : c ≡ get_or (encode_utf8 c) k 0 = inside_one c [] (encode_utf8 c) k (sym (append-nil (encode_utf8 c))) below (omega arith) in
-        let same : c ≡ 32 = omega arith in
-        absurd (grind (arith, nat_tests))
 
 character-taken : (c : ℕ) (text : List ℕ) (space : Bool) → nat_eq c 32 ≡ space → taken (parted (encode_utf8 c ++ text)) ≤ taken (parted text) + 1
 character-taken c text true e =

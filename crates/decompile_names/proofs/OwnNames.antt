@@ -1,17 +1,10 @@
 -- The names of a key dictionary, read code by code.
-use Rattle.std.proofs.Common.{◌≡◌, ℕ, zero, suc, ◌+◌, ◌-◌, ◌<◌, ◌≤◌, Bool, true, false, List, [], ◌∷◌, ◌++◌, length, drop, Some, None, get_or, nat_lt, refl, sym, ap, ◌∙◌, arith, if◌then◌else◌, append_assoc, append-nil}
+use Rattle.std.proofs.Common.{◌≡◌, ℕ, zero, suc, ◌+◌, ◌<◌, ◌≤◌, List, [], ◌∷◌, ◌++◌, length, drop, Some, None, get_or, refl, sym, ap, ◌∙◌, arith, append_assoc, append-nil}
 use Rattle.std.specs.Prelude.{slice_get}
-use Rattle.std.proofs.lemmas.Bool.Decides.{nat_tests}
 use Rattle.std.proofs.lemmas.List.{drop_more}
-use Rattle.std.proofs.lemmas.Option.{slice_get_within, get_or_from_slice_get, none-some}
+use Rattle.std.proofs.lemmas.Option.{slice_get_within, get_or_from_slice_get}
 use Rattle.virtual_keys.specs.Dictionary.{name_in}
-
-past : {X : Type 0} (xs : List X) (i : ℕ) → slice_get xs i ≡ None → length xs ≤ i
-past [] i e = omega arith
-past (x ∷ xs) zero e = absurd (none-some x (sym e))
-past (x ∷ xs) (suc i) e =
-    let h : length xs ≤ i = past xs i e in
-    omega arith
+use Rattle.virtual_keys.proofs.NamePlaces.{past, name_read}
 
 none_left : {X : Type 0} (xs : List X) (i : ℕ) → length xs ≤ i → drop i xs ≡ []
 none_left [] zero h = refl
@@ -20,15 +13,6 @@ none_left (x ∷ xs) zero h = absurd (omega arith)
 none_left (x ∷ xs) (suc i) h =
     let less : length xs ≤ i = omega arith in
     none_left xs i less
-
-name_read_as : (place : ℕ) (names : List (List ℕ)) (low : Bool) → nat_lt (256 + place) 256 ≡ low → (if low then None else slice_get names ((256 + place) - 256)) ≡ slice_get names place
-name_read_as place names true e = absurd (grind (arith, nat_tests))
-name_read_as place names false e =
-    let same : (256 + place) - 256 ≡ place = omega arith in
-    ap (slice_get names) same
-
-name_read : (names : List (List ℕ)) (place : ℕ) → name_in names (256 + place) ≡ slice_get names place
-name_read names place = name_read_as place names (nat_lt (256 + place) 256) refl
 
 -- one name more
 pub next_name : (names keys : List (List ℕ)) (place : ℕ) (name : List ℕ) → name_in names (256 + place) ≡ Some name

@@ -20,7 +20,7 @@ mod used;
 
 pub use all_names::{called_by, free_stores};
 pub use called::Called;
-pub use characters::{has_character, text_of};
+pub use characters::has_character;
 pub use dictionary::own_keys;
 pub use greatest::greatest_mark;
 pub use source_names::is_source_name;

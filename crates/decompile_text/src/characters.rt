@@ -8,7 +8,8 @@ ghost use Rattle.decompile_text.specs.Pages.{with_text};
 ghost use Rattle.decompile_text.specs.Texts.{quoted_text};
 
 use crate::page::Page;
-use decompile_names::{has_character, text_of};
+use decompile_names::has_character;
+use indexed_tables::element_text;
 use kmn_base::{Element, Memory};
 
 /// A hexadecimal digit in upper case.
@@ -94,7 +95,7 @@ pub(crate) fn put_quoted(page: &mut Page, elements: &[Element]) -> Result<(), Me
     ensures { OnOk result (page.new ≡ with_text page.old (quoted_text elements.now)) }
 {
     let quote = quote_of(elements);
-    let text = text_of(page.alloc, elements)?;
+    let text = element_text(page.alloc, elements)?;
     page.put(&[quote])?;
     page.put(text.as_bytes())?;
     page.put(&[quote])

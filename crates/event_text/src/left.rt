@@ -80,13 +80,6 @@ impl<'a> Left<'a> {
         self.cache.items()
     }
 
-    /// The last items once more, as they are now.
-    pub fn copy_cache(&self) -> Cache
-        ensures { result ≡ self.now.cache }
-    {
-        self.cache.copy()
-    }
-
     /// Has as many items at hand as there are, up to 64.
     #[tactic(auto, using(crate::proofs::Lefts::filled_up, crate::proofs::Lefts::filled_stands))]
     pub fn fill(&mut self)

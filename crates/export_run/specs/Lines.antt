@@ -1,17 +1,43 @@
 -- The lines that are printed.
-use Rattle.std.specs.Prelude.{ℕ, List, [], ◌∷◌, codes}
+use Rattle.std.specs.Prelude.{ℕ, List, [], ◌∷◌, ◌++◌, length, map, flat_map, codes}
 use Rattle.std.specs.List.{concat}
 use Rattle.std.specs.Fmt.{decimal}
+use Rattle.rule_model.specs.Lines.{joined}
 use Rattle.keyman_lines.specs.Reasons.{fault_line}
+use Rattle.core_differences.specs.declared.construct.Construct.{Construct}
+use Rattle.core_differences.specs.declared.construct.Construct.TheVariants as construct
+use Rattle.core_differences.specs.declared.construct.Difference.{Difference}
 use Rattle.export_run.specs.declared.reading.Cause.{Cause}
-use Rattle.export_run.specs.declared.reading.Cause.TheVariants.{File, NoZeroUnit, Entangled}
+use Rattle.export_run.specs.declared.reading.Cause.TheVariants.{File, SavesTwice, NoZeroUnit, Entangled}
+use Rattle.export_run.specs.declared.reading.Export.{Export}
 
--- what is printed of an export: its size
+-- the size of an export
 unfoldable pub exported_line : ℕ → List ℕ
 exported_line size = concat (codes "exported bytes=" ∷ decimal size ∷ codes "\n" ∷ [])
+
+-- the word of what a record has that the other engine does otherwise
+abbrev pub construct_word : Construct → List ℕ
+construct_word construct.Use = codes "use"
+construct_word construct.Match = codes "match"
+construct_word construct.Nul = codes "nul"
+construct_word construct.Offset = codes "offset"
+construct_word construct.Empty = codes "empty"
+construct_word construct.Sides = codes "sides"
+construct_word construct.Right = codes "right"
+construct_word construct.Long = codes "long"
+
+-- a line of the source whose records have something, and the words of all that they have
+abbrev pub differs_line : Difference → List ℕ
+differs_line difference =
+    concat (codes "differs " ∷ decimal difference.line ∷ codes " " ∷ joined (map construct_word difference.constructs) ∷ codes "\n" ∷ [])
+
+-- what is printed of an export: its size, and a line for each line of the source with which the other engine does something else
+abbrev pub exported_text : Export → List ℕ
+exported_text export = exported_line (length export.bytes) ++ flat_map differs_line export.differences
 
 -- why a file isn't exported
 abbrev pub cause_line : Cause → List ℕ
 cause_line (File fault) = fault_line fault
+cause_line (SavesTwice line) = concat (codes "refused K01 line " ∷ decimal line ∷ codes "\n" ∷ [])
 cause_line NoZeroUnit = codes "refused K02\n"
 cause_line Entangled = codes "refused K03\n"

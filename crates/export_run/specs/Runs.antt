@@ -1,11 +1,12 @@
 -- What a run does to a folder and a sink: the contract of `export_run`.
-use Rattle.std.specs.Prelude.{◌≡◌, ◌⊎◌, ℕ, true, false, IsTrue, List, [], ◌∷◌, ◌++◌, length, Some}
+use Rattle.std.specs.Prelude.{◌≡◌, ◌⊎◌, ℕ, true, false, IsTrue, List, [], ◌∷◌, ◌++◌, Some}
 use Rattle.kmn_outside.specs.Outside.{Rose, SameOthers, call_of}
 use Rattle.play_transcript.specs.Printing.{IsBegun}
 use Rattle.export_run.specs.declared.reading.Cause.{Cause}
+use Rattle.export_run.specs.declared.reading.Export.{Export}
 use Rattle.export_run.specs.declared.status.Status.{Status}
 use Rattle.export_run.specs.declared.status.Status.TheVariants as status
-use Rattle.export_run.specs.Lines.{cause_line, exported_line}
+use Rattle.export_run.specs.Lines.{cause_line, exported_text}
 use Rattle.export_run.specs.Reads.{FolderView, FolderState, seen_folder, HasExport, HasCause, HasRead, HasFailedToRead, HasMaybeRead}
 use Rattle.export_run.specs.Tells.{SinkView, SinkState, seen_sink}
 
@@ -14,14 +15,14 @@ abbrev pub IsSilent : SinkState → SinkState → Type 0
 IsSilent before after = IsTrue before.told → after.written ≡ before.written
 
 -- the file was read, and its export was written under the target's name: no other name differs
-pub record HasExported (file target out : List ℕ) (before after : FolderState) : Type 0 where
+pub record HasExported (file target : List ℕ) (out : Export) (before after : FolderState) : Type 0 where
   pub export : HasExport before.files file out
   pub calls : after.calls ≡ before.calls ++ call_of file false false ∷ call_of target true false ∷ []
   pub others : SameOthers target before.files after.files
-  pub written : after.files target ≡ Some out
+  pub written : after.files target ≡ Some out.bytes
 
 -- the file was read, and writing its export failed: no other name than the target's differs
-pub record HasFailedToWrite (file target out : List ℕ) (before after : FolderState) : Type 0 where
+pub record HasFailedToWrite (file target : List ℕ) (out : Export) (before after : FolderState) : Type 0 where
   pub export : HasExport before.files file out
   pub calls : after.calls ≡ before.calls ++ call_of file false false ∷ call_of target true true ∷ []
   pub others : SameOthers target before.files after.files
@@ -31,22 +32,22 @@ pub record IsRefused (file : List ℕ) (why : Cause) (before after : FolderState
   pub cause : HasCause before.files file why
   pub read : HasRead file before after
 
--- all was done but that the printing broke off: a first part of the line was printed
+-- all was done but that the printing broke off: a first part of the text was printed
 abbrev pub IsCutOff : (file target : List ℕ) → FolderState → FolderState → SinkState → SinkState → Type 0
 IsCutOff file target before after sink sink_after =
-    ((out : List ℕ) × HasExported file target out before after × (IsTrue sink.told → IsBegun sink.written sink_after.written (exported_line (length out))))
+    ((out : Export) × HasExported file target out before after × (IsTrue sink.told → IsBegun sink.written sink_after.written (exported_text out)))
     ⊎ ((why : Cause) × IsRefused file why before after × (IsTrue sink.told → IsBegun sink.written sink_after.written (cause_line why)))
 
 -- what a run leaves, by its status
 abbrev pub LeavesBy : (file target : List ℕ) → FolderState → FolderState → SinkState → SinkState → Status → Type 0
 LeavesBy file target before after sink sink_after status.Done =
-    (out : List ℕ) × HasExported file target out before after × (IsTrue sink.told → sink_after.written ≡ sink.written ++ exported_line (length out))
+    (out : Export) × HasExported file target out before after × (IsTrue sink.told → sink_after.written ≡ sink.written ++ exported_text out)
 LeavesBy file target before after sink sink_after status.Refused =
     (why : Cause) × IsRefused file why before after × (IsTrue sink.told → sink_after.written ≡ sink.written ++ cause_line why)
 LeavesBy file target before after sink sink_after status.Words = ⊥
 LeavesBy file target before after sink sink_after status.ReadFault = HasFailedToRead file before after × IsSilent sink sink_after
 LeavesBy file target before after sink sink_after status.WriteFault =
-    ((out : List ℕ) × HasFailedToWrite file target out before after × IsSilent sink sink_after) ⊎ IsCutOff file target before after sink sink_after
+    ((out : Export) × HasFailedToWrite file target out before after × IsSilent sink sink_after) ⊎ IsCutOff file target before after sink sink_after
 LeavesBy file target before after sink sink_after status.Memory =
     (HasMaybeRead file before after × IsSilent sink sink_after) ⊎ IsCutOff file target before after sink sink_after
 

@@ -1,14 +1,15 @@
 //! The export of the file of a name, or why there is none.
 
 ghost use Rattle.std.specs.Prelude.{◌≡◌};
-ghost use Rattle.export_run.specs.Reads.{Gives, States, export_stop};
+ghost use Rattle.export_run.specs.Reads.{Answers, Gives, States, export_stop};
 
-use core_export::{ExportError, export};
+use core_differences::Difference;
+use core_export::{ExportError, differences, export};
 use keyman_words::{FileName, read};
 use kmn_base::limits::FILE_BYTES;
-use kmn_base::{Code, Seq};
+use kmn_base::{Code, Memory, Seq};
 use kmn_outside::{Folder, ReadError};
-use kmx_verifier::{Fault, VerifyError, verify};
+use kmx_verifier::{Fault, Verified, VerifyError, verify};
 use std::alloc::Global;
 
 /// Why a file isn't exported.
@@ -16,10 +17,19 @@ use std::alloc::Global;
 pub enum Cause {
     /// It isn't valid.
     File(Fault),
+    /// An event may save twice, first at this line of the source.
+    SavesTwice(u32),
     /// It has no string at all, so no zero unit to point to.
     NoZeroUnit,
     /// Its parts lie on one another.
     Entangled,
+}
+
+/// The export of a file, and where Keyman's own engine does something else with its rules.
+#[derive(Drop)]
+pub struct Export {
+    pub bytes: Seq<u8>,
+    pub differences: Seq<Difference>,
 }
 
 /// Why a run stops before it writes.
@@ -42,7 +52,7 @@ pub fn read_export<F: Folder>(
     alloc: Global,
     file: &FileName<'_>,
     folder: &mut F,
-) -> Result<Seq<u8>, Stop>
+) -> Result<Export, Stop>
     ensures { Gives file.now F.Folder folder.old folder.new result }
 {
     match read(alloc, file, FILE_BYTES, folder) {
@@ -54,16 +64,29 @@ pub fn read_export<F: Folder>(
 }
 
 /// Verifies the bytes of a file, and exports it.
-fn export_bytes(alloc: Global, bytes: &[u8]) -> Result<Seq<u8>, Stop>
+#[tactic(auto, using(crate::proofs::Answered::states_answered))]
+fn export_bytes(alloc: Global, bytes: &[u8]) -> Result<Export, Stop>
     ensures { States bytes.now result }
 {
     match verify(alloc, bytes) {
-        Ok(file) => match export(alloc, &file) {
-            Ok(out) => Ok(out),
-            Err(error) => Err(export_stop(error)),
-        },
+        Ok(file) => export_file(alloc, &file),
         Err(VerifyError::Refused(fault)) => Err(Stop::Refused(Cause::File(fault))),
         Err(VerifyError::Memory) => Err(Stop::Memory),
+    }
+}
+
+/// Exports a file.
+#[tactic(auto, using(crate::proofs::Answered::stop_answered))]
+fn export_file(alloc: Global, file: &Verified<'_>) -> Result<Export, Stop>
+    ensures { Answers file.now result }
+{
+    let bytes = match export(alloc, file) {
+        Ok(bytes) => bytes,
+        Err(error) => return Err(export_stop(error)),
+    };
+    match differences(alloc, file) {
+        Ok(differences) => Ok(Export { bytes, differences }),
+        Err(Memory) => Err(Stop::Memory),
     }
 }
 
@@ -72,6 +95,7 @@ fn export_stop(error: ExportError) -> Stop
     ensures { result ≡ export_stop error }
 {
     match error {
+        ExportError::SavesTwice(line) => Stop::Refused(Cause::SavesTwice(line)),
         ExportError::NoZeroUnit => Stop::Refused(Cause::NoZeroUnit),
         ExportError::Entangled => Stop::Refused(Cause::Entangled),
         ExportError::Memory => Stop::Memory,

@@ -30,7 +30,8 @@ pub fn export_run<F: Folder, S: Sink>(
     }
 }
 
-/// Exports the file of a name, writes what came under another and prints its size.
+/// Exports the file of a name, writes what came under another, and prints its size and where the
+/// other engine does something else.
 fn export_file<F: Folder, S: Sink>(
     alloc: Global,
     file: &FileName<'_>,
@@ -41,8 +42,8 @@ fn export_file<F: Folder, S: Sink>(
     ensures { Exports file.now target.now F.Folder folder.old folder.new S.Sink out.old out.new result }
 {
     match read_export(alloc, file, folder) {
-        Ok(export) => match write(alloc, target, export.as_slice(), folder) {
-            Ok(()) => tell_exported(alloc, export.as_slice(), out),
+        Ok(export) => match write(alloc, target, export.bytes.as_slice(), folder) {
+            Ok(()) => tell_exported(alloc, &export, out),
             Err(error) => write_status(error),
         },
         Err(stop) => tell_stop(alloc, stop, out),

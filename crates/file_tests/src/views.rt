@@ -1,7 +1,7 @@
 //! The parts of a file by place.
 
 use crate::fixtures::ONE_RULE;
-use kmx_view::{GroupRef, KmxView, RuleRef};
+use kmx_parts::{GroupRef, KmxView, RuleRef};
 use std::test::Fail;
 
 const GROUP: GroupRef = GroupRef {

@@ -17,7 +17,7 @@ use Rattle.host_script.specs.declared.entries.HostEntry.TheVariants.{Add, Turn, 
 use Rattle.host_script.specs.declared.entries.TheConstants.{SCRIPT_FIELDS}
 use Rattle.host_script.specs.declared.lines.Kind.{Kind}
 use Rattle.host_script.specs.declared.lines.Kind.TheVariants as kind
-use Rattle.host_script.specs.declared.lines.Part.{Part}
+use Rattle.host_script.specs.declared.lines.LinePart.{LinePart}
 use Rattle.host_script.specs.declared.script.HostScript.{HostScript}
 
 -- a rule that a line breaks
@@ -30,12 +30,12 @@ needed line code None = breaks line code
 needed line code (Some x) = Ok x
 
 -- a line that is complete has one entry, and nothing may stand behind it
-abbrev pub complete : ℕ → HostEntry → ℕ → List ℕ → Result Part Refusal
+abbrev pub complete : ℕ → HostEntry → ℕ → List ℕ → Result LinePart Refusal
 complete line entry events [] = Ok (record { entries = entry ∷ []; events = events })
 complete line entry events (c ∷ rest) = breaks line P08
 
 -- behind `field`: a number
-abbrev pub field_part : ℕ → ℕ → List ℕ → Result Part Refusal
+abbrev pub field_part : ℕ → ℕ → List ℕ → Result LinePart Refusal
 field_part line events text =
     and_then (needed line P05 (number (first_word text))) (λ field. complete line (Turn line field) events (behind_word text))
 
@@ -49,7 +49,7 @@ abbrev pub counted : ℕ → ℕ → Result ℕ Refusal
 counted line events = if nat_lt events SCRIPT_EVENTS then Ok (events + 1) else breaks line P07
 
 -- behind `preview`: one bracket
-abbrev pub preview_part : List (List ℕ) → ℕ → ℕ → List ℕ → Result Part Refusal
+abbrev pub preview_part : List (List ℕ) → ℕ → ℕ → List ℕ → Result LinePart Refusal
 preview_part dictionary line events text =
     and_then (needed line P03 (bracket text)) (λ parts.
     and_then (needed line P03 (press_with dictionary 0 (words parts.0))) (λ press.
@@ -61,7 +61,7 @@ on_field (one_field.Act line event) = Act line event
 on_field (one_field.Expect line text) = Expect line text
 
 -- any other line has the entries that it has in a script for one field
-abbrev pub other_part : List (List ℕ) → ℕ → ℕ → List ℕ → Result Part Refusal
+abbrev pub other_part : List (List ℕ) → ℕ → ℕ → List ℕ → Result LinePart Refusal
 other_part dictionary line events text =
     and_then (with_found (Ok (record { entries = []; events = events })) (line_found dictionary line text))
     (λ script. Ok (record { entries = map on_field script.entries; events = script.events }))
@@ -75,14 +75,14 @@ kind_of word =
     else None
 
 -- a line by itself, without the blanks before it, behind so many events and previews: its entries, or the first P code that it breaks
-abbrev pub kind_part : List (List ℕ) → ℕ → ℕ → Option Kind → List ℕ → Result Part Refusal
+abbrev pub kind_part : List (List ℕ) → ℕ → ℕ → Option Kind → List ℕ → Result LinePart Refusal
 kind_part dictionary line events None text = other_part dictionary line events text
 kind_part dictionary line events (Some kind.Open) text = complete line (Add line) events (behind_word text)
 kind_part dictionary line events (Some kind.Field) text = field_part line events (behind_word text)
 kind_part dictionary line events (Some kind.Preview) text = preview_part dictionary line events (behind_word text)
 
 -- the same with blanks before it
-abbrev pub line_part : List (List ℕ) → ℕ → ℕ → List ℕ → Result Part Refusal
+abbrev pub line_part : List (List ℕ) → ℕ → ℕ → List ℕ → Result LinePart Refusal
 line_part dictionary line events text =
     let tight : List ℕ = without_blanks text in kind_part dictionary line events (kind_of (first_word tight)) tight
 
@@ -109,7 +109,7 @@ abbrev pub first_script : HostScript
 first_script = record { entries = []; events = 0; fields = 0 }
 
 -- what a line has comes behind what was read, if it may stand there
-abbrev pub with_part : HostScript → Part → Result HostScript Refusal
+abbrev pub with_part : HostScript → LinePart → Result HostScript Refusal
 with_part s part =
     and_then (fields_behind s.fields part.entries) (λ fields. Ok (record { entries = s.entries ++ part.entries; events = part.events; fields = fields }))
 

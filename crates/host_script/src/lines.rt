@@ -26,7 +26,7 @@ pub enum Kind {
 
 /// What one line has: its entries, and how many events and previews there are up to its end.
 #[derive(Drop)]
-pub struct Part {
+pub struct LinePart {
     pub entries: Seq<HostEntry>,
     pub events: usize,
 }
@@ -53,17 +53,17 @@ fn complete(
     entry: HostEntry,
     events: usize,
     rest: &[u8],
-) -> Result<Part, ScriptError>
+) -> Result<LinePart, ScriptError>
     ensures { Answers (complete line entry events rest.now) result }
 {
     nothing_more(line, rest)?;
     let mut entries = Seq::new(alloc);
     entries.add(entry)?;
-    Ok(Part { entries, events })
+    Ok(LinePart { entries, events })
 }
 
 /// Reads what stands behind `field`.
-fn field_part(alloc: Global, line: u32, events: usize, text: &[u8]) -> Result<Part, ScriptError>
+fn field_part(alloc: Global, line: u32, events: usize, text: &[u8]) -> Result<LinePart, ScriptError>
     ensures { Answers (field_part line events text.now) result }
 {
     let field = needed_number(line, text)?;
@@ -109,7 +109,7 @@ fn preview_part(
     line: u32,
     events: usize,
     text: &[u8],
-) -> Result<Part, ScriptError>
+) -> Result<LinePart, ScriptError>
     ensures { Answers (preview_part names.now line events text.now) result }
 {
     let (inside, behind) = needed_bracket(line, text)?;
@@ -149,14 +149,14 @@ fn other_part(
     line: u32,
     events: usize,
     text: &[u8],
-) -> Result<Part, ScriptError>
+) -> Result<LinePart, ScriptError>
     ensures { Answers (other_part names.now line events text.now) result }
 {
     let mut reader = Reader::behind(alloc, events);
     read_line(alloc, names, line, text, &mut reader)?;
     let events = reader.events();
     let entries = on_fields(alloc, reader.into_entries())?;
-    Ok(Part { entries, events })
+    Ok(LinePart { entries, events })
 }
 
 /// Reads a line behind so many events and previews.
@@ -166,7 +166,7 @@ pub(crate) fn line_part(
     line: u32,
     events: usize,
     text: &[u8],
-) -> Result<Part, ScriptError>
+) -> Result<LinePart, ScriptError>
     ensures { Answers (line_part names.now line events text.now) result }
 {
     let text = without_blanks(text);

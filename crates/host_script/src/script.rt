@@ -7,7 +7,7 @@ ghost use Rattle.play_script.specs.Answers.{Answers, Leaves};
 ghost use Rattle.host_script.specs.HostEntries.{if_open, one_more, fields_behind, first_script, with_part, with_line, with_lines, host_entries};
 
 use crate::entries::{HostEntry, SCRIPT_FIELDS};
-use crate::lines::{Part, line_part};
+use crate::lines::{LinePart, line_part};
 use kmn_base::limits::TEXT_BYTES;
 use kmn_base::{Code, Seq};
 use play_script::{ScriptError, first_line, refused, without_mark};
@@ -72,7 +72,7 @@ impl HostScript {
     }
 
     /// Takes what a line has, if it may stand there.
-    fn take(&mut self, part: Part) -> Result<(), ScriptError>
+    fn take(&mut self, part: LinePart) -> Result<(), ScriptError>
         ensures { Leaves (with_part self.old part) self.new result }
     {
         self.fields = fields_behind(self.fields, part.entries.as_slice())?;

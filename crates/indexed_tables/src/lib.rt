@@ -18,6 +18,6 @@ mod system;
 
 pub use flags::{flag_numbers, mark};
 pub use indexed_tables::IndexedTables;
-pub use own_keys::first_word;
+pub use own_keys::{element_text, first_word};
 pub use platform::has_words;
 pub use system::system_elements;

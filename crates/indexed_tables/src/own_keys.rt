@@ -27,7 +27,7 @@ fn dictionary_elements(stores: &[Store]) -> &[Element]
 }
 
 /// The characters among elements, as UTF-8.
-fn element_text(alloc: Global, elements: &[Element]) -> Result<String, Memory>
+pub fn element_text(alloc: Global, elements: &[Element]) -> Result<String, Memory>
     ensures { IfOk result (λ text. string_bytes text ≡ encode_utf8_all (filter_map element_char elements.now)) }
 {
     let mut text = String::new(alloc);

@@ -2,8 +2,6 @@
 use Rattle.std.proofs.Common.{◌≡◌, ℕ, zero, suc, ◌+◌, ◌<◌, Bool, true, false, List, [], ◌∷◌, ◌++◌, length, get_or, Option, Some, None, is_some, option_map, refl, sym, ap, ◌∙◌, arith, if◌then◌else◌}
 use Rattle.std.specs.Prelude.{flat_map, nat_eq, nat_lt, ◌||◌, ◌&&◌, not, unwrap_or}
 use Rattle.std.specs.List.{list_all, list_any}
-use Rattle.std.specs.Str.{str_to_ascii_lowercase}
-use Rattle.std.specs.Cmp.Lexicographic.{bytes_decides}
 use Rattle.std.proofs.lemmas.Bool.{and_parts, and_from, or_left, or_right}
 use Rattle.std.proofs.Math.Bool.{or-false}
 use Rattle.std.proofs.lemmas.Bool.Decides.{nat_tests}
@@ -22,7 +20,7 @@ use Rattle.rule_model.specs.declared.program.RuleDef.{RuleDef}
 use Rattle.rule_model.specs.declared.program.Program.{Program}
 use Rattle.rule_model.specs.Tab.{distinct_onto}
 use Rattle.rule_model.specs.Naming.{SourceNames, names_of, rule_items, all_rules, store_items, items_from, source_items, stores_before, stores_after, key_names, key_number}
-use Rattle.virtual_keys.proofs.NamePlaces.{some_place, same_either_way}
+use Rattle.virtual_keys.proofs.NamePlaces.{some_place, same_either_way, same_name-self}
 use Rattle.item_checker.specs.Items.{is_no_plain_key}
 use Rattle.item_checker.specs.Summaries.{are_found_keys, is_found_key, is_other_key}
 
@@ -82,10 +80,6 @@ seen_stays seen (x ∷ xs) name h = seen_stays (if list_any (λ known. same_name
     by true = h
     by false = list_any-append (λ known. same_name known name) seen (x ∷ []) ∙ or_left (list_any (λ known. same_name known name) seen) (list_any (λ known. same_name known name) (x ∷ [])) h
 
-itself : (name : List ℕ) → same_name name name ≡ true
-unfolding same_name
-itself name = (bytes_decides (str_to_ascii_lowercase name) (str_to_ascii_lowercase name)).1 refl
-
 abbrev pub is_among : List (List ℕ) → List ℕ → Bool
 is_among names name = list_any (λ known. same_name known name) names
 
@@ -98,7 +92,7 @@ all_seen seen (x ∷ xs) =
     by : (b : Bool) → list_any (λ known. same_name known x) seen ≡ b → list_any (λ known. same_name known x) (if b then seen else seen ++ x ∷ []) ≡ true
     by true e = e
     by false e = list_any-append (λ known. same_name known x) seen (x ∷ [])
-        ∙ or_right (list_any (λ known. same_name known x) seen) (same_name x x || false) (or_left (same_name x x) false (itself x))
+        ∙ or_right (list_any (λ known. same_name known x) seen) (same_name x x || false) (or_left (same_name x x) false (same_name-self x))
 
 any_way : (name : List ℕ) (names : List (List ℕ)) → list_any (same_name name) names ≡ is_among names name
 any_way name [] = refl

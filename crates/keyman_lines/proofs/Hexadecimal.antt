@@ -1,15 +1,9 @@
--- What a hole of four hexadecimal digits writes, and of two.
+-- What a hole of two hexadecimal digits writes.
 use Rattle.std.proofs.Common.{◌≡◌, ℕ, ◌-◌, ◌^◌, List, ◌++◌, length, replicate, false, append-nil, arith}
 use Rattle.std.specs.Prelude.{[]}
 use Rattle.std.specs.Fmt.{padded_integral, format_spec, char_count}
 
--- zeros stand before the digits, up to four
-pub padded_hexadecimal : (digits : List ℕ) → padded_integral (format_spec 32 0 4 4 (2 ^ 64 - 1)) false [] digits ≡ replicate (4 - length digits) 48 ++ digits
-unfolding padded_integral char_count
-padded_hexadecimal digits =
-    let none : 4 - length digits - 0 - 0 ≡ 4 - length digits = omega arith in
-    rw (append-nil digits, none)
-
+-- zeros stand before the digits, up to two
 pub two_digits_padded : (digits : List ℕ) → padded_integral (format_spec 32 0 4 2 (2 ^ 64 - 1)) false [] digits ≡ replicate (2 - length digits) 48 ++ digits
 unfolding padded_integral char_count
 two_digits_padded digits =

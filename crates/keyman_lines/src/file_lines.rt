@@ -28,7 +28,7 @@ pub fn compiled_line(alloc: Global, compiled: &Compiled) -> Result<Text, Memory>
 }
 
 /// The line of a valid file: its version and its counts.
-#[tactic(auto, using(crate::proofs::Hexadecimal::padded_hexadecimal), unfolding(crate::specs::Lines::valid_line))]
+#[tactic(auto, using(play_script::proofs::Hexadecimal::padded_hexadecimal), unfolding(crate::specs::Lines::valid_line))]
 pub fn valid_line(alloc: Global, file: &Verified<'_>) -> Result<Text, Memory>
     ensures { IfOk result (λ line. line ≡ valid_line (tables_of file.now)) }
 {

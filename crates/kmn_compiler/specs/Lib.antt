@@ -1,3 +1,4 @@
 pub mod Laws
 pub mod Picture
 pub mod Source
+pub mod Order

@@ -4,13 +4,13 @@ ghost use Rattle.compile_laws.specs.Compiles.{Compiles};
 ghost use Rattle.rule_checker.specs.Refused.{IsRead, checked, refused};
 ghost use Rattle.kmn_compiler.specs.Source.{CompilesTo};
 
+use crate::ordering::order;
 use kmn_base::{CompileError, Memory, Seq};
 use kmn_parser::parse;
 use kmx_writer::write;
 use rule_checker::{Checked, check};
 use rule_expand::expand;
 use rule_model::Tables;
-use rule_order::order;
 use std::alloc::Global;
 
 /// The bytes of a compiled file, and the tables that they were made of.

@@ -6,7 +6,7 @@ use Rattle.rule_model.specs.declared.tables.Tables.{Tables}
 use Rattle.kmx_format.specs.declared.sizes.TheConstants.{STORE_BYTES}
 use Rattle.kmx_format.specs.TablesOf.{word_at, tables_of, uses_keys_at, groups_from}
 use Rattle.kmx_format.proofs.SmallNumbers.{word_at-small}
-use Rattle.kmx_view.specs.View.{store_count, group_count}
+use Rattle.kmx_parts.specs.View.{store_count, group_count}
 use Rattle.kmx_verifier.specs.FaultOf.{size_fault, header_fault, arrays_fault, stores_fault, groups_fault, group_fault, records_place_fault, fault_of, IsValid}
 use Rattle.kmx_verifier.proofs.Arrays.{size_fits, array_stands, arrays_stand}
 use Rattle.kmx_verifier.proofs.Playing.{length-stores_from, length-rules_from}

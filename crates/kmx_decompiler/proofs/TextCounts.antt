@@ -20,7 +20,7 @@ use Rattle.decompile_laws.proofs.Linking.{stores-mapped}
 use Rattle.decompile_laws.proofs.Numbering.{keys-are}
 use Rattle.decompile_causes.specs.Excess.{store_count, element_count}
 use Rattle.decompile_causes.proofs.CountedSizes.{simple}
-use Rattle.kmx_decompiler.specs.declared.counts.Counts.{Counts}
+use Rattle.kmx_decompiler.specs.declared.counts.WrittenCounts.{WrittenCounts}
 use Rattle.kmx_decompiler.specs.Values.{with_values}
 use Rattle.kmx_decompiler.specs.Counting.{none_counted, with_lengths, some_length, called_lengths, joined_length, text_lengths}
 use Rattle.kmx_decompiler.proofs.FewCounts.{few_lengths, few_in_all}
@@ -54,20 +54,20 @@ module _ (tables : Tables) (can : IsPlayable tables) (out : CanBeWrittenOut tabl
       ∙ apart (length (version_text tables.version)) (some_length (greatest_mark tables)) (some_length (length (tab_dictionary tables.stores))) (called_lengths (names_for tables).stores 0 tables.stores)
       (joined_length (tab_dictionary tables.stores) ++ map length (with_values (names_for tables) [] (table_values tables)))
 
-pub stores_counted : (tables : Tables) (counts : Counts) → IsPlayable tables → CanBeWrittenOut tables → All IsUtf8 (tab_dictionary tables.stores) → counts ≡ with_lengths none_counted (text_lengths tables)
+pub stores_counted : (tables : Tables) (counts : WrittenCounts) → IsPlayable tables → CanBeWrittenOut tables → All IsUtf8 (tab_dictionary tables.stores) → counts ≡ with_lengths none_counted (text_lengths tables)
     → counts.stores ≡ store_count (back tables)
 unfolding store_count
 stores_counted tables counts can out utf8 is =
-    ap (λ (c : Counts). c.stores) is
+    ap (λ (c : WrittenCounts). c.stores) is
     ∙ stores_are (text_lengths tables) (few_lengths tables can)
     ∙ ap length (sym (lengths_counted tables can out utf8))
     ∙ length-map (compiled_stores (back tables)) length_of
 
-pub elements_counted : (tables : Tables) (counts : Counts) → IsPlayable tables → CanBeWrittenOut tables → All IsUtf8 (tab_dictionary tables.stores) → counts ≡ with_lengths none_counted (text_lengths tables)
+pub elements_counted : (tables : Tables) (counts : WrittenCounts) → IsPlayable tables → CanBeWrittenOut tables → All IsUtf8 (tab_dictionary tables.stores) → counts ≡ with_lengths none_counted (text_lengths tables)
     → counts.elements ≡ element_count (back tables)
 unfolding element_count
 elements_counted tables counts can out utf8 is =
-    ap (λ (c : Counts). c.elements) is
+    ap (λ (c : WrittenCounts). c.elements) is
     ∙ elements_are (text_lengths tables) (few_in_all tables can)
     ∙ ap sum (sym (lengths_counted tables can out utf8))
     ∙ sum-map length_of (compiled_stores (back tables))

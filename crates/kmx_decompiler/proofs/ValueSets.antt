@@ -1,32 +1,15 @@
 -- Values that are put one by one, each where it isn't among those before.
-use Rattle.std.proofs.Common.{◌≡◌, ℕ, Bool, true, false, List, [], ◌∷◌, ◌++◌, map, Vec, refl, ap, ◌∙◌, if◌then◌else◌}
-use Rattle.std.specs.Prelude.{flat_map, ◌||◌}
-use Rattle.std.specs.List.{list_any}
+use Rattle.std.proofs.Common.{◌≡◌, ℕ, List, [], ◌∷◌, ◌++◌, map, Vec, refl, ap, ◌∙◌}
+use Rattle.std.specs.Prelude.{flat_map}
 use Rattle.std.specs.Str.{bytes_eq}
-use Rattle.std.specs.Cmp.Lexicographic.{nat_list_eq_equiv}
-use Rattle.std.proofs.lemmas.List.{map-append}
 use Rattle.indexmap.specs.IndexSet.{insert_key}
 use Rattle.rule_model.specs.declared.tables.Rule.{Rule}
 use Rattle.rule_model.specs.declared.tables.Group.{Group}
 use Rattle.rule_model.specs.Tab.{distinct_onto}
+use Rattle.store_table.proofs.TextSets.{inserted}
 use Rattle.decompile_laws.specs.Items.{Names, value_called}
 use Rattle.decompile_laws.specs.WrittenOut.{rule_values, group_values}
 use Rattle.kmx_decompiler.specs.Values.{with_values}
-
-module _ {K : Type 0} (text : K → List ℕ) where
-  any_text : (keys : List K) (x : List ℕ) → list_any (λ k. bytes_eq x (text k)) keys ≡ list_any (λ y. bytes_eq y x) (map text keys)
-  any_text [] x = refl
-  any_text (k ∷ keys) x = λ j. nat_list_eq_equiv.symm x (text k) j || any_text keys x j
-
-  put_behind : (known : Bool) (keys : List K) (key : K) → map text (if known then keys else keys ++ key ∷ []) ≡ (if known then map text keys else map text keys ++ text key ∷ [])
-  put_behind true keys key = refl
-  put_behind false keys key = map-append text keys (key ∷ [])
-
-  -- a key that is inserted puts its text behind the texts, where it is new
-  inserted : (keys : List K) (key : K) → map text (insert_key (λ a b. bytes_eq (text a) (text b)) keys key) ≡ distinct_onto bytes_eq (map text keys) (text key ∷ [])
-  inserted keys key =
-      put_behind (list_any (λ k. bytes_eq (text key) (text k)) keys) keys key
-      ∙ ap (λ known. if known then map text keys else map text keys ++ text key ∷ []) (any_text keys (text key))
 
 module _ {A : Type 0} where
   -- the same of values that keys hold

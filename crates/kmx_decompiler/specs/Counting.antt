@@ -7,11 +7,11 @@ use Rattle.rule_model.specs.Tab.{tab_dictionary}
 use Rattle.decompile_laws.specs.Marks.{greatest_mark}
 use Rattle.decompile_laws.specs.Back.{version_text, names_for}
 use Rattle.decompile_laws.specs.WrittenOut.{table_values}
-use Rattle.kmx_decompiler.specs.declared.counts.Counts.{Counts}
+use Rattle.kmx_decompiler.specs.declared.counts.WrittenCounts.{WrittenCounts}
 use Rattle.kmx_decompiler.specs.Values.{with_values}
 
 -- nothing counted
-abbrev pub none_counted : Counts
+abbrev pub none_counted : WrittenCounts
 none_counted = record { stores = 0; elements = 0 }
 
 -- a count, which stays at the end of its type
@@ -19,7 +19,7 @@ abbrev pub capped : ℕ → ℕ
 capped count = min count 0xFFFF_FFFF
 
 -- counts with one store more for each of these lengths
-abbrev pub with_lengths : Counts → List ℕ → Counts
+abbrev pub with_lengths : WrittenCounts → List ℕ → WrittenCounts
 with_lengths counts [] = counts
 with_lengths counts (n ∷ ns) = with_lengths (record { stores = capped (counts.stores + 1); elements = capped (counts.elements + n) }) ns
 

@@ -11,7 +11,7 @@ ghost use Rattle.decompile_text.specs.Whole.{IsFront};
 ghost use Rattle.kmx_decompiler.specs.Refusals.{too_many};
 ghost use Rattle.kmx_decompiler.specs.Counting.{capped, none_counted, with_lengths, some_length, called_lengths, spaced_size, joined_length, text_lengths};
 
-use crate::values::{Values, values_of};
+use crate::values::{WrittenValues, values_of};
 use decompile_causes::NoSpelling;
 use decompile_names::Called;
 use decompile_text::{Front, version_text};
@@ -23,13 +23,13 @@ use std::alloc::Global;
 
 /// So many stores, and so many elements of all of them.
 #[derive(Clone, Copy, Debug, PartialEq, Eq)]
-pub(crate) struct Counts {
+pub(crate) struct WrittenCounts {
     pub(crate) stores: u32,
     pub(crate) elements: u32,
 }
 
 /// No stores.
-const NONE: Counts = Counts {
+const NONE: WrittenCounts = WrittenCounts {
     stores: 0,
     elements: 0,
 };
@@ -52,19 +52,19 @@ fn larger(count: u32, more: usize) -> u32
     count.saturating_add(size_of(more))
 }
 
-impl Counts {
+impl WrittenCounts {
     /// One store more, of so many elements.
-    fn with(self, elements: usize) -> Counts
+    fn with(self, elements: usize) -> WrittenCounts
         ensures { result ≡ with_lengths self (elements ∷ []) }
     {
-        Counts {
+        WrittenCounts {
             stores: larger(self.stores, 1),
             elements: larger(self.elements, elements),
         }
     }
 
     /// The counts where the store is one of the text's.
-    fn with_if(self, is_written: bool, elements: usize) -> Counts
+    fn with_if(self, is_written: bool, elements: usize) -> WrittenCounts
         ensures { result ≡ with_lengths self (if is_written then elements ∷ [] else []) }
     {
         if is_written {
@@ -75,7 +75,7 @@ impl Counts {
     }
 
     /// The counts with a store in front, where it has an element.
-    fn with_some(self, elements: usize) -> Counts
+    fn with_some(self, elements: usize) -> WrittenCounts
         ensures { result ≡ with_lengths self (some_length elements) }
     {
         self.with_if(elements != 0, elements)
@@ -84,7 +84,7 @@ impl Counts {
 
 /// The counts with those stores of a file that are called something.
 #[tactic(auto, using(crate::proofs::Lengths::with_lengths_append))]
-fn with_stores(counts: Counts, names: &Called<'_>, stores: &[Store]) -> Counts
+fn with_stores(counts: WrittenCounts, names: &Called<'_>, stores: &[Store]) -> WrittenCounts
     ensures { result ≡ with_lengths counts (called_lengths names.now.stores 0 stores.now) }
 {
     let mut counts = counts;
@@ -108,7 +108,7 @@ fn spaced_size(names: &[Text]) -> usize
 }
 
 /// The counts with the store of the key dictionary, where it has a name.
-fn with_dictionary(counts: Counts, keys: &[Text]) -> Counts
+fn with_dictionary(counts: WrittenCounts, keys: &[Text]) -> WrittenCounts
     requires { spaced_size keys.now < 2 ^ 32 }
     ensures { result ≡ with_lengths counts (joined_length keys.now) }
 {
@@ -120,7 +120,7 @@ fn with_dictionary(counts: Counts, keys: &[Text]) -> Counts
 
 /// The counts with the stores of values.
 #[tactic(auto, using(crate::proofs::Lengths::with_lengths_append))]
-fn with_values(counts: Counts, values: &Values) -> Counts
+fn with_values(counts: WrittenCounts, values: &WrittenValues) -> WrittenCounts
     ensures { result ≡ with_lengths counts (map length values.now) }
 {
     let mut counts = counts;
@@ -140,7 +140,7 @@ fn count_lengths(
     front: &Front,
     names: &Called<'_>,
     tables: &Tables,
-) -> Result<Counts, Memory>
+) -> Result<WrittenCounts, Memory>
     requires front { IsFront tables.now front.now }
     requires names { names.now ≡ names_for tables.now }
     requires keys { spaced_size (tab_dictionary tables.now.stores) < 2 ^ 32 }
@@ -162,7 +162,7 @@ pub(crate) fn count_all(
     front: &Front,
     names: &Called<'_>,
     tables: &Tables,
-) -> Result<Counts, Memory>
+) -> Result<WrittenCounts, Memory>
     requires front { IsFront tables.now front.now }
     requires names { names.now ≡ names_for tables.now }
     requires playable { IsPlayable tables.now }
@@ -175,7 +175,7 @@ pub(crate) fn count_all(
 }
 
 /// The refusal of counts that pass their limit.
-pub(crate) fn passed(counts: Counts) -> Option<NoSpelling>
+pub(crate) fn passed(counts: WrittenCounts) -> Option<NoSpelling>
     ensures { result ≡ too_many counts.stores counts.elements }
 {
     if (STORES as u32) < counts.stores {

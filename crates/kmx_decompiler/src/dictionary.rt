@@ -9,8 +9,8 @@ ghost use Rattle.rule_model.specs.Tab.{words};
 ghost use Rattle.decompile_causes.specs.Causes.{is_dictionary_name, is_unspelled_dictionary};
 ghost use Rattle.kmx_decompiler.specs.Words.{are_unfit, not_empty};
 
-use decompile_names::{is_source_name, text_of};
-use indexed_tables::first_word;
+use decompile_names::is_source_name;
+use indexed_tables::{element_text, first_word};
 use kmn_base::{Element, Memory};
 use kmn_items::is_own_key;
 use std::alloc::Global;
@@ -79,6 +79,6 @@ fn are_unfit(alloc: Global, text: &[u8]) -> Result<bool, Memory>
 pub(crate) fn is_unspelled_dictionary(alloc: Global, elements: &[Element]) -> Result<bool, Memory>
     ensures { IfOk result (λ unspelled. unspelled ≡ is_unspelled_dictionary elements.now) }
 {
-    let text = text_of(alloc, elements)?;
+    let text = element_text(alloc, elements)?;
     are_unfit(alloc, text.as_bytes())
 }

@@ -16,8 +16,9 @@ use crate::store_causes::is_unspelled_store;
 use decompile_names::Called;
 use indexed_tables::IndexedTables;
 use kmn_base::Memory;
+use kmx_format::places::{GROUPS_AT, STORES_AT};
 use kmx_format::sizes::{GROUP_BYTES, RULE_BYTES, STORE_BYTES};
-use kmx_view::word_at;
+use kmx_parts::word_at;
 use rule_model::system::KEY_DICTIONARY;
 use rule_model::{Group, Rule, Store, Tables};
 use std::alloc::Global;
@@ -163,9 +164,9 @@ pub(crate) fn least_cause(
     requires valid { IsValid bytes.now }
     ensures { IfOk result (λ place. place ≡ least (cause_places bytes.now)) }
 {
-    let stores = word_at(bytes, 32);
+    let stores = word_at(bytes, STORES_AT);
     let least = in_stores(alloc, indexed, names, stores, tables.stores.as_slice())?;
-    let groups = word_at(bytes, 36);
+    let groups = word_at(bytes, GROUPS_AT);
     let all = tables.groups.as_slice();
     Ok(in_groups(bytes, names, least, groups, all))
 }

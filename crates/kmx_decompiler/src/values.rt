@@ -16,12 +16,12 @@ use std::marker::Model;
 
 /// Values of a file, which are found by hash. Contracts see them as the list of their characters.
 #[derive(Drop)]
-pub(crate) struct Values {
+pub(crate) struct WrittenValues {
     alloc: Global,
     found: IndexSet<Vec<char>>,
 }
 
-impl Model for Values {
+impl Model for WrittenValues {
     ghost use Rattle.std.specs.Prelude.{List, ℕ, map};
 
     ghost Value = { List (List ℕ) };
@@ -42,12 +42,12 @@ fn characters_of(alloc: Global, elements: &[Element]) -> Result<Vec<char>, Memor
     Ok(characters)
 }
 
-impl Values {
+impl WrittenValues {
     /// No values.
-    pub(crate) fn new(alloc: Global) -> Values
+    pub(crate) fn new(alloc: Global) -> WrittenValues
         ensures { result ≡ [] }
     {
-        Values {
+        WrittenValues {
             alloc,
             found: IndexSet::new(alloc),
         }
@@ -79,7 +79,11 @@ impl Values {
 }
 
 /// Adds the value that a store is, where there is one.
-fn add_store(values: &mut Values, names: &Called<'_>, store: Option<u32>) -> Result<(), Memory>
+fn add_store(
+    values: &mut WrittenValues,
+    names: &Called<'_>,
+    store: Option<u32>,
+) -> Result<(), Memory>
     ensures { OnOk result (values.new ≡ with_values names.now values.old (option_to_list store)) }
 {
     match store {
@@ -90,7 +94,11 @@ fn add_store(values: &mut Values, names: &Called<'_>, store: Option<u32>) -> Res
 
 /// Adds the values of a context.
 #[tactic(auto, using(crate::proofs::ValueSets::with_values_append))]
-fn add_context(values: &mut Values, names: &Called<'_>, context: &[Pat]) -> Result<(), Memory>
+fn add_context(
+    values: &mut WrittenValues,
+    names: &Called<'_>,
+    context: &[Pat],
+) -> Result<(), Memory>
     ensures { OnOk result (values.new ≡ with_values names.now values.old (flat_map pattern_values context.now)) }
 {
     for pattern in context {
@@ -101,7 +109,11 @@ fn add_context(values: &mut Values, names: &Called<'_>, context: &[Pat]) -> Resu
 
 /// Adds the values of an output.
 #[tactic(auto, using(crate::proofs::ValueSets::with_values_append))]
-fn add_outputs(values: &mut Values, names: &Called<'_>, outputs: &[Out]) -> Result<(), Memory>
+fn add_outputs(
+    values: &mut WrittenValues,
+    names: &Called<'_>,
+    outputs: &[Out],
+) -> Result<(), Memory>
     ensures { OnOk result (values.new ≡ with_values names.now values.old (flat_map output_values outputs.now)) }
 {
     for output in outputs {
@@ -112,7 +124,7 @@ fn add_outputs(values: &mut Values, names: &Called<'_>, outputs: &[Out]) -> Resu
 
 /// Adds the values of a record.
 #[tactic(auto, using(crate::proofs::ValueSets::with_values_append))]
-fn add_rule(values: &mut Values, names: &Called<'_>, rule: &Rule) -> Result<(), Memory>
+fn add_rule(values: &mut WrittenValues, names: &Called<'_>, rule: &Rule) -> Result<(), Memory>
     ensures { OnOk result (values.new ≡ with_values names.now values.old (rule_values rule.now)) }
 {
     add_context(values, names, rule.context.as_slice())?;
@@ -121,7 +133,7 @@ fn add_rule(values: &mut Values, names: &Called<'_>, rule: &Rule) -> Result<(), 
 
 /// Adds the values of records.
 #[tactic(auto, using(crate::proofs::ValueSets::with_values_append))]
-fn add_rules(values: &mut Values, names: &Called<'_>, rules: &[Rule]) -> Result<(), Memory>
+fn add_rules(values: &mut WrittenValues, names: &Called<'_>, rules: &[Rule]) -> Result<(), Memory>
     ensures { OnOk result (values.new ≡ with_values names.now values.old (flat_map rule_values rules.now)) }
 {
     for rule in rules {
@@ -132,7 +144,7 @@ fn add_rules(values: &mut Values, names: &Called<'_>, rules: &[Rule]) -> Result<
 
 /// Adds the values of a group.
 #[tactic(auto, using(crate::proofs::ValueSets::with_values_append))]
-fn add_group(values: &mut Values, names: &Called<'_>, group: &Group) -> Result<(), Memory>
+fn add_group(values: &mut WrittenValues, names: &Called<'_>, group: &Group) -> Result<(), Memory>
     ensures { OnOk result (values.new ≡ with_values names.now values.old (group_values group.now)) }
 {
     add_rules(values, names, group.rules.as_slice())?;
@@ -146,10 +158,10 @@ pub(crate) fn values_of(
     alloc: Global,
     names: &Called<'_>,
     groups: &[Group],
-) -> Result<Values, Memory>
+) -> Result<WrittenValues, Memory>
     ensures { IfOk result (λ values. values ≡ with_values names.now [] (flat_map group_values groups.now)) }
 {
-    let mut values = Values::new(alloc);
+    let mut values = WrittenValues::new(alloc);
     for group in groups {
         add_group(&mut values, names, group)?;
     }

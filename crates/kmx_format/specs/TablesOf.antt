@@ -21,6 +21,7 @@ use Rattle.rule_model.specs.declared.tables.Rule.{Rule}
 use Rattle.rule_model.specs.declared.tables.Store.{Store}
 use Rattle.rule_model.specs.declared.tables.Group.{Group}
 use Rattle.rule_model.specs.declared.tables.Tables.{Tables}
+use Rattle.kmx_format.specs.declared.places.TheConstants.{GROUPS_AT, GROUP_COUNT_AT, START_ANSI_AT, START_UNICODE_AT, STORES_AT, STORE_COUNT_AT, VERSION_AT}
 use Rattle.kmx_format.specs.declared.sizes.TheConstants.{STORE_BYTES, GROUP_BYTES, RULE_BYTES}
 
 -- the number in the two bytes at a place
@@ -167,11 +168,11 @@ groups_from bytes place (suc count) = group_at bytes place ∷ groups_from bytes
 -- the tables that the bytes have; the version is the low half of its word, which no version passes
 unfoldable pub tables_of : List ℕ → Tables
 tables_of bytes = record {
-  version = half_at bytes 4;
-  start_ansi = word_at bytes 40;
-  start_unicode = word_at bytes 44;
-  stores = stores_from bytes (word_at bytes 32) (word_at bytes 24);
-  groups = groups_from bytes (word_at bytes 36) (word_at bytes 28);
+  version = half_at bytes VERSION_AT;
+  start_ansi = word_at bytes START_ANSI_AT;
+  start_unicode = word_at bytes START_UNICODE_AT;
+  stores = stores_from bytes (word_at bytes STORES_AT) (word_at bytes STORE_COUNT_AT);
+  groups = groups_from bytes (word_at bytes GROUPS_AT) (word_at bytes GROUP_COUNT_AT);
 }
 
 -- a rule as a file keeps it: without the place of its key in a key store

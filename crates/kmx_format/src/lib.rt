@@ -2,12 +2,13 @@
 //!
 //! It stands on `kmn_base`, `item_codec` and `rule_model`. `specs/File` has the bytes of the file of tables,
 //! `specs/TablesOf` the tables that bytes have, `specs/Writable` which tables a file can have, and `laws` says that
-//! these fit together. Writer and reader take the sizes of records, the count of key records and the spelling of items
-//! from here.
+//! these fit together. Writer and reader take the sizes of records, the places of the
+//! header's words, the count of key records and the spelling of items from here.
 #![tactic(auto)]
 
 mod counts;
 pub mod laws;
+pub mod places;
 pub mod sizes;
 mod spelled;
 

@@ -1,3 +1,5 @@
 pub mod ContextItems
 pub mod Counts
 pub mod Reading
+pub mod Ends
+pub mod ReadingWords

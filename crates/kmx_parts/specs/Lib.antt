@@ -1,1 +1,2 @@
 pub mod ContextItems
+pub mod View

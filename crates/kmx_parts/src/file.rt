@@ -6,9 +6,13 @@ ghost use Rattle.kmx_format.specs.TablesOf.{tables_of};
 
 use crate::groups::FileGroup;
 use crate::lists::{Groups, Stores};
+use crate::numbers::{half_at, word_at};
 use crate::stores::FileStore;
+use kmx_format::places::{
+    GROUP_COUNT_AT, GROUPS_AT, START_ANSI_AT, START_UNICODE_AT, STORE_COUNT_AT, STORES_AT,
+    VERSION_AT,
+};
 use kmx_format::sizes::{GROUP_BYTES, STORE_BYTES};
-use kmx_view::{half_at, word_at};
 use std::marker::Model;
 
 /// The tables of a file, read where they lie. Contracts see them as the tables that the bytes have.
@@ -51,7 +55,7 @@ impl<'a> FileTables<'a> {
     pub fn version(&self) -> u16
         ensures { result ≡ self.now.version }
     {
-        half_at(self.bytes, 4)
+        half_at(self.bytes, VERSION_AT)
     }
 
     /// The group in which a press begins.
@@ -59,7 +63,7 @@ impl<'a> FileTables<'a> {
     pub fn start_unicode(&self) -> u32
         ensures { result ≡ self.now.start_unicode }
     {
-        word_at(self.bytes, 44)
+        word_at(self.bytes, START_UNICODE_AT)
     }
 
     /// The group in which a press begins where a system knows no Unicode; `0xFFFF_FFFF` is none.
@@ -67,7 +71,7 @@ impl<'a> FileTables<'a> {
     pub fn start_ansi(&self) -> u32
         ensures { result ≡ self.now.start_ansi }
     {
-        word_at(self.bytes, 40)
+        word_at(self.bytes, START_ANSI_AT)
     }
 
     /// How many stores there are.
@@ -75,7 +79,7 @@ impl<'a> FileTables<'a> {
     pub fn store_count(&self) -> u32
         ensures { result ≡ length self.now.stores }
     {
-        word_at(self.bytes, 24)
+        word_at(self.bytes, STORE_COUNT_AT)
     }
 
     /// How many groups there are.
@@ -83,7 +87,7 @@ impl<'a> FileTables<'a> {
     pub fn group_count(&self) -> u32
         ensures { result ≡ length self.now.groups }
     {
-        word_at(self.bytes, 28)
+        word_at(self.bytes, GROUP_COUNT_AT)
     }
 
     /// The stores, in their order.
@@ -91,7 +95,11 @@ impl<'a> FileTables<'a> {
     pub fn stores(&self) -> Stores<'a>
         ensures { result ≡ self.now.stores }
     {
-        Stores::at(self.bytes, word_at(self.bytes, 32), word_at(self.bytes, 24))
+        Stores::at(
+            self.bytes,
+            word_at(self.bytes, STORES_AT),
+            word_at(self.bytes, STORE_COUNT_AT),
+        )
     }
 
     /// The groups, in their order.
@@ -99,7 +107,11 @@ impl<'a> FileTables<'a> {
     pub fn groups(&self) -> Groups<'a>
         ensures { result ≡ self.now.groups }
     {
-        Groups::at(self.bytes, word_at(self.bytes, 36), word_at(self.bytes, 28))
+        Groups::at(
+            self.bytes,
+            word_at(self.bytes, GROUPS_AT),
+            word_at(self.bytes, GROUP_COUNT_AT),
+        )
     }
 
     /// The store of a number, from 0.
@@ -107,10 +119,10 @@ impl<'a> FileTables<'a> {
     pub fn store(&self, i: u32) -> Option<FileStore<'a>>
         ensures { result ≡ slice_get self.now.stores i }
     {
-        if i >= word_at(self.bytes, 24) {
+        if i >= word_at(self.bytes, STORE_COUNT_AT) {
             return None;
         }
-        let place = word_at(self.bytes, 32) as usize + STORE_BYTES * i as usize;
+        let place = word_at(self.bytes, STORES_AT) as usize + STORE_BYTES * i as usize;
         Some(FileStore::at(self.bytes, place))
     }
 
@@ -119,10 +131,10 @@ impl<'a> FileTables<'a> {
     pub fn group(&self, i: u32) -> Option<FileGroup<'a>>
         ensures { result ≡ slice_get self.now.groups i }
     {
-        if i >= word_at(self.bytes, 28) {
+        if i >= word_at(self.bytes, GROUP_COUNT_AT) {
             return None;
         }
-        let place = word_at(self.bytes, 36) as usize + GROUP_BYTES * i as usize;
+        let place = word_at(self.bytes, GROUPS_AT) as usize + GROUP_BYTES * i as usize;
         Some(FileGroup::at(self.bytes, place))
     }
 }

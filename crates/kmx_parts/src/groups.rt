@@ -6,11 +6,11 @@ ghost use Rattle.kmx_format.specs.TablesOf.{group_at};
 
 use crate::lists::Rules;
 use crate::names::name_at;
+use crate::numbers::word_at;
 use crate::records::FileRule;
 use crate::walks::Outputs;
 use kmn_base::{Memory, Text};
 use kmx_format::sizes::RULE_BYTES;
-use kmx_view::word_at;
 use std::alloc::Global;
 use std::marker::Model;
 

@@ -9,7 +9,7 @@ use kmn_base::{Element, UnitItem};
 use rule_model::{Out, Pat};
 
 /// A kind of parts that items of a string are read as.
-pub trait Part: Drop {
+pub trait StringPart: Drop {
     ghost use Rattle.std.specs.Prelude.{Option};
     ghost use Rattle.kmn_base.specs.declared.units.UnitItem.{UnitItem};
 
@@ -54,7 +54,7 @@ fn system_comparison_of(system: u16, comparison: u16, value: u16) -> Option<Cont
     }
 }
 
-impl Part for Element {
+impl StringPart for Element {
     ghost use Rattle.kmx_format.specs.TablesOf.{element_of_unit_item};
 
     ghost of_unit_item = { element_of_unit_item };
@@ -69,7 +69,7 @@ impl Part for Element {
     }
 }
 
-impl Part for ContextItem {
+impl StringPart for ContextItem {
     ghost use Rattle.kmx_parts.specs.ContextItems.{item_of_unit_item};
 
     ghost of_unit_item = { item_of_unit_item };
@@ -92,7 +92,7 @@ impl Part for ContextItem {
     }
 }
 
-impl Part for Pat {
+impl StringPart for Pat {
     ghost use Rattle.kmx_format.specs.TablesOf.{pattern_of_unit_item};
 
     ghost of_unit_item = { pattern_of_unit_item };
@@ -104,7 +104,7 @@ impl Part for Pat {
     }
 }
 
-impl Part for Out {
+impl StringPart for Out {
     ghost use Rattle.kmx_format.specs.TablesOf.{output_of_unit_item};
 
     ghost of_unit_item = { output_of_unit_item };

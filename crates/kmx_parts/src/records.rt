@@ -5,9 +5,9 @@ ghost use Rattle.kmn_base.specs.declared.limits.TheConstants.{FILE_BYTES};
 ghost use Rattle.kmx_format.specs.TablesOf.{key_of, rule_at};
 ghost use Rattle.kmx_parts.specs.ContextItems.{pattern_of};
 
+use crate::numbers::{half_at, word_at};
 use crate::walks::{ContextItems, Outputs, Patterns};
 use kmn_base::RuleKey;
-use kmx_view::{half_at, word_at};
 use std::marker::Model;
 
 /// A key record of a file, read where it stands.

@@ -5,9 +5,9 @@ ghost use Rattle.kmn_base.specs.declared.limits.TheConstants.{FILE_BYTES};
 ghost use Rattle.kmx_format.specs.TablesOf.{store_at};
 
 use crate::names::name_at;
+use crate::numbers::word_at;
 use crate::walks::Elements;
 use kmn_base::{Memory, Text};
-use kmx_view::word_at;
 use std::alloc::Global;
 use std::marker::Model;
 

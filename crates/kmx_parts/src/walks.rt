@@ -6,31 +6,31 @@ ghost use Rattle.kmn_base.specs.declared.limits.TheConstants.{FILE_BYTES};
 ghost use Rattle.kmx_format.specs.TablesOf.{string_at, items_of};
 
 use crate::context_item::ContextItem;
-use crate::kinds::Part;
+use crate::kinds::StringPart;
+use crate::strings::string_bytes;
 use item_codec::{Items, items_of};
 use kmn_base::Element;
-use kmx_view::string_bytes;
 use rule_model::{Out, Pat};
 use std::marker::{Model, PhantomData};
 
 /// The parts that a string spells, read in place up to the first place at which no item stands, without those that may
 /// not stand there. Contracts see it as the list of what is left.
 #[derive(Drop)]
-pub struct Parts<'a, T: Part> {
+pub struct StringParts<'a, T: StringPart> {
     items: Items<'a>,
     kind: PhantomData<T>,
 }
 
 /// The elements of a store.
-pub type Elements<'a> = Parts<'a, Element>;
+pub type Elements<'a> = StringParts<'a, Element>;
 /// The items of a context.
-pub type Patterns<'a> = Parts<'a, Pat>;
+pub type Patterns<'a> = StringParts<'a, Pat>;
 /// The items of a context in the numbers of the file.
-pub type ContextItems<'a> = Parts<'a, ContextItem>;
+pub type ContextItems<'a> = StringParts<'a, ContextItem>;
 /// The items of an output.
-pub type Outputs<'a> = Parts<'a, Out>;
+pub type Outputs<'a> = StringParts<'a, Out>;
 
-impl<'a, T: Part> Model for Parts<'a, T> {
+impl<'a, T: StringPart> Model for StringParts<'a, T> {
     ghost use Rattle.std.specs.Prelude.{List};
     ghost use Rattle.std.specs.List.{filter_map};
     ghost use Rattle.item_codec.specs.Walk.{items_given};
@@ -40,13 +40,13 @@ impl<'a, T: Part> Model for Parts<'a, T> {
     ghost view = { λ parts. filter_map T.of_unit_item (items_given parts.items) };
 }
 
-impl<'a, T: Part> Parts<'a, T> {
+impl<'a, T: StringPart> StringParts<'a, T> {
     /// No parts.
     #[tactic(auto, unfolding(item_codec::specs::Walk::results_of))]
-    pub fn none() -> Parts<'a, T>
+    pub fn none() -> StringParts<'a, T>
         ensures { result ≡ [] }
     {
-        Parts {
+        StringParts {
             items: items_of(&[]),
             kind: PhantomData,
         }
@@ -54,19 +54,19 @@ impl<'a, T: Part> Parts<'a, T> {
 
     /// The parts that the string at an offset spells.
     #[tactic(auto, using(crate::proofs::Counts::few_parts), unfolding(kmx_format::specs::TablesOf::items_of))]
-    pub(crate) fn at(bytes: &'a [u8], offset: u32) -> Parts<'a, T>
+    pub(crate) fn at(bytes: &'a [u8], offset: u32) -> StringParts<'a, T>
         requires { length bytes.now ≤ FILE_BYTES }
         ensures value { result ≡ filter_map T.of_unit_item (items_of (string_at bytes.now offset)) }
         ensures few { length result ≤ FILE_BYTES }
     {
-        Parts {
+        StringParts {
             items: items_of(string_bytes(bytes, offset)),
             kind: PhantomData,
         }
     }
 }
 
-impl<'a, T: Part> Iterator for Parts<'a, T> {
+impl<'a, T: StringPart> Iterator for StringParts<'a, T> {
     ghost use Rattle.std.specs.Iterator.{YieldsFirst, item_count};
 
     type Item = T;

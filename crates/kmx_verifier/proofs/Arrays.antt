@@ -4,7 +4,7 @@ use Rattle.std.specs.Prelude.{nat_lt}
 use Rattle.kmn_base.specs.declared.limits.TheConstants.{FILE_BYTES}
 use Rattle.kmx_format.specs.TablesOf.{word_at}
 use Rattle.kmx_verifier.specs.FaultOf.{size_fault, arrays_fault}
-use Rattle.kmx_view.specs.View.{is_within, store_count, group_count}
+use Rattle.kmx_parts.specs.View.{is_within, store_count, group_count}
 use Rattle.kmx_verifier.proofs.Sound.{or_else-none, broken-none}
 
 pub size_fits : (bytes : List ℕ) → size_fault bytes ≡ None → length bytes ≤ FILE_BYTES

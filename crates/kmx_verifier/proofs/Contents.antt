@@ -21,7 +21,7 @@ use Rattle.kmx_format.specs.Writable.{stores_of_pattern, stores_of_output, group
 use Rattle.kmx_verifier.specs.declared.faults.StringKind.{StringKind}
 use Rattle.kmx_verifier.specs.declared.faults.StringKind.TheVariants as of
 use Rattle.kmx_verifier.specs.declared.faults.Target.{Target}
-use Rattle.kmx_view.specs.View.{store_count, group_count}
+use Rattle.kmx_parts.specs.View.{store_count, group_count}
 use Rattle.kmx_verifier.specs.Items as target
 use Rattle.kmx_verifier.specs.Items.{target_at, may_stand, stores_named, groups_named, target_of, points_right}
 use Rattle.kmx_verifier.specs.FaultOf.{walk_fault, context_fault}

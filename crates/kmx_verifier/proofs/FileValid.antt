@@ -21,7 +21,7 @@ use Rattle.kmx_format.proofs.FileStands.{StandsAt, end_within, front, back, same
 use Rattle.kmx_format.proofs.FileRecords.{offset_of-le, length-store_record, length-rule_record, length-rule_records, rule_records-append}
 use Rattle.kmx_format.proofs.FileGroups.{length-group_record}
 use Rattle.kmx_format.proofs.FileLaw.{Parts, parts, length-store_records, length-group_records, version-small}
-use Rattle.kmx_view.specs.View.{is_within, store_count, group_count}
+use Rattle.kmx_parts.specs.View.{is_within, store_count, group_count}
 use Rattle.kmx_verifier.specs.declared.faults.StringKind.TheVariants as of
 use Rattle.kmx_verifier.specs.declared.faults.Target.{Target}
 use Rattle.kmx_verifier.specs.Items.{target_of}

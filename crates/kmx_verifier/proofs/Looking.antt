@@ -13,7 +13,7 @@ use Rattle.kmn_base.specs.declared.units.UnitItem.{UnitItem}
 use Rattle.item_codec.specs.Walk.{spelled_size, results_of}
 use Rattle.kmx_format.specs.TablesOf.{word_at, before_zero, string_at, items_of, uses_keys_at}
 use Rattle.kmx_format.specs.Writable.{is_version}
-use Rattle.kmx_view.specs.View.{has_zero, is_ended, store_count, group_count}
+use Rattle.kmx_parts.specs.View.{has_zero, is_ended, store_count, group_count}
 use Rattle.kmx_verifier.specs.declared.faults.StringKind.{StringKind}
 use Rattle.kmx_verifier.specs.declared.faults.StringKind.TheVariants as of
 use Rattle.kmx_verifier.specs.declared.faults.Target.{Target}
@@ -108,17 +108,17 @@ string_same bytes other offset same_length same = by_test (nat_eq offset 0) same
 -- ---- walks with the same counts
 
 module _ (bytes other : List ℕ) (stores : store_count bytes ≡ store_count other) (groups : group_count bytes ≡ group_count other) where
-  item_same : (kind : StringKind) (targets : List Target) (item : UnitItem) (at : ℕ) → item_fault bytes kind targets item at ≡ item_fault other kind targets item at
+  pub item_same : (kind : StringKind) (targets : List Target) (item : UnitItem) (at : ℕ) → item_fault bytes kind targets item at ≡ item_fault other kind targets item at
   item_same kind targets item at =
       ap₂ (λ n g. or_else (broken_by (code_of item) at (not (may_stand kind item)))
       (or_else (broken V12 at (list_any (nat_lt n) (stores_named item) || list_any (nat_lt g) (groups_named item))) (or_else (broken V13 at (not (points_right targets item))) None))) stores groups
 
-  walk_same : (kind : StringKind) (targets : List Target) (at : ℕ) (results : Results) → walk_fault bytes kind targets at results ≡ walk_fault other kind targets at results
+  pub walk_same : (kind : StringKind) (targets : List Target) (at : ℕ) (results : Results) → walk_fault bytes kind targets at results ≡ walk_fault other kind targets at results
   walk_same kind targets at [] = refl
   walk_same kind targets at (Err bad ∷ results) = refl
   walk_same kind targets at (Ok item ∷ results) = ap₂ or_else (item_same kind targets item at) (walk_same kind targets (at + spelled_size item) results)
 
-  context_same : (before : List Target) (at : ℕ) (results : Results) → context_fault bytes before at results ≡ context_fault other before at results
+  pub context_same : (before : List Target) (at : ℕ) (results : Results) → context_fault bytes before at results ≡ context_fault other before at results
   context_same before at [] = refl
   context_same before at (Err bad ∷ results) = refl
   context_same before at (Ok item ∷ results) = ap₂ or_else (item_same of.Context before item at) (context_same (before ++ target_of item ∷ []) (at + spelled_size item) results)

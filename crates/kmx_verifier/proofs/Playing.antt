@@ -15,7 +15,7 @@ use Rattle.kmx_format.specs.TablesOf.{half_at, word_at, string_at, patterns_at, 
 use Rattle.kmx_format.specs.Writable.{is_version, elements_of, needs_context, PointsInto, IsWritableMatchOutput, IsWritableKey, IsWritableRule}
 use Rattle.kmx_format.specs.Playable.{IsPlayableStore, IsPlayableGroup, IsPlayable}
 use Rattle.kmx_format.proofs.FileLaw.{version-small}
-use Rattle.kmx_view.specs.View.{store_count, group_count}
+use Rattle.kmx_parts.specs.View.{store_count, group_count}
 use Rattle.kmx_verifier.specs.declared.faults.StringKind.{StringKind}
 use Rattle.kmx_verifier.specs.declared.faults.StringKind.TheVariants as of
 use Rattle.kmx_verifier.specs.declared.faults.Target.{Target}

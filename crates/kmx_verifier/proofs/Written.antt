@@ -25,7 +25,7 @@ use Rattle.kmx_format.specs.Writable.{stores_of_pattern, stores_of_output, group
 use Rattle.kmx_format.proofs.FileStands.{StandsAt}
 use Rattle.kmx_format.proofs.FileStrings.{whole_units-append, string_at-stands}
 use Rattle.kmx_format.proofs.FileItems.{char_units-nonzero, item_units-nonzero, items_of-item_units}
-use Rattle.kmx_view.specs.View.{has_zero, is_ended, store_count, group_count}
+use Rattle.kmx_parts.specs.View.{has_zero, is_ended, store_count, group_count}
 use Rattle.kmx_verifier.specs.declared.faults.StringKind.{StringKind}
 use Rattle.kmx_verifier.specs.declared.faults.StringKind.TheVariants as of
 use Rattle.kmx_verifier.specs.declared.faults.Target.{Target}

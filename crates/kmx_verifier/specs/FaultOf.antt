@@ -10,6 +10,7 @@ use Rattle.kmn_base.specs.declared.units.BadKind.{BadKind}
 use Rattle.kmn_base.specs.declared.units.BadKind.TheVariants.{U2}
 use Rattle.kmn_base.specs.Spelling.{unit_bytes}
 use Rattle.item_codec.specs.Walk.{results_of, spelled_size}
+use Rattle.kmx_format.specs.declared.places.TheConstants.{FLAGS_AT, GROUPS_AT, GROUP_COUNT_AT, IDENTIFIER_AT, PICTURE_AT, PICTURE_SIZE_AT, START_ANSI_AT, START_UNICODE_AT, STORES_AT, STORE_COUNT_AT, VERSION_AT}
 use Rattle.kmx_format.specs.TablesOf.{word_at, string_at, items_of, uses_keys_at}
 use Rattle.kmx_format.specs.Writable.{is_version}
 use Rattle.kmn_base.specs.declared.keys.TheConstants.{SHIFT_FLAGS}
@@ -19,7 +20,7 @@ use Rattle.kmx_verifier.specs.declared.faults.VerifyError.TheVariants.{Refused, 
 use Rattle.kmx_verifier.specs.declared.faults.StringKind.{StringKind}
 use Rattle.kmx_verifier.specs.declared.faults.StringKind.TheVariants.{Store, Context, Output, Match}
 use Rattle.kmx_verifier.specs.declared.faults.Target.{Target}
-use Rattle.kmx_view.specs.View.{is_within, is_ended, store_count, group_count}
+use Rattle.kmx_parts.specs.View.{is_within, is_ended, store_count, group_count}
 use Rattle.kmx_verifier.specs.Items.{may_stand, code_of, stores_named, groups_named, target_of, points_right}
 
 -- a rule that is broken at a place where a condition holds
@@ -192,22 +193,22 @@ size_fault bytes = first_fault (
 -- the numbers of the header
 unfoldable pub header_fault : List ℕ → Option Fault
 header_fault bytes = first_fault (
-    broken V02 0 (not (nat_eq (word_at bytes 0) 0x5354_584B))
-    ∷ broken V03 4 (not (is_version (word_at bytes 4)))
-    ∷ broken V04 48 (nat_lt 0x1F (word_at bytes 48))
-    ∷ broken V15 24 (nat_lt STORES (store_count bytes))
-    ∷ broken V15 28 (nat_lt GROUPS (group_count bytes))
-    ∷ broken V05 44 (nat_eq (word_at bytes 44) no_group)
-    ∷ broken V06 40 (not (nat_eq (word_at bytes 40) no_group) && not (nat_lt (word_at bytes 40) (group_count bytes)))
-    ∷ broken V06 44 (not (nat_lt (word_at bytes 44) (group_count bytes)))
+    broken V02 IDENTIFIER_AT (not (nat_eq (word_at bytes IDENTIFIER_AT) 0x5354_584B))
+    ∷ broken V03 VERSION_AT (not (is_version (word_at bytes VERSION_AT)))
+    ∷ broken V04 FLAGS_AT (nat_lt 0x1F (word_at bytes FLAGS_AT))
+    ∷ broken V15 STORE_COUNT_AT (nat_lt STORES (store_count bytes))
+    ∷ broken V15 GROUP_COUNT_AT (nat_lt GROUPS (group_count bytes))
+    ∷ broken V05 START_UNICODE_AT (nat_eq (word_at bytes START_UNICODE_AT) no_group)
+    ∷ broken V06 START_ANSI_AT (not (nat_eq (word_at bytes START_ANSI_AT) no_group) && not (nat_lt (word_at bytes START_ANSI_AT) (group_count bytes)))
+    ∷ broken V06 START_UNICODE_AT (not (nat_lt (word_at bytes START_UNICODE_AT) (group_count bytes)))
     ∷ [])
 
 -- the arrays and the picture
 unfoldable pub arrays_fault : List ℕ → Option Fault
 arrays_fault bytes = first_fault (
-    broken V07 32 (nat_lt 0 (store_count bytes) && not (is_within bytes (word_at bytes 32) (12 * store_count bytes)))
-    ∷ broken V08 36 (nat_lt 0 (group_count bytes) && not (is_within bytes (word_at bytes 36) (24 * group_count bytes)))
-    ∷ broken V16 56 (nat_lt 0 (word_at bytes 60) && (not (is_within bytes (word_at bytes 56) (word_at bytes 60)) || nat_lt PICTURE_BYTES (word_at bytes 60)))
+    broken V07 STORES_AT (nat_lt 0 (store_count bytes) && not (is_within bytes (word_at bytes STORES_AT) (12 * store_count bytes)))
+    ∷ broken V08 GROUPS_AT (nat_lt 0 (group_count bytes) && not (is_within bytes (word_at bytes GROUPS_AT) (24 * group_count bytes)))
+    ∷ broken V16 PICTURE_AT (nat_lt 0 (word_at bytes PICTURE_SIZE_AT) && (not (is_within bytes (word_at bytes PICTURE_AT) (word_at bytes PICTURE_SIZE_AT)) || nat_lt PICTURE_BYTES (word_at bytes PICTURE_SIZE_AT)))
     ∷ [])
 
 -- the first fault of the file
@@ -216,8 +217,8 @@ fault_of bytes = first_fault (
     size_fault bytes
     ∷ header_fault bytes
     ∷ arrays_fault bytes
-    ∷ stores_fault bytes 0 (word_at bytes 32) (store_count bytes)
-    ∷ groups_fault bytes 0 (word_at bytes 36) (group_count bytes)
+    ∷ stores_fault bytes 0 (word_at bytes STORES_AT) (store_count bytes)
+    ∷ groups_fault bytes 0 (word_at bytes GROUPS_AT) (group_count bytes)
     ∷ [])
 
 -- the file has no fault

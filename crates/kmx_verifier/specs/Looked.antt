@@ -1,8 +1,9 @@
 -- The places of a file that some step looks at.
 use Rattle.std.specs.Prelude.{◌≡◌, ℕ, zero, suc, ◌+◌, ◌*◌, Bool, if◌then◌else◌, List, [], ◌∷◌, ◌++◌, length, take, drop}
 use Rattle.std.specs.List.{All}
+use Rattle.kmx_format.specs.declared.places.TheConstants.{GROUPS_AT, STORES_AT}
 use Rattle.kmx_format.specs.TablesOf.{word_at, string_at, uses_keys_at}
-use Rattle.kmx_view.specs.View.{store_count, group_count}
+use Rattle.kmx_parts.specs.View.{store_count, group_count}
 use Rattle.kmx_verifier.specs.FaultOf.{fault_of}
 
 -- so many bytes from a place on
@@ -47,7 +48,7 @@ groups_looked bytes place (suc count) =
 abbrev pub looked_at : List ℕ → List Range
 looked_at bytes =
     header_looked
-    ++ (stores_looked bytes (word_at bytes 32) (store_count bytes) ++ groups_looked bytes (word_at bytes 36) (group_count bytes))
+    ++ (stores_looked bytes (word_at bytes STORES_AT) (store_count bytes) ++ groups_looked bytes (word_at bytes GROUPS_AT) (group_count bytes))
 
 -- two files have the same bytes there
 abbrev pub IsSameAt : List ℕ → List ℕ → Range → Type 0

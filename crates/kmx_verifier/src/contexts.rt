@@ -17,7 +17,7 @@ use item_codec::items_of;
 use kmn_base::limits::CONTEXT_ITEMS;
 use kmn_base::{Code, SHIFT_FLAGS, UnitItem};
 use kmx_format::sizes::RULE_BYTES;
-use kmx_view::{ended_string, word_at};
+use kmx_parts::{ended_string, word_at};
 
 /// How many items of a context offsets can reach: an offset is a unit, and counts from 1.
 const OFFSET_REACH: usize = 65_535;

@@ -11,7 +11,7 @@ use crate::strings::{check_name, check_output};
 use kmn_base::Code;
 use kmn_base::limits::RECORDS;
 use kmx_format::sizes::{GROUP_BYTES, RULE_BYTES};
-use kmx_view::word_at;
+use kmx_parts::word_at;
 
 /// The count of a group's records, with so many records before it, and where they stand; how many records there are
 /// with them.

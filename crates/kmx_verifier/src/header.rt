@@ -1,15 +1,19 @@
 //! The length, the header and the arrays.
 
 ghost use Rattle.std.specs.Prelude.{◌≡◌, ◌<◌, ◌≤◌, ◌^◌, ◌*◌, length};
-ghost use Rattle.kmx_view.specs.View.{is_within};
+ghost use Rattle.kmx_parts.specs.View.{is_within};
 ghost use Rattle.kmx_format.specs.Writable.{is_version};
 ghost use Rattle.kmx_verifier.specs.FaultOf.{size_fault, header_fault, arrays_fault, Tells};
 
 use crate::faults::Fault;
 use kmn_base::Code;
 use kmn_base::limits::{FILE_BYTES, GROUPS, PICTURE_BYTES, STORES};
+use kmx_format::places::{
+    FLAGS_AT, GROUP_COUNT_AT, GROUPS_AT, IDENTIFIER_AT, PICTURE_AT, PICTURE_SIZE_AT, START_ANSI_AT,
+    START_UNICODE_AT, STORE_COUNT_AT, STORES_AT, VERSION_AT,
+};
 use kmx_format::sizes::{GROUP_BYTES, HEADER_BYTES, STORE_BYTES};
-use kmx_view::word_at;
+use kmx_parts::word_at;
 
 #[tactic(auto, unfolding(crate::specs::FaultOf::size_fault))]
 pub(crate) fn check_size(bytes: &[u8]) -> Result<(), Fault>
@@ -37,29 +41,31 @@ fn is_version(version: u32) -> bool
 pub(crate) fn check_header(bytes: &[u8]) -> Result<(), Fault>
     ensures { Tells (header_fault bytes.now) result }
 {
-    if word_at(bytes, 0) != 0x5354_584B {
-        return Err(Fault::of(Code::V02, 0));
+    if word_at(bytes, IDENTIFIER_AT) != 0x5354_584B {
+        return Err(Fault::of(Code::V02, IDENTIFIER_AT as u32));
     }
-    if !is_version(word_at(bytes, 4)) {
-        return Err(Fault::of(Code::V03, 4));
+    if !is_version(word_at(bytes, VERSION_AT)) {
+        return Err(Fault::of(Code::V03, VERSION_AT as u32));
     }
-    if word_at(bytes, 48) > 0x1F {
-        return Err(Fault::of(Code::V04, 48));
+    if word_at(bytes, FLAGS_AT) > 0x1F {
+        return Err(Fault::of(Code::V04, FLAGS_AT as u32));
     }
-    if word_at(bytes, 24) > STORES as u32 {
-        return Err(Fault::of(Code::V15, 24));
+    if word_at(bytes, STORE_COUNT_AT) > STORES as u32 {
+        return Err(Fault::of(Code::V15, STORE_COUNT_AT as u32));
     }
-    if word_at(bytes, 28) > GROUPS as u32 {
-        return Err(Fault::of(Code::V15, 28));
+    if word_at(bytes, GROUP_COUNT_AT) > GROUPS as u32 {
+        return Err(Fault::of(Code::V15, GROUP_COUNT_AT as u32));
     }
-    if word_at(bytes, 44) == u32::MAX {
-        return Err(Fault::of(Code::V05, 44));
+    if word_at(bytes, START_UNICODE_AT) == u32::MAX {
+        return Err(Fault::of(Code::V05, START_UNICODE_AT as u32));
     }
-    if word_at(bytes, 40) != u32::MAX && word_at(bytes, 40) >= word_at(bytes, 28) {
-        return Err(Fault::of(Code::V06, 40));
+    if word_at(bytes, START_ANSI_AT) != u32::MAX
+        && word_at(bytes, START_ANSI_AT) >= word_at(bytes, GROUP_COUNT_AT)
+    {
+        return Err(Fault::of(Code::V06, START_ANSI_AT as u32));
     }
-    if word_at(bytes, 44) >= word_at(bytes, 28) {
-        return Err(Fault::of(Code::V06, 44));
+    if word_at(bytes, START_UNICODE_AT) >= word_at(bytes, GROUP_COUNT_AT) {
+        return Err(Fault::of(Code::V06, START_UNICODE_AT as u32));
     }
     Ok(())
 }
@@ -76,19 +82,20 @@ fn stands(bytes: &[u8], place: u32, size: usize, count: u32) -> bool
 pub(crate) fn check_arrays(bytes: &[u8]) -> Result<(), Fault>
     ensures { Tells (arrays_fault bytes.now) result }
 {
-    let stores = word_at(bytes, 24);
-    if stores > 0 && !stands(bytes, word_at(bytes, 32), STORE_BYTES, stores) {
-        return Err(Fault::of(Code::V07, 32));
+    let stores = word_at(bytes, STORE_COUNT_AT);
+    if stores > 0 && !stands(bytes, word_at(bytes, STORES_AT), STORE_BYTES, stores) {
+        return Err(Fault::of(Code::V07, STORES_AT as u32));
     }
-    let groups = word_at(bytes, 28);
-    if groups > 0 && !stands(bytes, word_at(bytes, 36), GROUP_BYTES, groups) {
-        return Err(Fault::of(Code::V08, 36));
+    let groups = word_at(bytes, GROUP_COUNT_AT);
+    if groups > 0 && !stands(bytes, word_at(bytes, GROUPS_AT), GROUP_BYTES, groups) {
+        return Err(Fault::of(Code::V08, GROUPS_AT as u32));
     }
-    let picture = word_at(bytes, 60);
+    let picture = word_at(bytes, PICTURE_SIZE_AT);
     if picture > 0
-        && (!stands(bytes, word_at(bytes, 56), 1, picture) || picture > PICTURE_BYTES as u32)
+        && (!stands(bytes, word_at(bytes, PICTURE_AT), 1, picture)
+            || picture > PICTURE_BYTES as u32)
     {
-        return Err(Fault::of(Code::V16, 56));
+        return Err(Fault::of(Code::V16, PICTURE_AT as u32));
     }
     Ok(())
 }

@@ -7,7 +7,8 @@ ghost use Rattle.kmx_verifier.specs.FaultOf.{names_outside, item_fault, spelling
 
 use crate::faults::{Fault, StringKind, Target};
 use kmn_base::{BadKind, Code, UnitItem};
-use kmx_view::word_at;
+use kmx_format::places::{GROUP_COUNT_AT, STORE_COUNT_AT};
+use kmx_parts::word_at;
 use rule_model::system;
 
 /// The platform as an item has it, whose operands count from 1.
@@ -137,12 +138,12 @@ fn names_outside(bytes: &[u8], item: UnitItem) -> bool
         | UnitItem::Save(store)
         | UnitItem::SystemTest(_, _, store)
         | UnitItem::SetSystem(_, store)
-        | UnitItem::Reset(store) => word_at(bytes, 24) < u32::from(store),
+        | UnitItem::Reset(store) => word_at(bytes, STORE_COUNT_AT) < u32::from(store),
         UnitItem::Set(store, value) | UnitItem::Test(store, _, value) => {
-            let stores = word_at(bytes, 24);
+            let stores = word_at(bytes, STORE_COUNT_AT);
             stores < u32::from(store) || stores < u32::from(value)
         }
-        UnitItem::Enter(group) => word_at(bytes, 28) < u32::from(group),
+        UnitItem::Enter(group) => word_at(bytes, GROUP_COUNT_AT) < u32::from(group),
         _ => false,
     }
 }

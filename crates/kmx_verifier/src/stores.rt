@@ -3,13 +3,13 @@
 ghost use Rattle.std.specs.Prelude.{◌≡◌, ◌+◌, ◌*◌, ◌⊎◌, ◌≤◌, ◌<◌, length, None, Some, MatchResult};
 ghost use Rattle.kmn_base.specs.declared.limits.TheConstants.{FILE_BYTES, ALL_ELEMENTS};
 ghost use Rattle.kmx_format.specs.TablesOf.{word_at};
-ghost use Rattle.kmx_view.specs.View.{store_count};
+ghost use Rattle.kmx_parts.specs.View.{store_count};
 ghost use Rattle.kmx_verifier.specs.FaultOf.{store_fault, stores_fault, elements_in, Tells};
 
 use crate::faults::Fault;
 use crate::strings::{check_content, check_name};
 use kmx_format::sizes::STORE_BYTES;
-use kmx_view::word_at;
+use kmx_parts::word_at;
 
 /// The store whose record stands at a place, with so many elements before it; how many elements there are with it.
 fn check_store(bytes: &[u8], before: usize, place: usize) -> Result<usize, Fault>

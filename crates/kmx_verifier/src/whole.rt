@@ -8,7 +8,8 @@ use crate::faults::VerifyError;
 use crate::groups::check_groups;
 use crate::header::{check_arrays, check_header, check_size};
 use crate::stores::check_stores;
-use kmx_view::word_at;
+use kmx_format::places::{GROUP_COUNT_AT, GROUPS_AT, STORE_COUNT_AT, STORES_AT};
+use kmx_parts::word_at;
 use std::alloc::Global;
 
 /// The first fault of a file, if it has one.
@@ -19,7 +20,16 @@ pub(crate) fn check_file(alloc: Global, bytes: &[u8]) -> Result<(), VerifyError>
     check_size(bytes)?;
     check_header(bytes)?;
     check_arrays(bytes)?;
-    check_stores(bytes, word_at(bytes, 32), word_at(bytes, 24))?;
+    check_stores(
+        bytes,
+        word_at(bytes, STORES_AT),
+        word_at(bytes, STORE_COUNT_AT),
+    )?;
     let mut targets = Vec::new(alloc);
-    check_groups(bytes, word_at(bytes, 36), word_at(bytes, 28), &mut targets)
+    check_groups(
+        bytes,
+        word_at(bytes, GROUPS_AT),
+        word_at(bytes, GROUP_COUNT_AT),
+        &mut targets,
+    )
 }

@@ -31,7 +31,7 @@ pub struct StoreCounts {
 
 /// How many elements a store has, and how many records a rule with its key from there.
 #[derive(Drop)]
-struct Counts {
+struct ElementCounts {
     elements: u32,
     records: u32,
 }
@@ -102,27 +102,27 @@ fn count_of(counted: &StoreCounts, item: &SrcItem) -> u32
 }
 
 /// What an item of a store brings. A name is looked up once for both counts.
-fn counts_of(counted: &StoreCounts, item: &SrcItem) -> Counts
+fn counts_of(counted: &StoreCounts, item: &SrcItem) -> ElementCounts
     ensures elements { result.elements ≡ count_of counted.now item.now }
     ensures records { result.records ≡ records_of counted.now item.now }
 {
     match item {
-        SrcItem::Char(_) | SrcItem::Dead(_) => Counts {
+        SrcItem::Char(_) | SrcItem::Dead(_) => ElementCounts {
             elements: 1,
             records: 1,
         },
-        SrcItem::Key(key) => Counts {
+        SrcItem::Key(key) => ElementCounts {
             elements: 1,
             records: virtual_count(counted, key),
         },
         SrcItem::Outs(name) => {
             let place = counted.names.place_of(name.as_slice());
-            Counts {
+            ElementCounts {
                 elements: count_at(counted.counts.as_slice(), place),
                 records: count_at(counted.records.as_slice(), place),
             }
         }
-        _ => Counts {
+        _ => ElementCounts {
             elements: 0,
             records: 0,
         },
@@ -151,7 +151,7 @@ pub(crate) fn store_count(counted: &StoreCounts, items: &[SrcItem]) -> u32
 }
 
 /// What the items of a store bring.
-fn store_counts(counted: &StoreCounts, items: &[SrcItem]) -> Counts
+fn store_counts(counted: &StoreCounts, items: &[SrcItem]) -> ElementCounts
     ensures elements { result.elements ≡ total (count_of counted.now) 0 items.now }
     ensures records { result.records ≡ total (records_of counted.now) 0 items.now }
 {
@@ -162,7 +162,7 @@ fn store_counts(counted: &StoreCounts, items: &[SrcItem]) -> Counts
         elements = elements.saturating_add(counts.elements);
         records = records.saturating_add(counts.records);
     }
-    Counts { elements, records }
+    ElementCounts { elements, records }
 }
 
 /// How many items an output comes to.

@@ -15,7 +15,7 @@ pub fn is_item(item: Item, element: Element) -> bool
 }
 
 /// Whether two values are the same, element by element.
-#[tactic(auto, using(crate::proofs::ItemTexts::equal_values))]
+#[tactic(auto, using(rule_model::proofs::SameElements::equal_values))]
 pub fn same_value(value: &[Element], other: &[Element]) -> bool
     ensures { result ≡ same_value value.now other.now }
 {

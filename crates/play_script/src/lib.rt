@@ -18,7 +18,10 @@ mod words;
 
 pub use errors::ScriptError;
 pub use lines::{first_line, read_line, read_script, without_mark};
-pub use presses::{first_piece, needed_press, opened};
+pub use presses::{first_piece, needed_press};
 pub use reader::{Reader, needed_number, nothing_more, refused};
-pub use transcript::{end_line, expect_line, line_of, refused_event_line, text_line, value_line};
+pub use transcript::{
+    end_line, expect_line, line_of, put_characters, put_counts, refused_event_line, text_line,
+    value_line,
+};
 pub use words::{behind_word, first_word, without_blanks};

@@ -61,7 +61,7 @@ fn press_of(dictionary: &KeyDictionary, words: TextWords<'_>) -> Option<KeyPress
 }
 
 /// What stands behind the `[` that a text begins with; P08 where none begins.
-pub fn opened(line: u32, text: &[u8]) -> Result<&[u8], ScriptError>
+fn opened(line: u32, text: &[u8]) -> Result<&[u8], ScriptError>
     ensures { MatchResult result (λ inside. text.now ≡ 91 ∷ inside.now) (λ error. (begins_bracket text.now ≡ false) × (error ≡ ScriptError.Refused (record { line = line; code = P08 }))) }
 {
     match text {

@@ -30,7 +30,7 @@ pub fn line_of(
 }
 
 /// Whether the key was passed on, beeps, and groups entered.
-fn put_counts(line: &mut String, outcome: Outcome) -> Result<(), AllocError>
+pub fn put_counts(line: &mut String, outcome: Outcome) -> Result<(), AllocError>
     ensures { IfOk result (λ _. string_bytes line.new ≡ string_bytes line.old ++ counts_text outcome) }
 {
     let pass = digit(outcome.pass);
@@ -120,7 +120,7 @@ fn text_of(string: String) -> Text
 }
 
 /// Characters as code points joined by dots, or `-` where there are none.
-fn put_characters(line: &mut String, characters: &[char]) -> Result<(), AllocError>
+pub fn put_characters(line: &mut String, characters: &[char]) -> Result<(), AllocError>
     ensures { IfOk result (λ _. string_bytes line.new ≡ string_bytes line.old ++ joined (map hexadecimal characters.now)) }
 {
     let [first, rest @ ..] = characters else {

@@ -1,21 +1,27 @@
 -- The values of options by the stores that are options.
-use Rattle.std.proofs.Common.{◌≡◌, ℕ, List, ◌<◌, ◌++◌, get_or, Bool, true, false, Option, Some, [], ◌∷◌, map, sym, ◌∙◌, ap, append-nil}
+use Rattle.std.proofs.Common.{◌≡◌, ℕ, List, ◌<◌, ◌++◌, get_or, Bool, true, false, Option, Some, [], ◌∷◌, map, sym, ◌∙◌, ap, refl, append-nil}
 use Rattle.std.proofs.lemmas.Option.{slice_get-get_or, slice_get-map}
-use Rattle.std.specs.Prelude.{if◌then◌else◌, length, slice_get, unwrap_or, option_map, option_and_then}
+use Rattle.std.proofs.lemmas.Bool.{eq-eqb, eqb-true}
+use Rattle.std.specs.Prelude.{◌&&◌, if◌then◌else◌, length, slice_get, unwrap_or, option_map, option_and_then}
 use Rattle.std.specs.Option.{option_flatten}
 use Rattle.kmn_base.specs.declared.items.Element.{Element}
+use Rattle.kmn_base.specs.declared.items.Element.TheVariants as element
 use Rattle.option_store.specs.declared.options.Cell.{Cell}
-use Rattle.option_store.specs.Cells.{current_value, saved_value}
-use Rattle.option_store.specs.Meaning.{stated}
+use Rattle.option_store.specs.declared.options.Held.{Held}
+use Rattle.option_store.specs.declared.options.Held.TheVariants.{Store, Host}
+use Rattle.option_store.specs.Cells.{cell_at, current_value, held_value, saved_value}
+use Rattle.option_store.specs.Meaning.{option_values, stated}
 use Rattle.rule_model.specs.declared.tables.Tables.{Tables}
 use Rattle.rule_model.specs.Content.{content, option_number, options_before}
 use Rattle.rule_model.specs.Keyboard.{Numbered, StoreMeaning}
-use Rattle.rule_model.specs.Match.{same_value}
+use Rattle.rule_model.specs.Match.{same_element, same_value}
 use Rattle.rule_model.specs.Tab.{tab}
 use Rattle.rule_model.proofs.PlainOptions.{content_of_option}
 use Rattle.rule_matching.specs.Moment.{saved_of}
+use Rattle.rule_matching.proofs.StoreContents as contents
+use Rattle.rule_engine.specs.Engine.{EngineState}
 use Rattle.play_session.specs.declared.changes.Change.{Change}
-use Rattle.play_session.specs.Changes.{Values, current_at, saved_at, is_newly_saved, current_change, saved_change, values_in}
+use Rattle.play_session.specs.Changes.{Values, are_of_one_store, current_at, saved_at, is_newly_saved, current_change, saved_change, values_in, values_now}
 
 -- what an option's store has is the option's value
 pub content_is_value : (stores : List StoreMeaning) (values : List (List Element)) (n option : ℕ) → option_number stores (Numbered n) ≡ Some option
@@ -25,6 +31,40 @@ content_is_value stores values n option is = content_of_option values (options_b
 pub saved_is_value : (stores : List StoreMeaning) (saves : List (Option (List Element))) (n option : ℕ) → option_number stores (Numbered n) ≡ Some option
     → saved_of stores saves n ≡ option_flatten (slice_get saves option)
 saved_is_value stores saves n option is = ap (option_and_then (λ (o : ℕ). option_flatten (slice_get saves o))) is
+
+-- each value is the same as itself, element by element
+same_element_itself : (e : Element) → same_element e e ≡ true
+same_element_itself (element.Char c) = eq-eqb c c refl
+same_element_itself (element.Mark m) = eq-eqb m m refl
+same_element_itself (element.Key flags code) = λ i. eq-eqb flags flags refl i && eq-eqb code code refl i
+
+same_as_itself : (value : List Element) → same_value value value ≡ true
+same_as_itself [] = refl
+same_as_itself (e ∷ value) = ap (λ (t : Bool). t && same_value value value) (same_element_itself e) ∙ same_as_itself value
+
+-- what is held as the elements of one store is the same
+held_in_one : (elements : List (List Element)) (a b : Held) (text other : List ℕ) → are_of_one_store a b ≡ true
+    → same_value (held_value elements text a) (held_value elements other b) ≡ true
+held_in_one elements (Store a) (Store b) text other one =
+    ap (λ (n : ℕ). same_value (unwrap_or (slice_get elements a) []) (unwrap_or (slice_get elements n) [])) (sym (eqb-true a b one))
+    ∙ same_as_itself (unwrap_or (slice_get elements a) [])
+held_in_one elements (Store a) Host text other one = absurd (cc)
+held_in_one elements Host b text other one = absurd (cc)
+
+-- an option whose current value is held as before has the value that it had
+pub held_as_before : (engine : EngineState) (cells : List Cell) (was : Cell) (store option : ℕ)
+    → option_number (tab engine.tables).stores (Numbered store) ≡ Some option → store < length cells
+    → option_values (tab engine.tables).stores cells ≡ engine.current
+    → are_of_one_store was.current (cell_at cells store).current ≡ true
+    → true ≡ same_value (current_value (stated (tab engine.tables).stores) was) (current_at (values_now engine) option)
+held_as_before engine cells was store option is within values one =
+    let stores : List StoreMeaning = (tab engine.tables).stores in
+    let has : held_value (stated stores) (cell_at cells store).text (cell_at cells store).current ≡ current_at (values_now engine) option
+    = contents.current_is_content engine.tables cells store option within is
+    ∙ ap (λ (current : List (List Element)). content stores current (Numbered store)) values
+    ∙ content_is_value stores engine.current store option is in
+    sym (ap (same_value (current_value (stated stores) was)) (sym has)
+    ∙ held_in_one (stated stores) was.current (cell_at cells store).current was.text (cell_at cells store).text one)
 
 -- what an option's cell stands for is the option's value
 module _ {X : Type 0} (value : Cell → X) (cells : List Cell) (option : ℕ) (d : Cell) (within : option < length cells) where

@@ -1,5 +1,5 @@
 -- Which option values an event changed, by store number.
-use Rattle.std.specs.Prelude.{ℕ, ◌+◌, Bool, true, false, not, if◌then◌else◌, List, [], ◌∷◌, ◌++◌, Option, Some, None, is_some, slice_get, unwrap_or}
+use Rattle.std.specs.Prelude.{ℕ, ◌+◌, Bool, true, false, not, if◌then◌else◌, List, [], ◌∷◌, ◌++◌, Option, Some, None, is_some, slice_get, unwrap_or, nat_eq}
 use Rattle.std.specs.Option.{option_flatten}
 use Rattle.kmn_base.specs.declared.items.Element.{Element}
 use Rattle.rule_model.specs.declared.tables.Tables.{Tables}
@@ -7,6 +7,8 @@ use Rattle.rule_model.specs.Match.{same_value}
 use Rattle.rule_model.specs.Plain.{option_numbers}
 use Rattle.rule_model.specs.Tab.{tab}
 use Rattle.option_store.specs.declared.options.Cell.{Cell}
+use Rattle.option_store.specs.declared.options.Held.{Held}
+use Rattle.option_store.specs.declared.options.Held.TheVariants.{Store}
 use Rattle.option_store.specs.Cells.{current_values, saved_values}
 use Rattle.option_store.specs.Meaning.{stated}
 use Rattle.rule_engine.specs.Engine.{EngineState}
@@ -42,6 +44,11 @@ current_at values option = unwrap_or (slice_get values.current option) []
 -- the saved value of an option, where there is one
 abbrev pub saved_at : Values → ℕ → Option (List Element)
 saved_at values option = option_flatten (slice_get values.saved option)
+
+-- two are held as the elements of one store of the file, so that they are the same
+abbrev pub are_of_one_store : Held → Held → Bool
+are_of_one_store (Store a) (Store b) = nat_eq a b
+are_of_one_store _ _ = false
 
 -- a saved value that there is now, and that was not saved before
 abbrev pub is_newly_saved : Option (List Element) → Option (List Element) → Bool

@@ -1,13 +1,14 @@
 ghost use Rattle.std.specs.Prelude.{◌≡◌, ◌+◌, ◌*◌, ◌<◌, ◌≤◌, [], ◌++◌, length, Some, option_map, vec_len, vec_capacity};
-ghost use Rattle.option_store.specs.Cells.{saved_value};
+ghost use Rattle.option_store.specs.Cells.{current_value, saved_value};
 ghost use Rattle.option_store.specs.Meaning.{stated};
 ghost use Rattle.rule_model.specs.Content.{option_number};
 ghost use Rattle.rule_model.specs.Keyboard.{Numbered};
+ghost use Rattle.rule_model.specs.Match.{same_value};
 ghost use Rattle.rule_model.specs.Tab.{tab};
 ghost use Rattle.rule_matching.specs.StoreValues.{elements_in};
-ghost use Rattle.play_session.specs.Changes.{option_stores, current_at, saved_at, is_newly_saved, current_change, saved_change, changes_between, values_in, values_now};
+ghost use Rattle.play_session.specs.Changes.{option_stores, are_of_one_store, current_at, saved_at, is_newly_saved, current_change, saved_change, changes_between, values_in, values_now};
 
-use option_store::Cell;
+use option_store::{Cell, Held};
 use rule_engine::{Engine, StoreValue};
 
 /// An option value that a step changed: the current or the saved value of a store.
@@ -53,8 +54,7 @@ fn put_current_change(
     ensures few { vec_len changes.new ≤ vec_len changes.old + 1 }
     ensures room { vec_capacity changes.new ≡ vec_capacity changes.old }
 {
-    let was = current_before(engine, before, option);
-    if !was.is_same(engine.content(store)) {
+    if !current_stays(engine, before, store, option) {
         changes.push_reserved(Change {
             store,
             saved: false,
@@ -83,14 +83,37 @@ fn put_saved_change(
     }
 }
 
-/// The current value that an option had.
+/// Whether the current value of an option is what it was.
 #[tactic(auto, using(crate::proofs::Comparing::cell_has_value))]
-fn current_before<'c>(engine: &'c Engine, before: &'c [Cell], option: usize) -> StoreValue<'c>
-    requires { option < length before.now }
-    ensures { elements_in result ≡ current_at (values_in engine.now.tables before.now) option }
+fn current_stays(engine: &Engine, before: &[Cell], store: u32, option: usize) -> bool
+    requires number { option_number (tab engine.now.tables).stores (Numbered store) ≡ Some option }
+    requires within { option < length before.now }
+    ensures { result ≡ same_value (current_at (values_in engine.now.tables before.now) option) (current_at (values_now engine.now) option) }
 {
-    let cell = &before[option];
-    engine.held(cell.current, cell.text.as_slice())
+    is_current(engine, &before[option], store, option)
+}
+
+/// Whether the current value of an option is the one that a cell holds. Nothing is compared where both are of one store.
+#[tactic(auto, using(crate::proofs::Comparing::content_is_value))]
+fn is_current(engine: &Engine, was: &Cell, store: u32, option: usize) -> bool
+    requires { option_number (tab engine.now.tables).stores (Numbered store) ≡ Some option }
+    ensures { result ≡ same_value (current_value (stated (tab engine.now.tables).stores) was.now) (current_at (values_now engine.now) option) }
+{
+    if are_of_one_store(was.current, engine.options().current(store)) {
+        return true;
+    }
+    let held = engine.held(was.current, was.text.as_slice());
+    held.is_same(engine.content(store))
+}
+
+/// Whether two are held as the elements of one store of the file.
+fn are_of_one_store(a: Held, b: Held) -> bool
+    ensures { result ≡ are_of_one_store a b }
+{
+    match (a, b) {
+        (Held::Store(a), Held::Store(b)) => a == b,
+        _ => false,
+    }
 }
 
 /// The saved value that an option had.

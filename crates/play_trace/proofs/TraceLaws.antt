@@ -1,5 +1,5 @@
 -- What stands in a sink where a script goes on, and where it stops.
-use Rattle.std.proofs.Common.{◌≡◌, ℕ, ◌+◌, ◌<◌, ◌≤◌, List, [], ◌∷◌, ◌++◌, length, drop, get_or, map, Option, Some, None, Result, Ok, Err, refl, ap, sym, ◌∙◌, subst, arith, add-one, drop-cons, append-nil}
+use Rattle.std.proofs.Common.{◌≡◌, ℕ, ◌+◌, ◌<◌, ◌≤◌, List, [], ◌∷◌, ◌++◌, length, drop, get_or, map, Result, Ok, Err, refl, ap, sym, ◌∙◌, subst, arith, add-one, drop-cons, append-nil}
 use Rattle.std.specs.Prelude.{suc, All, IfOk}
 use Rattle.std.specs.List.{Contains}
 use Rattle.std.proofs.Math.ListN.{drop_of_length-le}
@@ -23,7 +23,7 @@ use Rattle.play_transcript.specs.Printing.{AppendsBut, IsBegun, Prints}
 use Rattle.play_transcript.proofs.PrintingLaws.{none_appended, appended_more, appended_all, begun_within, prints_rest}
 use Rattle.play_transcript.proofs.PlayingLaws.{happens_so}
 use Rattle.play_trace.proofs.RisingLaws.{hits_have_lines}
-use Rattle.play_trace.specs.declared.following.Counts.{Counts}
+use Rattle.play_trace.specs.declared.following.TraceCounts.{TraceCounts}
 use Rattle.play_trace.specs.declared.following.Followed.{Followed}
 use Rattle.play_trace.specs.declared.following.Followed.TheVariants as followed
 use Rattle.play_trace.specs.declared.following.TraceEnd.{TraceEnd}
@@ -71,7 +71,7 @@ script_begins session hits tables entries is none are =
     }
 
 -- an entry behind which the script goes on
-pub record GoesOn (before after : SessionState) (hits hits_after : List Hit) (counts next : Counts) (entry : Entry) (entries : List Entry) : Type 0 where
+pub record GoesOn (before after : SessionState) (hits hits_after : List Hit) (counts next : TraceCounts) (entry : Entry) (entries : List Entry) : Type 0 where
   pub text : text_left before hits counts (entry ∷ entries) ≡ entry_line before entry ++ text_left after hits_after next entries
   pub end : end_left before (entry ∷ entries) ≡ end_left after entries
   pub tables : after.tables ≡ before.tables
@@ -80,11 +80,11 @@ pub record GoesOn (before after : SessionState) (hits hits_after : List Hit) (co
   pub events : next.events ≤ counts.events + 1
 
 -- an entry whose event is refused is the last
-pub record Stops (before : SessionState) (hits : List Hit) (counts : Counts) (entry : Entry) (entries : List Entry) : Type 0 where
+pub record Stops (before : SessionState) (hits : List Hit) (counts : TraceCounts) (entry : Entry) (entries : List Entry) : Type 0 where
   pub text : text_left before hits counts (entry ∷ entries) ≡ entry_line before entry
   pub end : end_left before (entry ∷ entries) ≡ ended.Refused
 
-module _ (session : SessionState) (hits : List Hit) (counts : Counts) (line : ℕ) (event : Event) (entries : List Entry) where
+module _ (session : SessionState) (hits : List Hit) (counts : TraceCounts) (line : ℕ) (event : Event) (entries : List Entry) where
   -- the steps from the event on, by what it does
   abbrev steps_by : Result Happening Code → Steps
   steps_by result = step_then (one_more session.number) (steps_from (tab session.tables) (one_more (one_more session.number)) (events_of entries)) result
@@ -114,7 +114,7 @@ module _ (session : SessionState) (hits : List Hit) (counts : Counts) (line : �
     end = λ i. end_after (steps_by (at i)).refused;
   }
 
-happened_goes_on : (session after : SessionState) (hits hits_after : List Hit) (counts next : Counts) (line : ℕ) (event : Event) (entries : List Entry) (done : Happening)
+happened_goes_on : (session after : SessionState) (hits hits_after : List Hit) (counts next : TraceCounts) (line : ℕ) (event : Event) (entries : List Entry) (done : Happening)
     → event_of (tab session.tables) session.state event ≡ Ok done → after ≡ after_step session event → hits_after ≡ with_lines (lines_chosen session event) hits
     → next ≡ event_counted session counts → GoesOn session after hits hits_after counts next (Act line event) entries
 happened_goes_on session after hits hits_after counts next line event entries done at left added counted =
@@ -125,11 +125,11 @@ happened_goes_on session after hits hits_after counts next line event entries do
       end = event_end_on session hits counts line event entries done at same ∙ (λ i. end_left (sym left i) entries);
       tables = ap (λ (s : SessionState). s.tables) left;
       lines = ap hit_lines added ∙ with_lines-lines (lines_chosen session event) hits;
-      number = ap (λ (s : SessionState). s.number) left ∙ sym (ap (λ (c : Counts). c.number) counted);
-      events = omega (arith, ap (λ (c : Counts). c.events) counted);
+      number = ap (λ (s : SessionState). s.number) left ∙ sym (ap (λ (c : TraceCounts). c.number) counted);
+      events = omega (arith, ap (λ (c : TraceCounts). c.events) counted);
     }
 
-expect_goes_on : (session after : SessionState) (hits hits_after : List Hit) (counts next : Counts) (line : ℕ) (text : List ℕ) (entries : List Entry)
+expect_goes_on : (session after : SessionState) (hits hits_after : List Hit) (counts next : TraceCounts) (line : ℕ) (text : List ℕ) (entries : List Entry)
     → session.number ≡ counts.number → after ≡ session → hits_after ≡ hits → next ≡ counts → GoesOn session after hits hits_after counts next (Expect line text) entries
 expect_goes_on session after hits hits_after counts next line text entries numbered left added counted =
     record {
@@ -137,15 +137,15 @@ expect_goes_on session after hits hits_after counts next line text entries numbe
       end = λ i. end_left (sym left i) entries;
       tables = ap (λ (s : SessionState). s.tables) left;
       lines = ap hit_lines added;
-      number = ap (λ (s : SessionState). s.number) left ∙ numbered ∙ sym (ap (λ (c : Counts). c.number) counted);
-      events = omega (arith, ap (λ (c : Counts). c.events) counted);
+      number = ap (λ (s : SessionState). s.number) left ∙ numbered ∙ sym (ap (λ (c : TraceCounts). c.number) counted);
+      events = omega (arith, ap (λ (c : TraceCounts). c.events) counted);
     }
 
-abbrev pub Leads : SessionState → SessionState → List Hit → List Hit → Counts → Entry → List Entry → Followed → Type 0
+abbrev pub Leads : SessionState → SessionState → List Hit → List Hit → TraceCounts → Entry → List Entry → Followed → Type 0
 Leads before after hits hits_after counts entry entries (followed.On next) = GoesOn before after hits hits_after counts next entry entries
 Leads before after hits hits_after counts entry entries followed.Refused = Stops before hits counts entry entries
 
-followed_event : (before after : SessionState) (hits hits_after : List Hit) (counts : Counts) (line : ℕ) (event : Event) (entries : List Entry) (result : Result Happening Code) (end : Followed)
+followed_event : (before after : SessionState) (hits hits_after : List Hit) (counts : TraceCounts) (line : ℕ) (event : Event) (entries : List Entry) (result : Result Happening Code) (end : Followed)
     → event_of (tab before.tables) before.state event ≡ result → FollowsBy before after hits hits_after counts event result end
     → Leads before after hits hits_after counts (Act line event) entries end
 followed_event before after hits hits_after counts line event entries (Ok done) (followed.On next) at follows =
@@ -155,7 +155,7 @@ followed_event before after hits hits_after counts line event entries (Err code)
 followed_event before after hits hits_after counts line event entries (Err code) followed.Refused at follows = refused_stops before hits counts line event entries code at
 
 -- an entry that was played leads on, or stops
-follows_lead : (before after : SessionState) (hits hits_after : List Hit) (counts : Counts) (entry : Entry) (entries : List Entry) (end : Followed)
+follows_lead : (before after : SessionState) (hits hits_after : List Hit) (counts : TraceCounts) (entry : Entry) (entries : List Entry) (end : Followed)
     → before.number ≡ counts.number → Follows before after hits hits_after counts entry end → Leads before after hits hits_after counts entry entries end
 follows_lead before after hits hits_after counts (Act line event) entries end numbered follows =
     followed_event before after hits hits_after counts line event entries (event_of (tab before.tables) before.state event) end refl follows
@@ -164,11 +164,11 @@ follows_lead before after hits hits_after counts (Expect line text) entries (fol
 follows_lead before after hits hits_after counts (Expect line text) entries followed.Refused numbered follows = absurd follows
 
 -- what is left begins with the line of the first entry
-record TextFirst (before : SessionState) (hits : List Hit) (counts : Counts) (entry : Entry) (entries : List Entry) : Type 0 where
+record TextFirst (before : SessionState) (hits : List Hit) (counts : TraceCounts) (entry : Entry) (entries : List Entry) : Type 0 where
   rest : List ℕ
   is : text_left before hits counts (entry ∷ entries) ≡ entry_line before entry ++ rest
 
-event_first : (before : SessionState) (hits : List Hit) (counts : Counts) (line : ℕ) (event : Event) (entries : List Entry) (result : Result Happening Code)
+event_first : (before : SessionState) (hits : List Hit) (counts : TraceCounts) (line : ℕ) (event : Event) (entries : List Entry) (result : Result Happening Code)
     → event_of (tab before.tables) before.state event ≡ result → TextFirst before hits counts (Act line event) entries
 event_first before hits counts line event entries (Ok done) at = record {
   rest = text_left (after_step before event) (with_lines (lines_chosen before event) hits) (event_counted before counts) entries;
@@ -177,11 +177,11 @@ event_first before hits counts line event entries (Ok done) at = record {
 event_first before hits counts line event entries (Err code) at =
     record { rest = []; is = (refused_stops before hits counts line event entries code at).text ∙ sym (append-nil (event_line before event)) }
 
-text_first : (before : SessionState) (hits : List Hit) (counts : Counts) (entry : Entry) (entries : List Entry) → TextFirst before hits counts entry entries
+text_first : (before : SessionState) (hits : List Hit) (counts : TraceCounts) (entry : Entry) (entries : List Entry) → TextFirst before hits counts entry entries
 text_first before hits counts (Act line event) entries = event_first before hits counts line event entries (event_of (tab before.tables) before.state event) refl
 text_first before hits counts (Expect line text) entries = record { rest = text_left before hits counts entries; is = refl }
 
-module _ (before : SessionState) (hits : List Hit) (counts : Counts) (entries : List Entry) (i : ℕ) (d entry : Entry) (within : i < length entries) (at : entry ≡ get_or entries i d) where
+module _ (before : SessionState) (hits : List Hit) (counts : TraceCounts) (entries : List Entry) (i : ℕ) (d entry : Entry) (within : i < length entries) (at : entry ≡ get_or entries i d) where
   first_entry : drop i entries ≡ entry ∷ drop (i + 1) entries
   first_entry = let first : drop i entries ≡ get_or entries i d ∷ drop (i + 1) entries = rw add-one (drop-cons entries i d within) in
       first ∙ ap (λ (x : Entry). x ∷ drop (i + 1) entries) (sym at)
@@ -190,7 +190,7 @@ module _ (before : SessionState) (hits : List Hit) (counts : Counts) (entries : 
   Appends start put_before whole = AppendsBut (text_left before hits counts (drop i entries)) start put_before whole
 
   -- an entry that went on
-  pub record HasGoneOn (after : SessionState) (hits_after : List Hit) (next : Counts) : Type 0 where
+  pub record HasGoneOn (after : SessionState) (hits_after : List Hit) (next : TraceCounts) : Type 0 where
     pub tables : after.tables ≡ before.tables
     pub lines : hit_lines hits_after ≡ hit_lines hits
     pub number : after.number ≡ next.number
@@ -199,7 +199,7 @@ module _ (before : SessionState) (hits : List Hit) (counts : Counts) (entries : 
     pub printed : (start put_before put_after whole : List ℕ) → Appends start put_before whole
         → put_after ≡ put_before ++ entry_line before entry → AppendsBut (text_left after hits_after next (drop (i + 1) entries)) start put_after whole
 
-  pub gone_on : (after : SessionState) (hits_after : List Hit) (next : Counts) → before.number ≡ counts.number → Follows before after hits hits_after counts entry (followed.On next)
+  pub gone_on : (after : SessionState) (hits_after : List Hit) (next : TraceCounts) → before.number ≡ counts.number → Follows before after hits hits_after counts entry (followed.On next)
       → HasGoneOn after hits_after next
   gone_on after hits_after next numbered follows =
       let h : GoesOn before after hits hits_after counts next entry (drop (i + 1) entries)
@@ -239,7 +239,7 @@ module _ (before : SessionState) (hits : List Hit) (counts : Counts) (entries : 
       (subst (λ (lines : List ℕ). AppendsBut lines start put_before whole) (ap (text_left before hits counts) first_entry ∙ parts.is) appended) begun
 
 -- behind the last entry the counts are printed
-pub script_ends : {A E : Type 0} (session : SessionState) (hits told : List Hit) (counts : Counts) (entries : List Entry) (i : ℕ) (start before after whole : List ℕ) (result : Result A E)
+pub script_ends : {A E : Type 0} (session : SessionState) (hits told : List Hit) (counts : TraceCounts) (entries : List Entry) (i : ℕ) (start before after whole : List ℕ) (result : Result A E)
     → length entries ≤ i → told ≡ hits → AppendsBut (text_left session hits counts (drop i entries)) start before whole
     → Prints before after (hits_text counts.events told) result → Prints start after whole result
 script_ends session hits told counts entries i start before after whole result all is appended prints =

@@ -24,7 +24,7 @@ use std::alloc::Global;
 
 /// What was counted of a script: the number of its last step, and events that were done.
 #[derive(Clone, Copy, Debug, PartialEq, Eq)]
-pub(crate) struct Counts {
+pub(crate) struct TraceCounts {
     /// Stays at the end of its type.
     pub number: u32,
     pub events: usize,
@@ -33,7 +33,7 @@ pub(crate) struct Counts {
 /// What an entry makes of a script: it goes on, or an event was refused.
 #[derive(Clone, Copy, Debug, PartialEq, Eq)]
 pub(crate) enum Followed {
-    On(Counts),
+    On(TraceCounts),
     Refused,
 }
 
@@ -94,10 +94,10 @@ fn follow<S: Sink>(
 }
 
 /// Nothing is counted.
-fn no_counts() -> Counts
+fn no_counts() -> TraceCounts
     ensures { result ≡ no_counts }
 {
-    Counts {
+    TraceCounts {
         number: 0,
         events: 0,
     }
@@ -109,7 +109,7 @@ fn follow_entry<S: Sink>(
     alloc: Global,
     session: &mut Session,
     coverage: &mut Coverage,
-    counts: Counts,
+    counts: TraceCounts,
     entry: &Entry,
     out: &mut S,
 ) -> Result<Followed, WriteError>
@@ -133,7 +133,7 @@ fn follow_event<S: Sink>(
     alloc: Global,
     session: &mut Session,
     coverage: &mut Coverage,
-    counts: Counts,
+    counts: TraceCounts,
     event: &Event,
     out: &mut S,
 ) -> Result<Followed, WriteError>
@@ -149,7 +149,7 @@ fn follow_event<S: Sink>(
         Ok(step) => {
             put_fired(alloc, step.number, session.chosen(), out)?;
             coverage.add(session.chosen());
-            Ok(Followed::On(Counts {
+            Ok(Followed::On(TraceCounts {
                 number: step.number,
                 events: counts.events + 1,
             }))

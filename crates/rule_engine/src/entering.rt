@@ -17,19 +17,19 @@ use kmn_base::limits::EVENT_ENTRIES;
 use kmn_base::{Item, KeyPress};
 use kmx_parts::{FileGroup, FileRule, Outputs};
 use rule_index::RuleIndex;
-use rule_matching::{Caught, item_caught};
+use rule_matching::{MatchedItems, item_caught};
 use rule_model::Out;
 
 /// A press that enters groups, with so many entries inside one another that may still come.
 #[derive(Clone, Copy)]
-pub struct Entering {
+pub struct GroupEntry {
     pub press: KeyPress,
     pub depth: u32,
 }
 
 /// What one item of an output does.
 #[cycle(acts)]
-fn act_one(entering: Entering, caught: &Caught, output: Out, event: &mut PressEvent)
+fn act_one(entering: GroupEntry, caught: &MatchedItems, output: Out, event: &mut PressEvent)
     requires { ChangesOwn (length event.old.tables.stores) output }
     ensures { event.new ≡ record event.old {
       state = act_one
@@ -56,7 +56,7 @@ fn act_one(entering: Entering, caught: &Caught, output: Out, event: &mut PressEv
 
 /// What the next item of an output does, unless the event is stopped.
 #[cycle(acts)]
-fn act_next(entering: Entering, caught: &Caught, output: Out, event: &mut PressEvent)
+fn act_next(entering: GroupEntry, caught: &MatchedItems, output: Out, event: &mut PressEvent)
     requires { ChangesOwn (length event.old.tables.stores) output }
     ensures { event.new ≡ record event.old {
       state = if event.old.state.stopped then event.old.state else act_one
@@ -72,7 +72,7 @@ fn act_next(entering: Entering, caught: &Caught, output: Out, event: &mut PressE
 
 /// The items of an output act in order; once the event is stopped nothing changes.
 #[cycle(acts)]
-fn act(entering: Entering, caught: &Caught, outputs: Outputs<'_>, event: &mut PressEvent)
+fn act(entering: GroupEntry, caught: &MatchedItems, outputs: Outputs<'_>, event: &mut PressEvent)
     requires { AllChangeOwn (length event.old.tables.stores) outputs }
     ensures { event.new ≡ record event.old {
       state = act
@@ -88,7 +88,7 @@ fn act(entering: Entering, caught: &Caught, outputs: Outputs<'_>, event: &mut Pr
 
 /// Enters a group, or ends the event where no more may be entered.
 #[cycle(acts)]
-fn enter_if_allowed(entering: Entering, group: u32, event: &mut PressEvent)
+fn enter_if_allowed(entering: GroupEntry, group: u32, event: &mut PressEvent)
     ensures { event.new ≡ record event.old {
       state = enter_if_allowed (enters event.old entering) (Numbered group) event.old.state;
       lines = lines_of_one (adds event.old entering) (UseGroup (Numbered group)) event.old.state event.old.lines;
@@ -102,7 +102,7 @@ fn enter_if_allowed(entering: Entering, group: u32, event: &mut PressEvent)
 }
 
 /// Takes what a record has matched.
-fn take(caught: &Caught, event: &mut PressEvent)
+fn take(caught: &MatchedItems, event: &mut PressEvent)
     ensures { event.new ≡ record event.old {
       state = record event.old.state {
         left = without_last (length (items_caught caught.now)) event.old.state.left;
@@ -116,10 +116,10 @@ fn take(caught: &Caught, event: &mut PressEvent)
 /// caught.
 #[cycle(acts)]
 fn do_chosen(
-    entering: Entering,
+    entering: GroupEntry,
     group: &FileGroup<'_>,
     rule: &FileRule<'_>,
-    caught: &mut Caught,
+    caught: &mut MatchedItems,
     event: &mut PressEvent,
 )
     requires group { GroupChangesOwn (length event.old.tables.stores) group.now }
@@ -142,7 +142,12 @@ fn do_chosen(
 
 /// Where no record holds: the nomatch output, for which nothing is caught, else the default of a group with keys.
 #[cycle(acts)]
-fn do_unmatched(entering: Entering, group: &FileGroup<'_>, nothing: &Caught, event: &mut PressEvent)
+fn do_unmatched(
+    entering: GroupEntry,
+    group: &FileGroup<'_>,
+    nothing: &MatchedItems,
+    event: &mut PressEvent,
+)
     requires nothing { nothing.now ≡ record { catches = []; key_place = None } }
     requires group { GroupChangesOwn (length event.old.tables.stores) group.now }
     ensures { event.new ≡ record event.old {
@@ -161,7 +166,12 @@ fn do_unmatched(entering: Entering, group: &FileGroup<'_>, nothing: &Caught, eve
 
 /// What a group does.
 #[cycle(acts)]
-fn do_group(entering: Entering, group: &FileGroup<'_>, records: &RuleIndex, event: &mut PressEvent)
+fn do_group(
+    entering: GroupEntry,
+    group: &FileGroup<'_>,
+    records: &RuleIndex,
+    event: &mut PressEvent,
+)
     requires short { AreShort group.now.rules }
     requires index { IsRuleIndexOf group.now records.now }
     requires group { GroupChangesOwn (length event.old.tables.stores) group.now }
@@ -173,7 +183,7 @@ fn do_group(entering: Entering, group: &FileGroup<'_>, records: &RuleIndex, even
           (chosen_in (keyboard_of event.old) entering.press (tab_group event.old.tables.stores group.now) event.old.state) event.old.state event.old.lines;
     } }
 {
-    let mut caught = Caught::nothing();
+    let mut caught = MatchedItems::nothing();
     match event.chosen_in(entering.press, group, records, &mut caught) {
         Some(rule) => do_chosen(entering, group, &rule, &mut caught, event),
         None => do_unmatched(entering, group, &caught, event),
@@ -183,7 +193,7 @@ fn do_group(entering: Entering, group: &FileGroup<'_>, records: &RuleIndex, even
 /// What the group of a number does, if there is one.
 #[cycle(acts)]
 #[tactic(auto, using(crate::proofs::Contexts::short_in_group, crate::proofs::Contexts::own_in_group))]
-fn in_group(entering: Entering, group: u32, event: &mut PressEvent)
+fn in_group(entering: GroupEntry, group: u32, event: &mut PressEvent)
     requires { length event.old.lines < event.old.state.entered }
     ensures { event.new ≡ record event.old {
       state = in_group (keyboard_of event.old) (enters event.old entering) entering.press
@@ -200,7 +210,7 @@ fn in_group(entering: Entering, group: u32, event: &mut PressEvent)
 /// Enters a group.
 #[cycle(acts)]
 #[tactic(auto, using(rule_model::proofs::PlainKeyboard::enter_more, crate::proofs::MoreLines::more_lines))]
-fn enter(entering: Entering, group: u32, event: &mut PressEvent)
+fn enter(entering: GroupEntry, group: u32, event: &mut PressEvent)
     requires { event.old.state.entered < 50 }
     ensures { event.new ≡ record event.old {
       state = enters event.old entering (Numbered group) event.old.state;
@@ -212,7 +222,7 @@ fn enter(entering: Entering, group: u32, event: &mut PressEvent)
         return;
     }
     event.count_entry();
-    let inside = Entering {
+    let inside = GroupEntry {
         depth: entering.depth - 1,
         ..entering
     };
@@ -229,7 +239,7 @@ pub fn press(press: KeyPress, event: &mut PressEvent)
       lines = lines_of_press (keyboard_of event.old) press event.old.state;
     } }
 {
-    let entering = Entering {
+    let entering = GroupEntry {
         press,
         depth: EVENT_ENTRIES,
     };

@@ -15,14 +15,13 @@ ghost use Rattle.rule_engine.specs.Event.{CanAct, HasShortContexts, PlatformStay
 
 use crate::workspace::Workspace;
 use arrayvec::ArrayVec;
-use context_cache::Cache;
 use event_text::Left;
 use kmn_base::limits::EVENT_PUTS;
 use kmn_base::{Item, KeyPress, Outcome};
 use kmx_parts::{FileGroup, FileRule};
 use option_store::Options;
 use rule_index::{IndexedKeyboard, RuleIndex};
-use rule_matching::{Caught, EnteredGroup, Moment, PlaceMemory, first_held};
+use rule_matching::{EnteredGroup, MatchedItems, Moment, PlaceMemory, first_held};
 use std::marker::Model;
 use virtual_keys::codes::K_BKSP;
 use virtual_keys::is_plain;
@@ -209,24 +208,15 @@ impl<'a> PressEvent<'a> {
         self.lines.push(line);
     }
 
-    /// The last 64 items. They are filled in first, so that all of them are at hand.
-    pub fn window(&mut self) -> Cache
-        ensures window { result ≡ window self.old.state.left }
-        ensures same { self.new ≡ self.old }
-    {
-        self.left.fill();
-        self.left.copy_cache()
-    }
-
     /// The record of a group that goes first at this moment. What it catches is written where the caller has room for it, which
-    /// stays as it was where none goes. It is seen in the last 64 items, which are filled in before.
+    /// stays as it was where none goes. It is seen in the last 64 items, which are filled in before and lent as they lie.
     #[tactic(auto, using(crate::proofs::Contexts::first_in_window), unfolding(rule_model::specs::Tab::tab))]
     pub fn chosen_in<'g>(
         &mut self,
         press: KeyPress,
         group: &FileGroup<'g>,
         records: &RuleIndex,
-        caught: &mut Caught,
+        caught: &mut MatchedItems,
     ) -> Option<FileRule<'g>>
         requires short { AreShort group.now.rules }
         requires index { IsRuleIndexOf group.now records.now }
@@ -236,14 +226,20 @@ impl<'a> PressEvent<'a> {
         ensures among { IfSome result (λ rule. Contains group.now.rules rule) }
         ensures same { self.new ≡ self.old }
     {
-        let window = self.window();
+        self.left.fill();
         let moment = Moment::of(self.indexed, &self.options, self.truths.as_slice());
         let entered = EnteredGroup {
             press,
             group,
             records,
         };
-        first_held(&moment, &entered, window.items(), &mut self.places, caught)
+        first_held(
+            &moment,
+            &entered,
+            self.left.cache(),
+            &mut self.places,
+            caught,
+        )
     }
 
     /// Takes the last items, at most as many as a window has.

@@ -7,7 +7,7 @@ ghost use Rattle.rule_engine.specs.Event.{content_in};
 use crate::event::PressEvent;
 use kmn_base::{Element, Item};
 use kmx_parts::Outputs;
-use rule_matching::{Caught, item_of};
+use rule_matching::{MatchedItems, item_of};
 
 /// Whether an output has no items.
 pub fn is_empty(outputs: Outputs<'_>) -> bool
@@ -36,7 +36,7 @@ fn put_element(element: Option<Element>, event: &mut PressEvent)
 }
 
 /// What `index` does.
-pub fn put_index(caught: &Caught, store: u32, offset: u32, event: &mut PressEvent)
+pub fn put_index(caught: &MatchedItems, store: u32, offset: u32, event: &mut PressEvent)
     ensures { event.new ≡ record event.old {
       state = put_element
           (element_at (content_in event.old (Numbered store)) (place_for_index caught.now offset)) event.old.state;
@@ -48,7 +48,7 @@ pub fn put_index(caught: &Caught, store: u32, offset: u32, event: &mut PressEven
 }
 
 /// What `context` does: puts all that was matched.
-pub fn put_context(caught: &Caught, event: &mut PressEvent)
+pub fn put_context(caught: &MatchedItems, event: &mut PressEvent)
     ensures { event.new ≡ record event.old { state = put_items (items_caught caught.now) event.old.state } }
 {
     for found in caught.found() {

@@ -10,7 +10,9 @@ use Rattle.rule_model.specs.Naming.{mark_number, elements_named}
 use Rattle.rule_model.specs.Tab.{store_elements}
 use Rattle.store_table.specs.Numbering.{NameLists, below, number_in, mark_in}
 use Rattle.virtual_keys.proofs.NamePlaces.{same_either_way}
-use Rattle.compile_laws.proofs.Places.{position-cons, position-map, first_place}
+use Rattle.compile_laws.proofs.Places.{first_place}
+use Rattle.virtual_keys.proofs.NamePlaces.{position_cons}
+use Rattle.virtual_keys.proofs.PositionLemmas.{position-map}
 use Rattle.rule_expand.specs.Lookups.{source_names, AreFew, store_names, BeginWith, place_of_store, elements_at}
 
 below_limit : (limit k : ℕ) → k < limit → (if nat_lt k limit then Some k else None) ≡ Some k
@@ -56,7 +58,7 @@ store_found lists stores name few e =
     ap (below (2 ^ 32)) (place_either_way lists.stores name)
     ∙ place_below (2 ^ 32) (λ known. same_name known name) lists.stores few.stores
     ∙ ap (position (λ known. same_name known name)) e
-    ∙ position-map (λ known. same_name known name) (λ (store : Store). store.name) stores
+    ∙ position-map (λ (store : Store). store.name) (λ known. same_name known name) stores
 
 later_elements : (here : Bool) (store : Store) (stores : List Store) (later : Option ℕ) (found : Option Store) → elements_at stores later ≡ store_elements found
     → elements_at (store ∷ stores) (cond here (Some 0) (option_map suc later)) ≡ store_elements (cond here (Some store) found)
@@ -72,7 +74,7 @@ no_elements (Some k) = refl
 first_elements : (stores : List Store) (rest : List (List ℕ)) (name : List ℕ) → elements_at stores (position (λ known. same_name known name) (store_names stores ++ rest)) ≡ elements_named stores name
 first_elements [] rest name = no_elements (position (λ known. same_name known name) rest)
 first_elements (store ∷ stores) rest name =
-    ap (elements_at (store ∷ stores)) (position-cons (λ known. same_name known name) store.name (store_names stores ++ rest))
+    ap (elements_at (store ∷ stores)) (position_cons (λ known. same_name known name) store.name (store_names stores ++ rest))
     ∙ later_elements (same_name store.name name) store stores (position (λ known. same_name known name) (store_names stores ++ rest))
     (find (λ (s : Store). same_name s.name name) stores) (first_elements stores rest name)
 
@@ -96,6 +98,6 @@ value_within values value k e = (first_place (λ known. bytes_eq known value) va
 pub place_elements : (stores : List Store) (name : List ℕ) → elements_at stores (place_of_store stores name) ≡ elements_named stores name
 place_elements stores name =
     ap (elements_at stores)
-    (sym (position-map (λ known. same_name known name) (λ (store : Store). store.name) stores)
+    (sym (position-map (λ (store : Store). store.name) (λ known. same_name known name) stores)
     ∙ ap (position (λ known. same_name known name)) (sym (append-nil (store_names stores))))
     ∙ first_elements stores [] name

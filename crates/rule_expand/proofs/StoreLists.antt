@@ -1,5 +1,5 @@
 -- The stores of statements one after the other, and the text of the key dictionary.
-use Rattle.std.proofs.Common.{◌≡◌, ℕ, zero, suc, ◌+◌, ◌-◌, ◌<◌, ◌≤◌, Bool, true, false, List, [], ◌∷◌, ◌++◌, append_assoc, length, map, take, drop, get_or, Some, None, nat_eq, nat_lt, refl, sym, ap, ◌∙◌, arith, if◌then◌else◌}
+use Rattle.std.proofs.Common.{◌≡◌, ℕ, zero, suc, ◌+◌, ◌-◌, ◌<◌, true, List, [], ◌∷◌, ◌++◌, append_assoc, length, map, take, drop, get_or, Some, None, nat_eq, refl, sym, ap, ◌∙◌, arith, if◌then◌else◌}
 use Rattle.std.specs.Prelude.{slice_get}
 use Rattle.std.specs.List.{list_all, join_with_byte}
 use Rattle.std.proofs.lemmas.Bool.Decides.{nat_tests}
@@ -7,6 +7,7 @@ use Rattle.std.proofs.lemmas.List.{drop_more, take_all, take_more, length-take, 
 use Rattle.std.proofs.lemmas.Option.{slice_get_within, get_or_from_slice_get, none-some}
 use Rattle.kmn_base.proofs.DecodedTexts.{decoded_text}
 use Rattle.virtual_keys.specs.Dictionary.{name_in}
+use Rattle.virtual_keys.proofs.NamePlaces.{past, name_read}
 use Rattle.kmn_base.specs.Texts.{decoded}
 use Rattle.rule_model.specs.declared.program.StoreDef.{StoreDef}
 use Rattle.rule_model.specs.declared.tables.Store.{Store}
@@ -48,13 +49,6 @@ pub first_statements : (names : SourceNames) (lists : List (List ℕ)) (stores :
     → BeginWith (stores_onto names [] (take k stores)) lists
 first_statements names lists stores k first = first_stores names lists (stores_onto names [] (take k stores)) stores (drop k stores) first (onto_parted names [] k stores)
 
-past : {X : Type 0} (xs : List X) (i : ℕ) → slice_get xs i ≡ None → length xs ≤ i
-past [] i e = omega arith
-past (x ∷ xs) zero e = absurd (none-some x (sym e))
-past (x ∷ xs) (suc i) e =
-    let h : length xs ≤ i = past xs i e in
-    omega arith
-
 length-take_within : {X : Type 0} (xs : List X) (i : ℕ) → i < length xs → length (take i xs) ≡ i
 length-take_within xs i h = omega (arith, length-take i xs)
 
@@ -86,16 +80,6 @@ joined_behind (first ∷ next ∷ names) name =
     ap (λ text. first ++ (32 ∷ text)) (joined_behind (next ∷ names) name ∙ ap (λ text. join_with_byte 32 (next ∷ names) ++ text) (later_name (length names) name))
     ∙ (sym (append_assoc first (32 ∷ join_with_byte 32 (next ∷ names)) (32 ∷ name))
     ∙ ap (λ text. join_with_byte 32 (first ∷ next ∷ names) ++ text) (sym (later_name (suc (length names)) name)))
-
-name_read_as : (place : ℕ) (names : List (List ℕ)) (low : Bool) → nat_lt (256 + place) 256 ≡ low → (if low then None else slice_get names ((256 + place) - 256)) ≡ slice_get names place
-name_read_as place names true e = absurd (grind (arith, nat_tests))
-name_read_as place names false e =
-    let same : (256 + place) - 256 ≡ place = omega arith in
-    ap (slice_get names) same
-
--- the name of a code
-name_read : (names : List (List ℕ)) (place : ℕ) → name_in names (256 + place) ≡ slice_get names place
-name_read names place = name_read_as place names (nat_lt (256 + place) 256) refl
 
 pub joined_more : (names : List (List ℕ)) (place : ℕ) (name : List ℕ) → name_in names (256 + place) ≡ Some name
     → join_with_byte 32 (take (place + 1) names) ≡ join_with_byte 32 (take place names) ++ (if nat_eq place 0 then name else 32 ∷ name)

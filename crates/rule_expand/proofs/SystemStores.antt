@@ -10,7 +10,7 @@ use Rattle.rule_model.specs.declared.tables.Store.{Store}
 use Rattle.rule_model.specs.Naming.{SourceNames, names_of, is_dropped, store_of, stores_of, stores_onto}
 use Rattle.rule_model.specs.Tab.{store_elements}
 use Rattle.store_table.specs.Numbering.{NameLists, lists_of}
-use Rattle.compile_laws.proofs.Places.{position-cons}
+use Rattle.virtual_keys.proofs.NamePlaces.{position_cons}
 use Rattle.rule_expand.specs.Expanded.{HasTables}
 use Rattle.rule_expand.specs.Lookups.{source_names, BeginWith}
 use Rattle.rule_expand.specs.Stated.{is_of, states}
@@ -68,7 +68,7 @@ module _ (system : ℕ) (names : SourceNames) where
   found_nowhere : (before : List Store) (stores : List StoreDef) → find (is_of system) before ≡ None → position (states system) stores ≡ None → find (is_of system) (stores_onto names before stores) ≡ None
   found_nowhere before [] none e = none
   found_nowhere before (store ∷ stores) none e =
-      by (states system store) refl (position (states system) stores) refl (sym (position-cons (states system) store stores) ∙ e) (found_nowhere (with_statement before store) stores)
+      by (states system store) refl (position (states system) stores) refl (sym (position_cons (states system) store stores) ∙ e) (found_nowhere (with_statement before store) stores)
     where
       by : (here : Bool) → states system store ≡ here → (later : Option ℕ) → position (states system) stores ≡ later → cond here (Some 0) (option_map suc later) ≡ None
           → (find (is_of system) (with_statement before store) ≡ None → position (states system) stores ≡ None → find (is_of system) (stores_onto names (with_statement before store) stores) ≡ None)
@@ -84,7 +84,7 @@ module _ (system : ℕ) (names : SourceNames) where
   found_at : (before : List Store) (stores : List StoreDef) (d : StoreDef) (k : ℕ) → find (is_of system) before ≡ None → position (states system) stores ≡ Some k → FoundAt before stores d k
   found_at before [] d k none e = absurd (none-some k e)
   found_at before (store ∷ stores) d k none e =
-      by (states system store) refl (position (states system) stores) refl (sym (position-cons (states system) store stores) ∙ e) (found_at (with_statement before store) stores d)
+      by (states system store) refl (position (states system) stores) refl (sym (position_cons (states system) store stores) ∙ e) (found_at (with_statement before store) stores d)
     where
       by : (here : Bool) → states system store ≡ here → (later : Option ℕ) → position (states system) stores ≡ later → cond here (Some 0) (option_map suc later) ≡ Some k
           → ((j : ℕ) → find (is_of system) (with_statement before store) ≡ None → position (states system) stores ≡ Some j → FoundAt (with_statement before store) stores d j)

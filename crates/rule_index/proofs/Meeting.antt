@@ -15,6 +15,7 @@ use Rattle.rule_model.specs.declared.event_state.Caught.{Caught}
 use Rattle.rule_model.specs.Keyboard.{Pattern, IsChar, IsMark, IsAny, IsNotAny, IsIndex, IsContextAt, IfEqual, IfUnequal, AtStart, KeyPattern, OneKey, KeyIn, RuleMeaning}
 use Rattle.rule_model.specs.Match.{Content, takes_item, matches, place_for, nothing_caught, catch_item, catches_from}
 use Rattle.rule_model.specs.Hold.{is_true, has_room, pattern_count, fitting_place, caught_by, holds}
+use Rattle.rule_model.proofs.CaughtParts.{caught_parts}
 use Rattle.rule_index.specs.Laws.{HoldingIsWanted}
 use Rattle.rule_index.specs.Classes.{key_class, key_part, pattern_class, last_class, given_class, item_class, last_item, class_of}
 
@@ -103,12 +104,6 @@ key_met press (key.Virtual flags code) e = inr (inr (elim (cases_Bool (eqb code 
   | inr other ↦ let absurd_case : false ≡ true = ap (λ (b : Bool). b && flags_fit flags press.mods) (sym other) ∙ e in cc
 ]))
 
-caught_both : (catches : Option (List Catch)) (place : Option (Option ℕ)) (caught : Caught) → caught_by catches place ≡ Some caught
-    → ((r : List Catch) × (catches ≡ Some r)) × ((p : Option ℕ) × (place ≡ Some p))
-caught_both None place caught e = let absurd_case : None ≡ Some caught = e in cc
-caught_both (Some r) None caught e = let absurd_case : None ≡ Some caught = e in cc
-caught_both (Some r) (Some p) caught e = ((r, refl), (p, refl))
-
 -- by what the key of a record was met
 abbrev PartMet : KeyPress → KeyPattern → Type 0
 PartMet press k = (key_part k ≡ 0) ⊎ ((key_part k ≡ given_class press (char_of_press press)) ⊎ (key_part k ≡ 65537 + press.code))
@@ -131,7 +126,7 @@ holding_met content left press rule caught e =
     elim (cases_Bool test) [
       | inr fails ↦ let absurd_case : None ≡ Some caught = sym (cond-false test (caught_by catches place) None fails) ∙ e in cc
       | inl passes ↦
-          let both = caught_both catches place caught (sym (cond-true test (caught_by catches place) None passes) ∙ e) in
+          let both = caught_parts catches place caught (sym (cond-true test (caught_by catches place) None passes) ∙ e) in
           (part_met content press rule.key both.1.0 both.1.1, last_of_last at left _ None (last_met content [] rule.context (drop at left) both.0.0 None 0 both.0.1 (inl refl)))
     ]
 

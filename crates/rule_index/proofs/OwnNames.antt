@@ -1,22 +1,18 @@
 -- The names that are read character by character are the words of the text, each once.
-use Rattle.std.proofs.Common.{◌≡◌, ℕ, suc, ◌+◌, ◌<◌, Bool, true, false, not, cond, ltb, List, [], ◌∷◌, ◌++◌, length, get_or, Option, Some, None, refl, sym, ap, ◌∙◌, arith, is_some, if◌then◌else◌, append_assoc, append-nil}
-use Rattle.std.specs.Prelude.{filter, nat_eq, encode_utf8_all, position, option_map, ◌||◌, All}
+use Rattle.std.proofs.Common.{◌≡◌, ℕ, ◌+◌, Bool, true, false, not, List, [], ◌∷◌, ◌++◌, length, refl, sym, ap, ◌∙◌, arith, if◌then◌else◌, append_assoc, append-nil}
+use Rattle.std.specs.Prelude.{filter, nat_eq, encode_utf8_all}
 use Rattle.std.specs.Char.{encode_utf8}
-use Rattle.std.specs.List.{position_or_len, list_any, slice_split}
+use Rattle.std.specs.List.{slice_split}
 use Rattle.std.proofs.lemmas.Bool.Decides.{nat_tests}
-use Rattle.std.proofs.lemmas.List.{get_or_default}
 use Rattle.std.proofs.lemmas.List.Elements.{All-nil, All-append}
 use Rattle.std.proofs.lemmas.List.Splits.{slice_split_at, slice_split_none}
-use Rattle.std.proofs.lemmas.Str.{encode_ascii, inside_one}
+use Rattle.std.proofs.lemmas.Str.{encode_ascii}
 use Rattle.kmn_base.specs.Names.{same_name}
 use Rattle.virtual_keys.specs.Dictionary.{with_name}
 use Rattle.rule_model.specs.Tab.{distinct_onto, words}
+use Rattle.virtual_keys.proofs.WordBytes.{HasNoSpace, bytes_of}
 use Rattle.virtual_keys.proofs.NamePlaces.{with_name_new}
 use Rattle.rule_index.specs.OwnNames.{names_with, names_read}
-
--- no byte of a text is a space
-abbrev HasNoSpace : List ℕ → Type 0
-HasNoSpace text = All (λ byte. nat_eq 32 byte ≡ false) text
 
 -- whether a word is not empty
 abbrev is_word : List ℕ → Bool
@@ -32,19 +28,6 @@ word_as names word rest false e = ap (λ seen. distinct_onto same_name seen (fil
 word_first : (names : List (List ℕ)) (word : List ℕ) (rest : List (List ℕ))
     → distinct_onto same_name names (filter is_word (word ∷ rest)) ≡ distinct_onto same_name (names_with names word) (filter is_word rest)
 word_first names word rest = word_as names word rest (nat_eq (length word) 0) refl
-
--- a character that is no space has no byte that is one
-bytes_of : (c : ℕ) → nat_eq c 32 ≡ false → HasNoSpace (encode_utf8 c)
-bytes_of c other = λ k d below. differ k d below (nat_eq 32 (get_or (encode_utf8 c) k d)) refl
-  where
-    differ : (k d : ℕ) → k < length (encode_utf8 c) → (same : Bool) → nat_eq 32 (get_or (encode_utf8 c) k d) ≡ same → same ≡ false
-    differ k d below false e = refl
-    differ k d below true e =
-        let byte : get_or (encode_utf8 c) k 0 ≡ get_or (encode_utf8 c) k d = get_or_default (encode_utf8 c) k 0 d below in
-        let space : 32 ≡ get_or (encode_utf8 c) k d = grind (arith, nat_tests) in
-        let is : c ≡ get_or (encode_utf8 c) k 0 = inside_one c [] (encode_utf8 c) k (sym (append-nil (encode_utf8 c))) below (omega arith) in
-        let same : c ≡ 32 = omega arith in
-        absurd (grind (arith, nat_tests))
 
 -- one character more, where the words of what stands behind it are known
 words_step : (names : List (List ℕ)) (word : List ℕ) (c : ℕ) (cs : List ℕ) → HasNoSpace word

@@ -8,7 +8,7 @@ use Rattle.std.proofs.lemmas.List.{get_or-map, length-map}
 use Rattle.std.proofs.lemmas.List.Elements.{All-nil, All-cons, All-set}
 use Rattle.std.proofs.lemmas.Option.{get_or_from_slice_get}
 use Rattle.rule_index.specs.declared.head.Head.{Head}
-use Rattle.rule_index.specs.declared.lead.Lead.{Lead}
+use Rattle.rule_index.specs.declared.lead.ClassLead.{ClassLead}
 use Rattle.rule_index.specs.declared.row.Row.{Row}
 use Rattle.rule_index.specs.Next.{IsNext, IsTheNext}
 use Rattle.rule_index.specs.Rows.{rank, ranked, number_if, AreBefore, IsIndexOf, StartsAt}
@@ -77,7 +77,7 @@ first_at class from place rows classes starts index =
     first_number class from classes (number_if class (slice_get rows place)) (omega (arith, index.few)) (first_found class from place rows classes starts index)
 
 -- the number that a lead finds before its limit is the next
-pub led_is_next : (rows : List Row) (wanted classes : List ℕ) (from number : ℕ) (lead : Lead) → IsIndexOf classes rows → LeadStands rows wanted from lead
+pub led_is_next : (rows : List Row) (wanted classes : List ℕ) (from number : ℕ) (lead : ClassLead) → IsIndexOf classes rows → LeadStands rows wanted from lead
     → unwrap_or (number_if lead.head.class (slice_get rows lead.head.place)) 131072 ≡ number → from ≤ number → number < lead.limit
     → IsNext wanted (length wanted) classes from (Some number)
 led_is_next rows wanted classes from number lead index stands is up below =
@@ -204,7 +204,7 @@ module _ (rows : List Row) (olds : List Head) (from least limit : ℕ) (first : 
   first_is_none none classes index =
       none_is_next (map class_of_head olds) classes from (length olds) least first.class limit (omega (arith, index.few)) (is.leads classes index stand) (omega arith)
 
-  pub lead_stands : (lead : Lead) → lead.head.class ≡ first.class → lead.head.place ≡ first.place + 1 → lead.limit ≡ limit → least < 131072
+  pub lead_stands : (lead : ClassLead) → lead.head.class ≡ first.class → lead.head.place ≡ first.place + 1 → lead.limit ≡ limit → least < 131072
       → LeadStands rows (map class_of_head olds) (least + 1) lead
   lead_stands lead class_is place_is limit_is less = record {
     among = let j = is.among less in (j.0, rw (length-map olds class_of_head) j.1, class_is ∙ j.2);

@@ -3,7 +3,7 @@ use Rattle.std.specs.Prelude.{◌≡◌, ℕ, ◌+◌, ◌<◌, ◌≤◌, List,
 use Rattle.std.specs.List.{All}
 use Rattle.rule_index.specs.declared.row.Row.{Row}
 use Rattle.rule_index.specs.declared.head.Head.{Head}
-use Rattle.rule_index.specs.declared.lead.Lead.{Lead}
+use Rattle.rule_index.specs.declared.lead.ClassLead.{ClassLead}
 use Rattle.rule_index.specs.Rows.{ranked, IsIndexOf, AreBefore}
 
 -- the rows of a group, the wanted classes, and the number from which on the walk goes
@@ -27,7 +27,7 @@ HeadsStand rows from heads = All (HeadStands rows from) heads
 
 -- a lead has a wanted class and has passed none of its rows with a number from one on, and each number from there to its
 -- limit that has a wanted class has this one
-pub record LeadStands (rows : List Row) (wanted : List ℕ) (from : ℕ) (lead : Lead) : Type 0 where
+pub record LeadStands (rows : List Row) (wanted : List ℕ) (from : ℕ) (lead : ClassLead) : Type 0 where
   pub among : (j : ℕ) × (j < length wanted) × (lead.head.class ≡ slice_index_or wanted j 0)
   pub stands : HeadStands rows from lead.head
   pub alone : (classes : List ℕ) → IsIndexOf classes rows → (n j : ℕ) → from ≤ n → n < lead.limit → n < length classes → j < length wanted

@@ -6,7 +6,7 @@ ghost use Rattle.rule_index.specs.Walk.{behind, HeadsStand, LeadStands};
 
 use crate::class::Class;
 use crate::head::Head;
-use crate::lead::Lead;
+use crate::lead::ClassLead;
 use crate::row::Row;
 use std::marker::Model;
 
@@ -16,7 +16,7 @@ use std::marker::Model;
 pub struct Candidates<'i> {
     rows: &'i [Row],
     heads: [Head; 6],
-    lead: Lead,
+    lead: ClassLead,
     from: u32,
 }
 
@@ -38,7 +38,7 @@ impl<'i> Model for Candidates<'i> {
 
 /// The first number from one on that has a wanted class. The heads go on to their rows from this number on, and its class leads.
 #[inline(never)]
-fn next_of(rows: &[Row], heads: &mut [Head], lead: &mut Lead, from: u32) -> Option<u32>
+fn next_of(rows: &[Row], heads: &mut [Head], lead: &mut ClassLead, from: u32) -> Option<u32>
     requires { from ≤ 131072 }
     ensures wanted { map (λ head. head.class) heads.new ≡ map (λ head. head.class) heads.old }
     ensures stand { HeadsStand rows.now from heads.old → HeadsStand rows.now from heads.new }
@@ -65,7 +65,7 @@ fn next_of(rows: &[Row], heads: &mut [Head], lead: &mut Lead, from: u32) -> Opti
         return None;
     }
     first.place += 1;
-    *lead = Lead { head: first, limit };
+    *lead = ClassLead { head: first, limit };
     Some(least)
 }
 
@@ -91,7 +91,7 @@ impl<'i> Candidates<'i> {
         Candidates {
             rows,
             heads,
-            lead: Lead { head, limit: 0 },
+            lead: ClassLead { head, limit: 0 },
             from: 0,
         }
     }

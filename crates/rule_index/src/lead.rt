@@ -4,7 +4,7 @@ use crate::head::Head;
 
 /// The head of the last candidate's class, behind its row, and a number before which no other wanted class has a record.
 #[derive(Clone, Copy, Drop)]
-pub struct Lead {
+pub struct ClassLead {
     pub head: Head,
     pub limit: u32,
     ghost small: { limit ≤ 131072 },

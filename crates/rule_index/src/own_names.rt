@@ -8,7 +8,7 @@ ghost use Rattle.rule_index.specs.OwnNames.{names_with, names_after, word_after}
 ghost use Rattle.rule_index.specs.Stores.{HaveFewElements};
 
 use kmn_base::{Element, Memory};
-use kmx_parts::{Elements, FileTables, Parts};
+use kmx_parts::{Elements, FileTables, StringParts};
 use rule_model::system::KEY_DICTIONARY;
 use std::alloc::Global;
 use virtual_keys::KeyDictionary;
@@ -22,7 +22,7 @@ fn dictionary_elements<'a>(file: &FileTables<'a>) -> Elements<'a>
             return store.elements();
         }
     }
-    Parts::none()
+    StringParts::none()
 }
 
 /// Adds a word, unless it is empty or the same as a name before it.

@@ -1,25 +1,11 @@
 -- What a store has, where it lies: when two elements are the same, and a text of the host as elements.
-use Rattle.std.proofs.Common.{◌≡◌, ℕ, List, map, refl, sym}
+use Rattle.std.proofs.Common.{◌≡◌, ℕ, List, map, sym}
 use Rattle.std.specs.Prelude.{option_map, position, slice_get}
 use Rattle.std.proofs.lemmas.Option.{slice_get-map}
 use Rattle.virtual_keys.proofs.PositionLemmas.{position-map}
 use Rattle.kmn_base.specs.declared.items.Item.{Item}
-use Rattle.kmn_base.specs.declared.items.Element.{Element}
 use Rattle.kmn_base.specs.declared.items.Element.TheVariants as element
-use Rattle.kmn_base.specs.contracts.items.ElementPartialEq.TheImpl as ElementPartialEq
-use Rattle.rule_model.specs.Match.{is_item, place_of, same_element}
-
--- what `==` says of two elements
-pub equal_elements : (a b : Element) → ElementPartialEq.eq-value.it a b ≡ same_element a b
-equal_elements (element.Char c) (element.Char d) = refl
-equal_elements (element.Char c) (element.Mark n) = refl
-equal_elements (element.Char c) (element.Key flags code) = refl
-equal_elements (element.Mark m) (element.Char d) = refl
-equal_elements (element.Mark m) (element.Mark n) = refl
-equal_elements (element.Mark m) (element.Key flags code) = refl
-equal_elements (element.Key flags code) (element.Char d) = refl
-equal_elements (element.Key flags code) (element.Mark n) = refl
-equal_elements (element.Key flags code) (element.Key other other_code) = refl
+use Rattle.rule_model.specs.Match.{is_item, place_of}
 
 -- an item stands among the characters of a text where it stands among its elements
 pub place_in_text : (x : Item) (text : List ℕ) → position (λ c. is_item x (element.Char c)) text ≡ place_of x (map element.Char text)

@@ -12,32 +12,32 @@ use Rattle.rule_model.specs.Match.{Content, catch_at, place_caught, place_of, ta
 use Rattle.kmx_parts.specs.declared.context_item.ContextItem.{ContextItem}
 use Rattle.kmx_parts.specs.declared.context_item.ContextItem.TheVariants.{Char}
 use Rattle.kmx_parts.specs.ContextItems.{pattern_of}
-use Rattle.rule_matching.specs.declared.taken.Taken.{Taken}
+use Rattle.rule_matching.specs.declared.taken.TakenItem.{TakenItem}
 use Rattle.rule_matching.specs.Matching.{allowed_catches, catch_of, caught_by_taken, item_before, item_meaning, place_before, taken_at}
 use Rattle.rule_matching.proofs.AllowedContexts.{allowed_catches_none, allowed_with_item}
 use Rattle.rule_matching.proofs.KnownPlaces.{caught_ahead, item_there, some_ahead, uncaught_ahead}
 use Rattle.rule_model.proofs.PlainContexts.{takes_same}
 
 module _ (content : Content) (left : List Item) where
-  abbrev caught : Taken → Catch
+  abbrev caught : TakenItem → Catch
   caught = caught_by_taken content left
 
   -- what is caught at an offset is what is caught by what was taken there
-  caught_at : (taken : List Taken) (offset : ℕ) → catch_at (map caught taken) offset ≡ option_map caught (taken_at taken offset)
+  caught_at : (taken : List TakenItem) (offset : ℕ) → catch_at (map caught taken) offset ≡ option_map caught (taken_at taken offset)
   caught_at taken zero = refl
   caught_at taken (suc before) = slice_get-map caught taken before
 
-  place_of_one : (one : Option Taken) → option_and_then (λ (catch : Catch). catch.place) (option_map caught one) ≡ option_and_then (λ (t : Taken). (caught t).place) one
+  place_of_one : (one : Option TakenItem) → option_and_then (λ (catch : Catch). catch.place) (option_map caught one) ≡ option_and_then (λ (t : TakenItem). (caught t).place) one
   place_of_one None = refl
   place_of_one (Some one) = refl
 
   -- so is its place
-  pub place_is_caught : (taken : List Taken) (offset : ℕ)
-      → option_and_then (λ (t : Taken). (caught t).place) (taken_at taken offset) ≡ place_caught (map caught taken) offset
+  pub place_is_caught : (taken : List TakenItem) (offset : ℕ)
+      → option_and_then (λ (t : TakenItem). (caught t).place) (taken_at taken offset) ≡ place_caught (map caught taken) offset
   place_is_caught taken offset =
       sym (ap (option_and_then (λ (catch : Catch). catch.place)) (caught_at taken offset) ∙ place_of_one (taken_at taken offset))
 
-  taken_if : (b : Bool) (one : Taken) → option_map caught (if b then Some one else None) ≡ (if b then Some (caught one) else None)
+  taken_if : (b : Bool) (one : TakenItem) → option_map caught (if b then Some one else None) ≡ (if b then Some (caught one) else None)
   taken_if true one = refl
   taken_if false one = refl
 
@@ -67,7 +67,7 @@ module _ (content : Content) (left : List Item) where
         ∙ (ap (λ (given : Option Item). if not (is_some (place given)) then Some (whole given) else None) found.1
         ∙ sym (ap (option_and_then (catch_of content seen (IsNotAny (Numbered store)))) found.1)))
 
-  module _ (whole : Bool) (stores : List Store) (context : List ContextItem) (index ahead : ℕ) (taken : List Taken) (all : Option (List Catch))
+  module _ (whole : Bool) (stores : List Store) (context : List ContextItem) (index ahead : ℕ) (taken : List TakenItem) (all : Option (List Catch))
       (few : ahead ≤ length left)
       (same : allowed_catches content whole (map caught taken) (map (item_meaning stores) (drop index context)) (drop (length left - ahead) left) ≡ all) where
     abbrev here : Pattern
@@ -91,7 +91,7 @@ module _ (content : Content) (left : List Item) where
 
     -- where the pattern takes an item, the others catch it behind that
     pub one_is_taken : index < length context → 0 < ahead → true ≡ takes_item (item_meaning [] (get_or context index (Char 0)))
-        → (one : Taken) (more : List Taken) → Some (caught one) ≡ next → more ≡ taken ++ one ∷ []
+        → (one : TakenItem) (more : List TakenItem) → Some (caught one) ≡ next → more ≡ taken ++ one ∷ []
         → allowed_catches content whole (map caught more) behind (drop (length left - (ahead - 1)) left) ≡ all
     one_is_taken within some takes one more is grown =
         let item : takes_item here ≡ true = takes_same stores (pattern_of (get_or context index (Char 0))) ∙ sym takes in

@@ -11,7 +11,7 @@ use Rattle.rule_model.specs.Tab.{tab_rule}
 use Rattle.kmx_parts.specs.declared.context_item.ContextItem.{ContextItem}
 use Rattle.rule_matching.specs.declared.choice.Choice.{Choice}
 use Rattle.rule_matching.specs.declared.place_memory.PlaceMemory.{PlaceMemory}
-use Rattle.rule_matching.specs.declared.taken.Taken.{Taken}
+use Rattle.rule_matching.specs.declared.taken.TakenItem.{TakenItem}
 use Rattle.rule_matching.specs.Matching.{caught_by_all, caught_by_taken, item_meaning, RemembersRight}
 use Rattle.rule_matching.specs.Moment.{content_at}
 
@@ -24,10 +24,10 @@ abbrev pub meaning_in : Choice → ContextItem → Pattern
 meaning_in choice = item_meaning choice.moment.now.tables.stores
 
 -- what is caught by what an item of a context takes
-abbrev pub caught_in : Choice → Taken → Catch
+abbrev pub caught_in : Choice → TakenItem → Catch
 caught_in choice = caught_by_taken (content_of choice) choice.left.now
 
-abbrev pub all_caught : Choice → List Taken → Caught
+abbrev pub all_caught : Choice → List TakenItem → Caught
 all_caught choice = caught_by_all (content_of choice) choice.left.now
 
 -- what a record of a group means

@@ -17,7 +17,7 @@ use Rattle.kmx_parts.specs.declared.context_item.ContextItem.{ContextItem}
 use Rattle.kmx_parts.specs.declared.context_item.ContextItem.TheVariants as item
 use Rattle.kmx_parts.specs.ContextItems.{pattern_of}
 use Rattle.rule_matching.specs.declared.place_memory.PlaceMemory.{PlaceMemory}
-use Rattle.rule_matching.specs.declared.taken.Taken.{Taken}
+use Rattle.rule_matching.specs.declared.taken.TakenItem.{TakenItem}
 use Rattle.rule_matching.specs.KnownPlaces.{known_place}
 use Rattle.rule_matching.specs.Moment.{MomentValue, content_at}
 use Rattle.rule_matching.specs.StoreMarks.{Marking, is_known, is_marked, marked_room}
@@ -62,16 +62,16 @@ compares_store (item.Unequal store value) = true
 compares_store other = false
 
 -- what was taken at an offset, which counts from 1
-abbrev pub taken_at : List Taken → ℕ → Option Taken
+abbrev pub taken_at : List TakenItem → ℕ → Option TakenItem
 taken_at taken zero = None
 taken_at taken (suc before) = slice_get taken before
 
 -- what is caught by what an item of a context takes: the item, and of an `any` the place of that in its store
-abbrev pub caught_by_taken : Content → List Item → Taken → Catch
+abbrev pub caught_by_taken : Content → List Item → TakenItem → Catch
 caught_by_taken content left taken = record { item = item_before left taken.distance; place = option_and_then (λ store. place_before content left store taken.distance) taken.store }
 
 -- what a record has caught by what the items of its context take
-abbrev pub caught_by_all : Content → List Item → List Taken → Caught
+abbrev pub caught_by_all : Content → List Item → List TakenItem → Caught
 caught_by_all content left taken = record { catches = map (caught_by_taken content left) taken; key_place = None }
 
 -- what a pattern catches of an item, where the item stands to it as it asks

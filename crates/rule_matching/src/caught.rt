@@ -9,12 +9,12 @@ use std::marker::Model;
 /// What an item of a context caught: an item of the text where it is a pattern, and of an `any` the first place of that
 /// item in its store.
 #[derive(Clone, Copy, Default, Drop)]
-pub struct Found {
+pub struct MatchedItem {
     pub item: Option<Item>,
     pub place: Option<usize>,
 }
 
-impl Model for Found {
+impl Model for MatchedItem {
     ghost use Rattle.rule_model.specs.declared.event_state.Catch.{Catch};
 
     ghost Value = { Catch };
@@ -26,11 +26,11 @@ impl Model for Found {
 
 /// What a record caught when it matched, by the items of its context. It stays so while the output acts.
 #[derive(Drop)]
-pub struct Caught {
-    found: ArrayVec<Found, 60>,
+pub struct MatchedItems {
+    found: ArrayVec<MatchedItem, 60>,
 }
 
-impl Model for Caught {
+impl Model for MatchedItems {
     ghost use Rattle.std.specs.Prelude.{◌≤◌, length, None};
     ghost use Rattle.rule_model.specs.declared.event_state.Caught.{Caught};
 
@@ -41,12 +41,12 @@ impl Model for Caught {
     ghost invariant = { λ caught. length caught.found.items ≤ 60 };
 }
 
-impl Caught {
+impl MatchedItems {
     /// What an output has that stands for no record.
-    pub fn nothing() -> Caught
+    pub fn nothing() -> MatchedItems
         ensures { result ≡ record { catches = []; key_place = None } }
     {
-        Caught {
+        MatchedItems {
             found: ArrayVec::new(),
         }
     }
@@ -59,7 +59,7 @@ impl Caught {
     }
 
     /// Adds what the next item of a context caught.
-    pub(crate) fn push(&mut self, found: Found)
+    pub(crate) fn push(&mut self, found: MatchedItem)
         requires { length self.old.catches < 60 }
         ensures { self.new ≡ record { catches = self.old.catches ++ found ∷ []; key_place = None } }
     {
@@ -67,7 +67,7 @@ impl Caught {
     }
 
     /// What was found, item by item.
-    pub fn found(&self) -> &[Found]
+    pub fn found(&self) -> &[MatchedItem]
         ensures { result.now ≡ self.now.catches }
     {
         self.found.as_slice()

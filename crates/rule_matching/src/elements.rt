@@ -1,7 +1,7 @@
 ghost use Rattle.std.specs.Prelude.{◌≡◌, Some};
 ghost use Rattle.rule_model.specs.Match.{is_item, same_item, same_element, item_of, catch_at, item_caught, place_caught, is_element, is_same};
 
-use crate::caught::Found;
+use crate::caught::MatchedItem;
 use kmn_base::{Element, Item};
 
 /// Whether an item is the same as an element.
@@ -15,7 +15,7 @@ pub fn is_item(item: Item, element: Element) -> bool
 }
 
 /// Whether two elements are the same.
-#[tactic(auto, using(crate::proofs::Lying::equal_elements))]
+#[tactic(auto, using(rule_model::proofs::SameElements::equal_elements))]
 pub fn same_element(element: Element, other: Element) -> bool
     ensures { result ≡ same_element element other }
 {
@@ -34,21 +34,21 @@ pub fn item_of(element: Element) -> Option<Item>
 }
 
 /// What was found at an offset, which counts from 1.
-fn found_at(seen: &[Found], offset: u32) -> Option<Found>
+fn found_at(seen: &[MatchedItem], offset: u32) -> Option<MatchedItem>
     ensures { result ≡ catch_at seen.now offset }
 {
     seen.get((offset as usize).checked_sub(1)?).copied()
 }
 
 /// The item that was caught at an offset.
-pub fn item_caught(seen: &[Found], offset: u32) -> Option<Item>
+pub fn item_caught(seen: &[MatchedItem], offset: u32) -> Option<Item>
     ensures { result ≡ item_caught seen.now offset }
 {
     found_at(seen, offset)?.item
 }
 
 /// The place that was caught at an offset.
-pub fn place_caught(seen: &[Found], offset: u32) -> Option<usize>
+pub fn place_caught(seen: &[MatchedItem], offset: u32) -> Option<usize>
     ensures { result ≡ place_caught seen.now offset }
 {
     found_at(seen, offset)?.place

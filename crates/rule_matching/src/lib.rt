@@ -8,7 +8,7 @@
 //! store whether the platform has its words (`truths_at`), so that no condition walks over words. The memory knows in which stores
 //! the items before the caret stand, a mark for each store and distance (`specs/StoreMarks`), and the places that were looked for
 //! (`specs/KnownPlaces`). What it knows doesn't matter to the layer above: `first_held` forgets it
-//! first. Of each item of a context that is walked over only what it takes is kept (`Taken`): places are looked up for an `index`
+//! first. Of each item of a context that is walked over only what it takes is kept (`TakenItem`): places are looked up for an `index`
 //! and for the record that holds. Memory is taken by `PlaceMemory::new` and by the copy of a `StoreValue` alone. A stranger's file
 //! can have three hundred million items of contexts walked over for one key, so `takes_context` is kept a function by itself in
 //! the machine's code: what each item asks is inlined in it, and what is done once in a choice is not.
@@ -30,7 +30,7 @@ mod store_marks;
 mod store_value;
 mod taken;
 
-pub use caught::{Caught, Found};
+pub use caught::{MatchedItem, MatchedItems};
 pub use contents::{content, saved_of};
 pub use elements::{item_caught, item_of};
 pub use entered_group::EnteredGroup;

@@ -11,14 +11,14 @@ ghost use Rattle.rule_matching.specs.Choices.{all_caught, caught_in, content_of,
 ghost use Rattle.rule_matching.specs.Matching.{allowed_catches, catch_of, compares_store, is_allowed, item_before, item_meaning, looks_at_store};
 ghost use Rattle.rule_matching.specs.Moment.{content_at, held_record, AreShort};
 
-use crate::caught::Caught;
+use crate::caught::MatchedItems;
 use crate::choice::Choice;
 use crate::elements::{is_element, is_item, is_same};
 use crate::entered_group::EnteredGroup;
 use crate::moment::Moment;
 use crate::place_memory::PlaceMemory;
 use crate::places::{catch_taken, is_in_store, item_before, place_taken};
-use crate::taken::{Taken, item_taken};
+use crate::taken::{TakenItem, item_taken};
 use arrayvec::ArrayVec;
 use kmn_base::{Element, Item, RuleKey};
 use kmx_parts::{ContextItem, FileRule};
@@ -26,10 +26,10 @@ use rule_index::wanted_classes;
 use virtual_keys::Pressed;
 
 /// An item that is taken of no store, where it stands to its pattern as that asks.
-fn storeless(fits: bool, distance: usize) -> Option<Taken>
+fn storeless(fits: bool, distance: usize) -> Option<TakenItem>
     ensures { result ≡ (if fits then Some (record { distance = distance; store = None }) else None) }
 {
-    fits.then_some(Taken {
+    fits.then_some(TakenItem {
         distance,
         store: None,
     })
@@ -42,9 +42,9 @@ fn storeless(fits: bool, distance: usize) -> Option<Taken>
 fn taken_storeless(
     choice: &Choice<'_>,
     distance: usize,
-    taken: &[Taken],
+    taken: &[TakenItem],
     item: ContextItem,
-) -> Option<Taken>
+) -> Option<TakenItem>
     requires within { distance < length choice.now.left.now }
     requires takes { takes_item (tab_pattern [] (pattern_of item)) ≡ true }
     requires storeless { looks_at_store item ≡ false }
@@ -67,10 +67,10 @@ fn taken_storeless(
 fn taken_by(
     choice: &Choice<'_>,
     distance: usize,
-    taken: &[Taken],
+    taken: &[TakenItem],
     item: ContextItem,
     places: &mut PlaceMemory,
-) -> Option<Taken>
+) -> Option<TakenItem>
     requires within { distance < length choice.now.left.now }
     requires takes { takes_item (tab_pattern [] (pattern_of item)) ≡ true }
     requires right { RemembersFor choice.now places.old }
@@ -83,7 +83,7 @@ fn taken_by(
             let store = u32::from(store);
             let is_there = is_in_store(choice, distance, store, places);
             if matches!(&item, ContextItem::Any(_)) {
-                is_there.then_some(Taken {
+                is_there.then_some(TakenItem {
                     distance,
                     store: Some(store),
                 })
@@ -141,7 +141,7 @@ fn takes_context(
     context: &[ContextItem],
     count: usize,
     places: &mut PlaceMemory,
-    taken: &mut ArrayVec<Taken, 60>,
+    taken: &mut ArrayVec<TakenItem, 60>,
 ) -> bool
     requires few { length context.now ≤ CONTEXT_ITEMS }
     requires within { count ≤ length choice.now.left.now }
@@ -158,7 +158,7 @@ fn takes_context(
             if !stands(choice.moment, *item, choice.left.len() == count) {
                 return false;
             }
-            taken.push(Taken {
+            taken.push(TakenItem {
                 distance: choice.left.len(),
                 store: None,
             });
@@ -190,7 +190,7 @@ fn held_record<'g>(
     entered: &EnteredGroup<'_, 'g>,
     number: u32,
     places: &mut PlaceMemory,
-    taken: &mut ArrayVec<Taken, 60>,
+    taken: &mut ArrayVec<TakenItem, 60>,
 ) -> Option<FileRule<'g>>
     requires short { AreShort entered.now.group.now.rules }
     requires index { IsRuleIndexOf entered.now.group.now entered.now.records.now }
@@ -230,7 +230,7 @@ pub fn first_held<'g>(
     entered: &EnteredGroup<'_, 'g>,
     left: &[Item],
     places: &mut PlaceMemory,
-    caught: &mut Caught,
+    caught: &mut MatchedItems,
 ) -> Option<FileRule<'g>>
     requires short { AreShort entered.now.group.now.rules }
     requires index { IsRuleIndexOf entered.now.group.now entered.now.records.now }

@@ -3,11 +3,11 @@ ghost use Rattle.rule_model.specs.Match.{place_caught};
 ghost use Rattle.rule_matching.specs.Choices.{all_caught, caught_in, content_of, RemembersFor};
 ghost use Rattle.rule_matching.specs.Matching.{item_before, place_before};
 
-use crate::caught::{Caught, Found};
+use crate::caught::{MatchedItem, MatchedItems};
 use crate::choice::Choice;
 use crate::marked::is_marked;
 use crate::place_memory::PlaceMemory;
-use crate::taken::{Taken, taken_at};
+use crate::taken::{TakenItem, taken_at};
 use kmn_base::Item;
 use kmn_base::limits::WINDOW_ITEMS;
 
@@ -95,7 +95,7 @@ pub fn is_in_store(
 }
 
 /// The place in its store of what was taken, where an `any` took it.
-fn place_of_taken(choice: &Choice<'_>, taken: Taken, places: &mut PlaceMemory) -> Option<usize>
+fn place_of_taken(choice: &Choice<'_>, taken: TakenItem, places: &mut PlaceMemory) -> Option<usize>
     requires { RemembersFor choice.now places.old }
     ensures place { result ≡ (caught_in choice.now taken).place }
     ensures right { RemembersFor choice.now places.new }
@@ -107,7 +107,7 @@ fn place_of_taken(choice: &Choice<'_>, taken: Taken, places: &mut PlaceMemory) -
 #[tactic(auto, using(crate::proofs::TakenItems::place_is_caught))]
 pub fn place_taken(
     choice: &Choice<'_>,
-    taken: &[Taken],
+    taken: &[TakenItem],
     offset: u16,
     places: &mut PlaceMemory,
 ) -> Option<usize>
@@ -121,9 +121,9 @@ pub fn place_taken(
 /// Catches what was taken: each item, and of each `any` the place too.
 pub fn catch_taken(
     choice: &Choice<'_>,
-    taken: &[Taken],
+    taken: &[TakenItem],
     places: &mut PlaceMemory,
-    caught: &mut Caught,
+    caught: &mut MatchedItems,
 )
     requires few { length taken.now ≤ 60 }
     requires right { RemembersFor choice.now places.old }
@@ -133,7 +133,7 @@ pub fn catch_taken(
     caught.clear();
     for one in taken {
         let place = place_of_taken(choice, *one, places);
-        caught.push(Found {
+        caught.push(MatchedItem {
             item: item_at(choice.left, one.distance),
             place,
         });

@@ -7,20 +7,20 @@ use kmn_base::Item;
 /// What an item of a context takes, told by how many items of the text stand behind what it takes, and of an `any` by the store
 /// that has it too. Where it takes none, that is the count of all items, which none stands behind.
 #[derive(Clone, Copy, Default, Drop)]
-pub struct Taken {
+pub struct TakenItem {
     pub distance: usize,
     pub store: Option<u32>,
 }
 
 /// What was taken at an offset, which counts from 1.
-pub fn taken_at(taken: &[Taken], offset: u16) -> Option<Taken>
+pub fn taken_at(taken: &[TakenItem], offset: u16) -> Option<TakenItem>
     ensures { result ≡ taken_at taken.now offset }
 {
     taken.get((usize::from(offset)).checked_sub(1)?).copied()
 }
 
 /// The item that was taken at an offset.
-pub fn item_taken(left: &[Item], taken: &[Taken], offset: u16) -> Option<Item>
+pub fn item_taken(left: &[Item], taken: &[TakenItem], offset: u16) -> Option<Item>
     ensures { result ≡ option_and_then (λ one. item_before left.now one.distance) (taken_at taken.now offset) }
 {
     item_at(left, taken_at(taken, offset)?.distance)

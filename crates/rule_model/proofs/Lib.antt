@@ -15,3 +15,5 @@ pub mod PlainOptions
 pub mod Soundness
 pub mod Steps
 pub mod SystemOptions
+pub mod SameElements
+pub mod CaughtParts

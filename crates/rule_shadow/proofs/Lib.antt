@@ -4,6 +4,7 @@ pub mod Examples
 pub mod Flags
 pub mod FoundCovers
 pub mod Keys
+pub mod NearRules
 pub mod Ranges
 pub mod Records
 pub mod Rows

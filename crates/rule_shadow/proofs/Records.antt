@@ -27,6 +27,7 @@ use Rattle.rule_model.specs.Hold.{is_true, is_at_start, pattern_count, has_room,
 use Rattle.rule_model.specs.System.{system_ref, is_equal}
 use Rattle.rule_model.specs.Tab.{tab, tab_pattern, tab_rule, elements_of}
 use Rattle.kmx_format.specs.Writable.{is_matched}
+use Rattle.rule_model.proofs.CaughtParts.{caught_parts}
 use Rattle.rule_shadow.specs.declared.cert.Range.{Range}
 use Rattle.rule_shadow.specs.declared.cert.Range.TheVariants as range
 use Rattle.rule_shadow.specs.declared.cert.Place.{Place}
@@ -235,12 +236,6 @@ pub record Held (tables : Tables) (values : List (List Element)) (left : List It
       (drop (length left - pattern_count (map (tab_pattern tables.stores) r.context)) left) ≡ Some catches
   pub key_fits_press : key_fits (if using_keys then r.key else key.Any) press ≡ true
 
-both_caught : (catches : Option (List Catch)) (place : Option (Option ℕ)) (caught : Caught) → caught_by catches place ≡ Some caught
-    → ((c : List Catch) × (catches ≡ Some c)) × ((p : Option ℕ) × (place ≡ Some p))
-both_caught None place caught e = let absurd_case : None ≡ Some caught = e in cc
-both_caught (Some c) None caught e = let absurd_case : None ≡ Some caught = e in cc
-both_caught (Some c) (Some p) caught e = ((c, refl), (p, refl))
-
 fits_placed : (b : Bool) (p : Option ℕ) → (if b then Some None else None) ≡ Some p → b ≡ true
 fits_placed true p e = refl
 fits_placed false p e = let absurd_case : None ≡ Some p = e in cc
@@ -257,7 +252,7 @@ held_parts tables values left press using_keys r caught e =
     elim (cases_Bool right) [
       | inl yes_right ↦
           let parts = and_parts (list_all (is_true has) context) (has_room context left) yes_right in
-          let both = both_caught (catches_from has [] context text) (if key_fits k press then Some None else None) caught (sym (cond-true right all None yes_right) ∙ e) in
+          let both = caught_parts (catches_from has [] context text) (if key_fits k press then Some None else None) caught (sym (cond-true right all None yes_right) ∙ e) in
           record { conditions = parts.0; room = parts.1; catches = both.0.0; caught = both.0.1; key_fits_press = fits_placed (key_fits k press) both.1.0 both.1.1 }
       | inr no_right ↦ let absurd_case : None ≡ Some caught = sym (cond-false right all None no_right) ∙ e in cc
     ]

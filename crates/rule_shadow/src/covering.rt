@@ -96,7 +96,7 @@ fn same_store(a: Pat, b: Pat) -> bool
 }
 
 /// Whether a pattern covers a place.
-fn covers_place(tables: &FlaggedTables, pattern: Pat, place: Place) -> bool
+pub fn covers_place(tables: &FlaggedTables, pattern: Pat, place: Place) -> bool
     ensures { result ≡ covers_place tables.now pattern place }
 {
     same_store(pattern, place.pattern) || covers_range(tables, pattern, place.range)
@@ -119,7 +119,7 @@ fn cover_each(tables: &FlaggedTables, context: &[Pat], places: &[Place]) -> bool
 }
 
 /// How many patterns a context has.
-fn pattern_count(context: &[Pat]) -> usize
+pub fn pattern_count(context: &[Pat]) -> usize
     ensures { result ≡ length (patterns_of context.now) }
 {
     context
@@ -155,7 +155,7 @@ fn same_condition(tables: &FlaggedTables, a: Pat, b: Pat) -> bool
 }
 
 /// Whether two values are the same, element by element.
-#[tactic(auto, using(crate::proofs::Counts::equal_values))]
+#[tactic(auto, using(rule_model::proofs::SameElements::equal_values))]
 fn same_value(value: &[Element], other: &[Element]) -> bool
     ensures { result ≡ same_value value.now other.now }
 {

@@ -1,17 +1,19 @@
 //! What covers a record: the least record before it, or the first place at which least records cover it item by item.
 
-ghost use Rattle.std.specs.Prelude.{◌≡◌, ◌≤◌, ◌<◌, ◌^◌, ◌+◌, [], length, IfOk, filter_map, map};
-ghost use Rattle.std.specs.List.{position_from};
+ghost use Rattle.std.specs.Prelude.{◌≡◌, ◌≤◌, ◌<◌, ◌^◌, ◌+◌, ◌&&◌, [], length, take, slice_get, IfOk, filter_map, map};
+ghost use Rattle.std.specs.List.{list_any, position_from};
 ghost use Rattle.rule_model.specs.Match.{item_of};
 ghost use Rattle.rule_shadow.specs.declared.cert.Cert.{By};
 ghost use Rattle.rule_shadow.specs.Keys.{fitting_presses};
-ghost use Rattle.rule_shadow.specs.Covers.{covers_rule, nothing_narrowed};
+ghost use Rattle.rule_shadow.specs.Covers.{covers_rule, covers_if_any, narrowed, nothing_narrowed};
+ghost use Rattle.rule_shadow.specs.Near.{is_any, is_at_most, near_before, first_near};
 ghost use Rattle.rule_shadow.specs.Finding.{Says, least_by, least_onto, split_rules, first_split, found_for};
 
 use crate::cert::{Cert, Place};
 use crate::certs::{narrowed, nothing_narrowed, split_store};
 use crate::covering::{conditions_too, cover_last, item_of, keeps_nul};
 use crate::key_cover::{fits_each, fitting_presses};
+use crate::near::{Near, is_at_most, near_rules};
 use crate::place_list::{is_matched, places};
 use crate::subject::Subject;
 use kmn_base::slices::before;
@@ -74,23 +76,96 @@ fn least_by(subject: &Subject, presses: &[Pressed], narrowing: &[Option<Item>; 6
     first_covering(subject, presses, places.as_slice(), rules)
 }
 
+/// Whether a record that misses nothing but a place covers one whose places have these ranges.
+fn near_covers(
+    subject: &Subject,
+    presses: &[Pressed],
+    place: u32,
+    places: &[Place],
+    rules: &[Rule],
+    near: Near,
+) -> bool
+    requires { presses.now ≡ fitting_presses subject.now.rule.now.key }
+    ensures { result ≡ (is_at_most place near.miss && covers_if_any subject.now.tables.now subject.now.group.now.using_keys places.now subject.now.rule.now (slice_get rules.now near.rule)) }
+{
+    if !is_at_most(place, near.miss) {
+        return false;
+    }
+    match rules.get(near.rule as usize) {
+        Some(q) => covers_record(subject, presses, places, q),
+        None => false,
+    }
+}
+
+/// The first of the records that miss nothing but a place which covers one whose places have these ranges.
+fn first_near(
+    subject: &Subject,
+    presses: &[Pressed],
+    place: u32,
+    places: &[Place],
+    rules: &[Rule],
+    near: &[Near],
+) -> Option<u32>
+    requires { presses.now ≡ fitting_presses subject.now.rule.now.key }
+    ensures { result ≡ first_near (λ n. is_at_most place n.miss && covers_if_any subject.now.tables.now subject.now.group.now.using_keys places.now subject.now.rule.now (slice_get rules.now n.rule)) near.now }
+{
+    for one in near {
+        if near_covers(subject, presses, place, places, rules, *one) {
+            return Some(one.rule);
+        }
+    }
+    None
+}
+
+/// The records before one that miss one of its places at most.
+fn near_before(alloc: Global, subject: &Subject, presses: &[Pressed]) -> Result<Vec<Near>, Memory>
+    requires few { length subject.now.rule.now.context ≤ 60 }
+    requires fitting { presses.now ≡ fitting_presses subject.now.rule.now.key }
+    ensures { IfOk result (λ near. near.items ≡ near_before subject.now.tables.now subject.now.group.now subject.now.number subject.now.rule.now) }
+{
+    let narrowing = nothing_narrowed();
+    let places = places(subject.tables, &narrowing, subject.rule.context.as_slice());
+    let rules = before(subject.group.rules.as_slice(), subject.number as usize);
+    near_rules(alloc, subject, presses, places.as_slice(), rules)
+}
+
+/// The least record before one that covers it where a place is narrowed to an item.
+fn least_narrowed(
+    subject: &Subject,
+    presses: &[Pressed],
+    near: &[Near],
+    place: u32,
+    item: Item,
+) -> Option<u32>
+    requires few { length subject.now.rule.now.context ≤ 60 }
+    requires fitting { presses.now ≡ fitting_presses subject.now.rule.now.key }
+    requires near { near.now ≡ near_before subject.now.tables.now subject.now.group.now subject.now.number subject.now.rule.now }
+    ensures { result ≡ least_by subject.now.tables.now subject.now.group.now subject.now.number subject.now.rule.now (narrowed nothing_narrowed place item) }
+{
+    let narrowing = narrowed(&nothing_narrowed(), place, item);
+    let places = places(subject.tables, &narrowing, subject.rule.context.as_slice());
+    let rules = before(subject.group.rules.as_slice(), subject.number as usize);
+    first_near(subject, presses, place, places.as_slice(), rules, near)
+}
+
 /// The least record for each item to which a place is narrowed, where each item has one.
 fn least_each(
     alloc: Global,
     subject: &Subject,
     presses: &[Pressed],
+    near: &[Near],
     place: u32,
     elements: &[Element],
 ) -> Result<Option<Seq<u32>>, Memory>
     requires few { length subject.now.rule.now.context ≤ 60 }
     requires fitting { presses.now ≡ fitting_presses subject.now.rule.now.key }
+    requires near { near.now ≡ near_before subject.now.tables.now subject.now.group.now subject.now.number subject.now.rule.now }
     ensures { IfOk result (λ rules. rules ≡ least_onto subject.now.tables.now subject.now.group.now subject.now.number subject.now.rule.now place (filter_map item_of elements.now) []) }
 {
     let mut rules = Vec::new(alloc);
     for element in elements {
         if let Some(item) = item_of(*element) {
-            let narrowing = narrowed(&nothing_narrowed(), place, item);
-            match least_by(subject, presses, &narrowing) {
+            match least_narrowed(subject, presses, near, place, item) {
                 Some(q) => rules.push(q)?,
                 None => return Ok(None),
             }
@@ -104,16 +179,18 @@ fn split_rules(
     alloc: Global,
     subject: &Subject,
     presses: &[Pressed],
+    near: &[Near],
     place: u32,
 ) -> Result<Option<Seq<u32>>, Memory>
     requires few { length subject.now.rule.now.context ≤ 60 }
     requires fitting { presses.now ≡ fitting_presses subject.now.rule.now.key }
+    requires near { near.now ≡ near_before subject.now.tables.now subject.now.group.now subject.now.number subject.now.rule.now }
     ensures { IfOk result (λ rules. rules ≡ split_rules subject.now.tables.now subject.now.group.now subject.now.number subject.now.rule.now place) }
 {
     match split_store(subject, &nothing_narrowed(), place) {
         Some(store) => {
             let elements = subject.tables.elements(store);
-            least_each(alloc, subject, presses, place, elements)
+            least_each(alloc, subject, presses, near, place, elements)
         }
         None => Ok(None),
     }
@@ -124,11 +201,13 @@ fn first_split(
     alloc: Global,
     subject: &Subject,
     presses: &[Pressed],
+    near: &[Near],
     place: u32,
     context: &[Pat],
 ) -> Result<Found, Memory>
     requires few { length subject.now.rule.now.context ≤ 60 }
     requires fitting { presses.now ≡ fitting_presses subject.now.rule.now.key }
+    requires near { near.now ≡ near_before subject.now.tables.now subject.now.group.now subject.now.number subject.now.rule.now }
     requires places { place + length context.now ≤ 60 }
     ensures { IfOk result (λ found. found ≡ first_split subject.now.tables.now subject.now.group.now subject.now.number subject.now.rule.now place context.now) }
 {
@@ -136,12 +215,39 @@ fn first_split(
         return Ok(Found::NotFound);
     };
     if !is_matched(*pattern) {
-        return first_split(alloc, subject, presses, place, rest);
+        return first_split(alloc, subject, presses, near, place, rest);
     }
-    match split_rules(alloc, subject, presses, place)? {
+    match split_rules(alloc, subject, presses, near, place)? {
         Some(rules) => Ok(Found::SplitAt(place, rules)),
-        None => first_split(alloc, subject, presses, place + 1, rest),
+        None => first_split(alloc, subject, presses, near, place + 1, rest),
     }
+}
+
+/// Whether a context has an `any`, at whose place a record may split.
+fn has_any(context: &[Pat]) -> bool
+    ensures { result ≡ list_any is_any context.now }
+{
+    for item in context {
+        if matches!(item, Pat::Any(_)) {
+            return true;
+        }
+    }
+    false
+}
+
+/// The first place at which a record splits.
+#[tactic(auto, using(crate::proofs::NearRules::never_split))]
+fn split_for(alloc: Global, subject: &Subject, presses: &[Pressed]) -> Result<Found, Memory>
+    requires few { length subject.now.rule.now.context ≤ 60 }
+    requires fitting { presses.now ≡ fitting_presses subject.now.rule.now.key }
+    ensures { IfOk result (λ found. found ≡ first_split subject.now.tables.now subject.now.group.now subject.now.number subject.now.rule.now 0 subject.now.rule.now.context) }
+{
+    let context = subject.rule.context.as_slice();
+    if !has_any(context) {
+        return Ok(Found::NotFound);
+    }
+    let near = near_before(alloc, subject, presses)?;
+    first_split(alloc, subject, presses, near.as_slice(), 0, context)
 }
 
 /// What is found for a record.
@@ -153,7 +259,7 @@ pub fn found_for(alloc: Global, subject: &Subject) -> Result<Found, Memory>
     let presses = presses.as_slice();
     match least_by(subject, presses, &nothing_narrowed()) {
         Some(q) => Ok(Found::ByRule(q)),
-        None => first_split(alloc, subject, presses, 0, subject.rule.context.as_slice()),
+        None => split_for(alloc, subject, presses),
     }
 }
 

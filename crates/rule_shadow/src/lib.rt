@@ -17,6 +17,7 @@ mod finding;
 mod flagged;
 mod key_cover;
 mod law;
+mod near;
 mod options;
 mod place_list;
 mod subject;

@@ -2,3 +2,4 @@ pub mod Firsts
 pub mod Naming
 pub mod PlaceLemmas
 pub mod ByAppearance
+pub mod TextSets

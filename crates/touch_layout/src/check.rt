@@ -15,7 +15,7 @@ use crate::faults::{LayoutError, LayoutFault, fault_at, whole_layout};
 use crate::ids::{is_key_id, is_touch_name};
 use crate::keys::TouchKey;
 use crate::layer_ids::{has_next_layer, layer_ids, layers_fault};
-use crate::layers::{Found, Unfit, layout};
+use crate::layers::{FoundKeys, Unfit, layout};
 use crate::ruled::recorded_names;
 use indexed_tables::IndexedTables;
 use indexmap::IndexSet;
@@ -91,7 +91,7 @@ fn found_keys_fault(
     alloc: Global,
     keyboard: &IndexedTables<'_>,
     groups: &[Group],
-    found: &Found<'_>,
+    found: &FoundKeys<'_>,
 ) -> Result<Option<LayoutFault>, Memory>
     ensures { IfOk result (λ fault. fault ≡ keys_fault (has_record (tab keyboard.now).dictionary groups.now)
         (layers_view found.now.layers.items) (keys_view found.now.keys.items)) }
@@ -106,7 +106,7 @@ fn rules_fault(
     alloc: Global,
     keyboard: &IndexedTables<'_>,
     groups: &[Group],
-    found: &Found<'_>,
+    found: &FoundKeys<'_>,
 ) -> Result<Option<LayoutFault>, Memory>
     ensures { IfOk result (λ fault. fault ≡ rules_fault (has_record (tab keyboard.now).dictionary groups.now)
         (Ok (layout_view found.now.layers.items found.now.keys.items))) }

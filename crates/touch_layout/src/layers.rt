@@ -98,7 +98,7 @@ fn add_rows<'v>(
 
 /// What was found of a layout: its layers and its keys, in the order of their places.
 #[derive(Drop)]
-pub struct Found<'v> {
+pub struct FoundKeys<'v> {
     pub layers: Vec<TouchLayer<'v>>,
     pub keys: Vec<TouchKey<'v>>,
 }
@@ -108,7 +108,7 @@ fn add_layer<'v>(
     value: &'v Value,
     platform: u32,
     layer: usize,
-    found: &mut Found<'v>,
+    found: &mut FoundKeys<'v>,
 ) -> Result<(), Unfit>
     ensures { MatchResult result (λ _.
         layer_onto platform layer (layout_view found.old.layers.items found.old.keys.items) (view value.now)
@@ -144,7 +144,11 @@ fn text_in<'v>(value: &'v Value, name: &str) -> Option<&'v str>
 }
 
 /// Adds the layers of a platform.
-fn add_layers<'v>(layers: &'v Vec<Value>, platform: u32, found: &mut Found<'v>) -> Result<(), Unfit>
+fn add_layers<'v>(
+    layers: &'v Vec<Value>,
+    platform: u32,
+    found: &mut FoundKeys<'v>,
+) -> Result<(), Unfit>
     ensures { MatchResult result (λ _.
         platform_layers platform 1 (layout_view found.old.layers.items found.old.keys.items) (items_view layers.now.items)
         ≡ Ok (layout_view found.new.layers.items found.new.keys.items))
@@ -165,7 +169,7 @@ fn add_platform<'v>(
     root: &'v Value,
     name: &str,
     platform: u32,
-    found: &mut Found<'v>,
+    found: &mut FoundKeys<'v>,
 ) -> Result<(), Unfit>
     ensures { MatchResult result (λ _.
         platform_onto platform (layout_view found.old.layers.items found.old.keys.items) (get name.now (view root.now))
@@ -189,12 +193,12 @@ fn add_platform<'v>(
 }
 
 /// Reads a layout.
-pub(crate) fn layout<'v>(alloc: Global, root: &'v Value) -> Result<Found<'v>, Unfit>
+pub(crate) fn layout<'v>(alloc: Global, root: &'v Value) -> Result<FoundKeys<'v>, Unfit>
     ensures { MatchResult result (λ found. layout_of (view root.now)
         ≡ Ok (layout_view found.layers.items found.keys.items))
         (λ e. (place : _) → e ≡ Shape place → layout_of (view root.now) ≡ Err place) }
 {
-    let mut found = Found {
+    let mut found = FoundKeys {
         layers: Vec::new(alloc),
         keys: Vec::new(alloc),
     };

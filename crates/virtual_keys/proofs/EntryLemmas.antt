@@ -1,7 +1,6 @@
 -- The entries of a dictionary: where a name stands, and how a new one is put.
-use Rattle.std.proofs.Common.{◌≡◌, ℕ, ◌<◌, Bool, true, false, List, [], ◌∷◌, ◌++◌, map, length, Some, None, Vec, refl, sym, ap, subst, length-append, get_or, if◌then◌else◌, ◌∙◌, arith}
+use Rattle.std.proofs.Common.{◌≡◌, ℕ, ◌<◌, Bool, false, List, [], ◌∷◌, ◌++◌, map, length, Some, None, Vec, refl, sym, ap, subst, length-append, get_or, if◌then◌else◌, ◌∙◌, arith}
 use Rattle.std.proofs.lemmas.List.{map-append, length-map}
-use Rattle.std.proofs.lemmas.Slice.Eq.{bytes_eq-Decides}
 use Rattle.std.proofs.lemmas.List.Elements.{All-head, All-tail, All-push}
 use Rattle.std.proofs.lemmas.List.Quantifiers.{all_pairs_push}
 use Rattle.std.proofs.lemmas.Iterator.{YieldsList}
@@ -14,6 +13,7 @@ use Rattle.indexmap.specs.IndexMap.{insert_entry}
 use Rattle.kmn_base.specs.Names.{same_name}
 use Rattle.virtual_keys.specs.Dictionary.{place_in, AreDistinct}
 use Rattle.virtual_keys.specs.Entries.{written, AreEntries}
+use Rattle.virtual_keys.proofs.NamePlaces.{same_name-self}
 use Rattle.virtual_keys.proofs.PositionLemmas.{position-map, position-same, none_passes, position-push}
 
 module _ {A : Type 0} where
@@ -46,11 +46,6 @@ insert_entry-last eq (e ∷ entries) key value others =
     let here = All-head (λ e. eq key e.0 ≡ false) e entries others in
     let rest = insert_entry-last eq entries key value (All-tail (λ e. eq key e.0 ≡ false) e entries others) in
     λ j. if here j then (e.0, value) ∷ entries else e ∷ rest j
-
--- a name is the same as itself
-same_name-self : (name : List ℕ) → same_name name name ≡ true
-unfolding same_name
-same_name-self name = (bytes_eq-Decides (str_to_ascii_lowercase name) (str_to_ascii_lowercase name)).1 refl
 
 -- what a map with these names has after a new name is put into it
 module _ {A : Type 0} (entries : List (Vec ℕ A × Vec ℕ A)) (names : List (List ℕ)) (name : List ℕ) (key value : Vec ℕ A) (are : AreEntries entries)

@@ -3,3 +3,4 @@ pub mod GroupLemmas
 pub mod HexLemmas
 pub mod PositionLemmas
 pub mod NamePlaces
+pub mod WordBytes

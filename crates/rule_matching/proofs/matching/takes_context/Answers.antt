@@ -6,7 +6,7 @@ use Rattle.kmx_parts.specs.declared.context_item.ContextItem.{ContextItem}
 use Rattle.kmx_parts.specs.declared.context_item.ContextItem.TheVariants.{Char}
 use Rattle.rule_model.specs.declared.tables.Store.{Store}
 use Rattle.rule_model.specs.Match.{Content}
-use Rattle.rule_matching.specs.declared.taken.Taken.{Taken}
+use Rattle.rule_matching.specs.declared.taken.TakenItem.{TakenItem}
 use Rattle.rule_matching.specs.Matching.{catch_of, caught_by_taken, item_before, item_meaning}
 use Rattle.rule_matching.specs.Moment.{content_at}
 use Rattle.rule_matching.proofs.TakenItems.{one_is_taken, none_is_taken, all_is_taken}
@@ -18,9 +18,9 @@ loop-item-preserved c =
     let stores : List Store = c.args.choice.now.moment.now.tables.stores in
     let left : List Item = c.args.choice.now.left.now in
     let context : List ContextItem = c.args.context.now in
-    let taken : List Taken = c.loop-item.taken.items in
+    let taken : List TakenItem = c.loop-item.taken.items in
     let some : 0 < c.loop-item.ahead = omega (arith, c.if-ahead-eq0.false) in
-    let next : List Taken → Option Catch = λ (before : List Taken). option_and_then
+    let next : List TakenItem → Option Catch = λ (before : List TakenItem). option_and_then
     (catch_of content (map (caught_by_taken content left) before) (item_meaning stores (get_or context c.loop-item.item-index (Char 0))))
     (item_before left (c.loop-item.ahead - 1)) in
     record {
@@ -45,9 +45,9 @@ returns-in-None-clause-taken c =
     let stores : List Store = c.args.choice.now.moment.now.tables.stores in
     let left : List Item = c.args.choice.now.left.now in
     let context : List ContextItem = c.args.context.now in
-    let taken : List Taken = c.loop-item.taken.items in
+    let taken : List TakenItem = c.loop-item.taken.items in
     let some : 0 < c.loop-item.ahead = omega (arith, c.if-ahead-eq0.false) in
-    let next : List Taken → Option Catch = λ (before : List Taken). option_and_then
+    let next : List TakenItem → Option Catch = λ (before : List TakenItem). option_and_then
     (catch_of content (map (caught_by_taken content left) before) (item_meaning stores (get_or context c.loop-item.item-index (Char 0))))
     (item_before left (c.loop-item.ahead - 1)) in
     none_is_taken content left (nat_eq (length left) c.args.count) stores context c.loop-item.item-index c.loop-item.ahead taken _

@@ -28,7 +28,7 @@ use Rattle.std.specs.contracts.impls.GlobalAllocator.TheImpl.{ghosts}
 use Rattle.curlew_calls.specs.contracts.field.OpenField.{the_row as R}
 use Rattle.curlewmetal.proofs.Handles.{Z, both, nowhere, good, good_nowhere, held_out, field_out, parts_in}
 use Rattle.curlewmetal.specs.contracts.field.Field as field
-use Rattle.curlewmetal.specs.contracts.parts.Parts as parts
+use Rattle.curlewmetal.specs.contracts.parts.BoxParts as parts
 use Rattle.curlewmetal.specs.contracts.field.Field.into_parts.{ended, clauses}
 use Rattle.curlewmetal.specs.contracts.field.Field.into_parts.Key.{name as #self}
 use Rattle.curlewmetal.proofs.field.Field.into_parts.Statement.{statement}

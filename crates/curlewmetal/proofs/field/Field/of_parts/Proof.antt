@@ -22,7 +22,7 @@ use Rattle.std.specs.declared.option.Option.TheVariants.{Some}
 use Rattle.std.specs.contracts.impls.GlobalAllocator.TheImpl.{ghosts}
 use Rattle.curlew_calls.specs.contracts.field.OpenField.{the_row as R}
 use Rattle.curlewmetal.proofs.Handles.{Z, both, good, parts_out, field_in}
-use Rattle.curlewmetal.specs.contracts.parts.Parts as parts
+use Rattle.curlewmetal.specs.contracts.parts.BoxParts as parts
 use Rattle.curlewmetal.specs.contracts.field.Field.of_parts.{ended, clauses}
 use Rattle.curlewmetal.specs.contracts.field.Field.of_parts.Key.{name as #self}
 use Rattle.curlewmetal.proofs.field.Field.of_parts.Statement.{statement}

@@ -1,0 +1,5 @@
+pub mod Constructs
+pub mod Differences
+pub mod Found
+pub mod Laws
+pub mod Saves

@@ -1,0 +1,83 @@
+//! The records of a file, with their offsets as they stand there.
+
+ghost use Rattle.std.specs.Prelude.{◌≡◌, ◌<◌, ◌^◌};
+ghost use Rattle.kmx_parts.specs.View.{store_ref, group_ref, rule_ref};
+
+use crate::numbers::{half_at, word_at};
+
+/// The record of a store: its system id, and the offsets of its name and its elements.
+#[derive(Clone, Copy, Debug, PartialEq, Eq)]
+pub struct StoreRef {
+    pub system: u32,
+    pub name: u32,
+    pub string: u32,
+}
+
+/// The record of a group: the offsets of its name, its match and its nomatch output, the place and the count of its key
+/// records, and 0 for a group without keys.
+#[derive(Clone, Copy, Debug, PartialEq, Eq)]
+pub struct GroupRef {
+    pub name: u32,
+    pub keys: u32,
+    pub on_match: u32,
+    pub on_nomatch: u32,
+    pub count: u32,
+    pub using_keys: u32,
+}
+
+/// A key record: its key, its line, its shift flags, and the offsets of its output and its context.
+#[derive(Clone, Copy, Debug, PartialEq, Eq)]
+pub struct RuleRef {
+    pub key: u16,
+    pub line: u32,
+    pub flags: u32,
+    pub output: u32,
+    pub context: u32,
+}
+
+impl StoreRef {
+    /// The record of a store at a place.
+    pub(crate) fn at(bytes: &[u8], place: usize) -> StoreRef
+        requires { place < 2 ^ 62 }
+        ensures { result ≡ store_ref bytes.now place }
+    {
+        StoreRef {
+            system: word_at(bytes, place),
+            name: word_at(bytes, place + 4),
+            string: word_at(bytes, place + 8),
+        }
+    }
+}
+
+impl GroupRef {
+    /// The record of a group at a place.
+    pub(crate) fn at(bytes: &[u8], place: usize) -> GroupRef
+        requires { place < 2 ^ 62 }
+        ensures { result ≡ group_ref bytes.now place }
+    {
+        GroupRef {
+            name: word_at(bytes, place),
+            keys: word_at(bytes, place + 4),
+            on_match: word_at(bytes, place + 8),
+            on_nomatch: word_at(bytes, place + 12),
+            count: word_at(bytes, place + 16),
+            using_keys: word_at(bytes, place + 20),
+        }
+    }
+}
+
+impl RuleRef {
+    /// The key record at a place.
+    pub(crate) fn at(bytes: &[u8], place: usize) -> RuleRef
+        requires { place < 2 ^ 62 }
+        ensures { result ≡ rule_ref bytes.now place }
+    {
+        RuleRef {
+            key: half_at(bytes, place),
+            line: word_at(bytes, place + 4),
+            flags: word_at(bytes, place + 8),
+            output: word_at(bytes, place + 12),
+            context: word_at(bytes, place + 16),
+        }
+    }
+}

@@ -1,0 +1,11 @@
+-- What is caught is what the context and the key caught, each of which stands.
+use Rattle.std.proofs.Common.{◌≡◌, ℕ, List, Option, Some, None, refl}
+use Rattle.rule_model.specs.declared.event_state.Catch.{Catch}
+use Rattle.rule_model.specs.declared.event_state.Caught.{Caught}
+use Rattle.rule_model.specs.Hold.{caught_by}
+
+pub caught_parts : (catches : Option (List Catch)) (place : Option (Option ℕ)) (caught : Caught) → caught_by catches place ≡ Some caught
+    → ((r : List Catch) × (catches ≡ Some r)) × ((p : Option ℕ) × (place ≡ Some p))
+caught_parts None place caught e = let absurd_case : None ≡ Some caught = e in cc
+caught_parts (Some r) None caught e = let absurd_case : None ≡ Some caught = e in cc
+caught_parts (Some r) (Some p) caught e = ((r, refl), (p, refl))

@@ -1,0 +1,146 @@
+//! Records that cover one but for one place: only these can cover it once that place is narrowed.
+
+ghost use Rattle.std.specs.Prelude.{◌≡◌, ◌+◌, ◌<◌, ◌^◌, ◌++◌, length, option_to_list, IfOk};
+ghost use Rattle.rule_shadow.specs.Keys.{fitting_presses};
+ghost use Rattle.rule_shadow.specs.Places.{patterns_of};
+ghost use Rattle.rule_shadow.specs.Near.{hands_on, missed_from, miss_of, missed_last, miss_by, is_several, is_at_most, near_rules};
+
+use crate::cert::Place;
+use crate::covering::{covers_place, pattern_count};
+use crate::flagged::FlaggedTables;
+use crate::key_cover::fits_each;
+use crate::place_list::is_matched;
+use crate::subject::Subject;
+use kmn_base::Memory;
+use rule_model::{Pat, Rule};
+use std::alloc::Global;
+use virtual_keys::Pressed;
+
+/// The places of a record, but for `context` items, that another one doesn't cover.
+#[derive(Clone, Copy)]
+pub enum Miss {
+    Nowhere,
+    At(usize),
+    Several,
+}
+
+/// A record by its number, and the place that it misses, if any.
+#[derive(Clone, Copy, Drop)]
+pub struct Near {
+    pub rule: u32,
+    pub miss: Miss,
+}
+
+/// Whether a pattern has the range of another place.
+fn hands_on(pattern: Pat) -> bool
+    ensures { result ≡ hands_on pattern }
+{
+    matches!(&pattern, Pat::ContextAt(_))
+}
+
+/// What is missed where no place is left.
+fn miss_of(missed: Option<usize>) -> Miss
+    ensures { result ≡ miss_of (option_to_list missed) }
+{
+    match missed {
+        Some(place) => Miss::At(place),
+        None => Miss::Nowhere,
+    }
+}
+
+/// The places, counted from a number on, that the patterns of a context don't cover, behind one that may have been missed.
+fn missed_from(
+    tables: &FlaggedTables,
+    missed: Option<usize>,
+    from: usize,
+    context: &[Pat],
+    places: &[Place],
+) -> Miss
+    requires { from + length places.now < 2 ^ 63 }
+    ensures { result ≡ miss_of (option_to_list missed ++ missed_from tables.now from (patterns_of context.now) places.now) }
+{
+    let [pattern, rest @ ..] = context else {
+        return miss_of(missed);
+    };
+    if !is_matched(*pattern) {
+        return missed_from(tables, missed, from, rest, places);
+    }
+    let [place, behind @ ..] = places else {
+        return miss_of(missed);
+    };
+    if hands_on(place.pattern) || covers_place(tables, *pattern, *place) {
+        return missed_from(tables, missed, from + 1, rest, behind);
+    }
+    if missed.is_some() {
+        return Miss::Several;
+    }
+    missed_from(tables, Some(from), from + 1, rest, behind)
+}
+
+/// Which of the last places the patterns of a context don't cover.
+fn missed_last(tables: &FlaggedTables, context: &[Pat], places: &[Place]) -> Miss
+    ensures { result ≡ missed_last tables.now (patterns_of context.now) places.now }
+{
+    let count = pattern_count(context);
+    if count > places.len() {
+        return Miss::Several;
+    }
+    let from = places.len() - count;
+    missed_from(tables, None, from, context, &places[from..])
+}
+
+/// Which places of a record another one doesn't cover.
+#[tactic(auto, using(crate::proofs::Tried::fitting_tell))]
+fn miss_by(subject: &Subject, presses: &[Pressed], places: &[Place], q: &Rule) -> Miss
+    requires { presses.now ≡ fitting_presses subject.now.rule.now.key }
+    ensures { result ≡ miss_by subject.now.tables.now subject.now.group.now.using_keys places.now subject.now.rule.now q.now }
+{
+    if !subject.group.using_keys || fits_each(q.key, presses) {
+        missed_last(subject.tables, q.context.as_slice(), places)
+    } else {
+        Miss::Several
+    }
+}
+
+/// Whether several places are missed.
+fn is_several(miss: Miss) -> bool
+    ensures { result ≡ is_several miss }
+{
+    matches!(&miss, Miss::Several)
+}
+
+/// Whether nothing but a place is missed.
+pub fn is_at_most(place: u32, miss: Miss) -> bool
+    ensures { result ≡ is_at_most place miss }
+{
+    match miss {
+        Miss::Nowhere => true,
+        Miss::At(other) => other == place as usize,
+        Miss::Several => false,
+    }
+}
+
+/// The records that miss one place at most.
+pub fn near_rules(
+    alloc: Global,
+    subject: &Subject,
+    presses: &[Pressed],
+    places: &[Place],
+    rules: &[Rule],
+) -> Result<Vec<Near>, Memory>
+    requires few { length rules.now < 2 ^ 32 }
+    requires fitting { presses.now ≡ fitting_presses subject.now.rule.now.key }
+    ensures { IfOk result (λ near. near.items ≡ near_rules (miss_by subject.now.tables.now subject.now.group.now.using_keys places.now subject.now.rule.now) 0 rules.now) }
+{
+    let mut near = Vec::new(alloc);
+    for n in 0..rules.len() {
+        let miss = miss_by(subject, presses, places, &rules[n]);
+        if !is_several(miss) {
+            near.push(Near {
+                rule: n as u32,
+                miss,
+            })?;
+        }
+    }
+    Ok(near)
+}
