@@ -1,20 +1,10 @@
-//! Sources, each with its first refusal or with `ok`. In a row, what stands before the first `:` opens the source: `K`
-//! two lines with the group `main` that uses keys, `S` these and five lines of stores, `N` the same seven lines with a
-//! group that uses none, `A` nothing. Then comes the source's text, and behind ` ⇒ ` the answer. In the text `¶` is a
-//! line feed, and `⟨TEXT×COUNT⟩` is the text so many times, in which `№` is the number of the copy, from 0.
+//! Sources, each with its first refusal or with `ok`, in rows that `source_of` reads.
 
-use crate::fixtures::KEYBOARD;
+use crate::rows::source_of;
 use kmn_base::{CompileError, Refusal};
 use kmn_compiler::front;
-use std::alloc::{AllocError, Global};
-use std::fmt::Write;
+use std::alloc::Global;
 use std::test::Fail;
-
-const STORES: &str = "begin Unicode > use(main)\ngroup(main) using keys\n\
-    store(v) 'ab'\nstore(k) [K_A] [SHIFT K_B]\nstore(m) dk(x)\nstore(e)\nstore(o) \"0\"\n";
-
-const WITHOUT_KEYS: &str = "begin Unicode > use(main)\ngroup(main)\n\
-    store(v) 'ab'\nstore(k) [K_A] [SHIFT K_B]\nstore(m) dk(x)\nstore(e)\nstore(o) \"0\"\n";
 
 /// What a program must have, and the names of its stores and groups.
 const NAMES: &str = r##"A: ⇒ C01 1
@@ -410,62 +400,6 @@ const SAMPLE: &str =
     any(acute) + [K_BKSP] > index(plain, 1) dk(acute)¶+ [T_flip] > use(flip)¶if(quotes = \"1\") + '\"' > U+201C¶\
     + [CTRL ALT K_Q] > set(quotes = \"1\") save(quotes)¶+ '-' > '-'¶match > use(after)¶group(flip)¶\
     any(acute) > index(grave, 1)¶any(grave) > index(acute, 1)¶nomatch > beep¶group(after)¶'--' > U+2013 ⇒ ok";
-
-/// What opens a row's source.
-fn opening(word: &str) -> &'static str {
-    match word {
-        "K" => KEYBOARD,
-        "S" => STORES,
-        "N" => WITHOUT_KEYS,
-        _ => "",
-    }
-}
-
-/// Writes a text of a row, as the copy of this number.
-fn write_copy(out: &mut String, text: &str, copy: u32) -> Result<(), AllocError> {
-    for c in text.chars() {
-        match c {
-            '¶' => out.push('\n')?,
-            '№' => write!(out, "{copy}")?,
-            other => out.push(other)?,
-        }
-    }
-    Ok(())
-}
-
-fn write_copies(out: &mut String, text: &str, count: u32) -> Result<(), AllocError> {
-    for copy in 0..count {
-        write_copy(out, text, copy)?;
-    }
-    Ok(())
-}
-
-/// Writes a piece of a row: a text, and perhaps copies of another.
-fn write_piece(out: &mut String, piece: &str) -> Result<(), Fail> {
-    match piece.split_once('⟨') {
-        Some((text, copies)) => {
-            write_copy(out, text, 0)?;
-            let (copied, count) = copies.split_once('×').ok_or("copies without a count")?;
-            let count = count
-                .parse::<u32>()
-                .ok()
-                .ok_or("a count that is no number")?;
-            Ok(write_copies(out, copied, count)?)
-        }
-        None => Ok(write_copy(out, piece, 0)?),
-    }
-}
-
-/// The source of a row.
-fn source_of(alloc: Global, row: &str) -> Result<String, Fail> {
-    let (word, text) = row.split_once(':').ok_or("a row without an opening")?;
-    let mut source = String::new(alloc);
-    source.push_str(opening(word))?;
-    for piece in text.split('⟩') {
-        write_piece(&mut source, piece)?;
-    }
-    Ok(source)
-}
 
 /// Whether a row has the code and the line of a refusal.
 fn is_refusal(refusal: Refusal, wanted: &str) -> bool {

@@ -1,9 +1,12 @@
-//! Sources, and what they compile to or how they are refused.
+//! Sources, and what they compile to or how they are refused. `source_of` reads the source of a row, and behind ` ⇒ ` stands
+//! the answer: the lines of the file's records in their order, as the digits of a number, and its size; or the refusal.
 
 use crate::fixtures::{KEYBOARD, with_line};
-use kmn_base::{Code, CompileError};
+use crate::rows::source_of;
 use kmn_compiler::{Compiled, compile, front, picture_name};
 use std::alloc::{AllocError, Global};
+use std::fmt::Write;
+use std::str;
 use std::test::Fail;
 
 /// The file of one rule, `+ 'a' > 'b'` in line 3, in a group `main` that uses keys.
@@ -15,71 +18,30 @@ const ONE_RULE: &[u8] = &[
     0x61, 0, 0x69, 0, 0x6E, 0, 0, 0, 0x62, 0, 0, 0,
 ];
 
-/// What a source compiles to: the lines of its records in their order, as digits, and its size; or where it is refused; or
-/// the size that its file would have.
-#[derive(Clone, Copy, PartialEq)]
-enum Answer {
-    File(u64, usize),
-    Refused(u32, Code),
-    TooLarge(Code, u64),
-}
+/// Sources without a picture.
+const SOURCES: &str =
+    r##"A:store(v) 'a' \¶'e' \¶'i' c vowels \¶begin Unicode > use(main)¶group(main) using keys¶+ any(v) > 'x' ⇒ lines 666 size 194
+A:begin Unicode>use(main)¶group(main) using keys¶+ 'c' > 'x'¶'a' + 'c' > 'y' ⇒ lines 43 size 150
+A:begin Unicode>use(main)¶group(main) using keys¶+ 'a' > 'x'¶+ [K_A] > 'y' ⇒ lines 34 size 146
+A:store(k) [K_A] [SHIFT K_A]¶store(o) 'xy'¶begin Unicode>use(main)¶group(main) using keys¶+ any(k) > index(o,1) ⇒ lines 55 size 206
+A:store(&casedkeys) [K_A] [K_B] [K_C]¶begin Unicode > use(main)¶group(main) using keys¶+ [K_B] > 'x' ⇒ lines 44 size 190
+A: ⇒ refused C01 line 1
+A:begin Unicode>use(main)¶group(main) using keys¶+ 'a' >  ⇒ refused S06 line 3
+A:begin Unicode>use(main)¶group(main) using keys¶+ 'a' > call(d)¶any(q) + 'b' > 'c' ⇒ refused C05 line 4
+A:begin Unicode>use(main)¶group(main) using keys¶+ 'a' > call(d) ⇒ refused C11 line 3
+A:begin Unicode>use(main)¶group(main) using keys¶store(&version) '5.0' ⇒ refused C12 line 3"##;
 
-/// Sources, and what they compile to without a picture.
-const SOURCES: &[(&str, Answer)] = &[
-    (
-        "store(v) 'a' \\\n'e' \\\n'i' c vowels \\\nbegin Unicode > use(main)\ngroup(main) using keys\n+ any(v) > 'x'",
-        Answer::File(666, 194),
-    ),
-    (
-        "begin Unicode>use(main)\ngroup(main) using keys\n+ 'c' > 'x'\n'a' + 'c' > 'y'",
-        Answer::File(43, 150),
-    ),
-    (
-        "begin Unicode>use(main)\ngroup(main) using keys\n+ 'a' > 'x'\n+ [K_A] > 'y'",
-        Answer::File(34, 146),
-    ),
-    (
-        "store(k) [K_A] [SHIFT K_A]\nstore(o) 'xy'\nbegin Unicode>use(main)\ngroup(main) using keys\n+ any(k) > index(o,1)",
-        Answer::File(55, 206),
-    ),
-    (
-        "store(&casedkeys) [K_A] [K_B] [K_C]\nbegin Unicode > use(main)\ngroup(main) using keys\n+ [K_B] > 'x'",
-        Answer::File(44, 190),
-    ),
-    ("", Answer::Refused(1, Code::C01)),
-    (
-        "begin Unicode>use(main)\ngroup(main) using keys\n+ 'a' > ",
-        Answer::Refused(3, Code::S06),
-    ),
-    (
-        "begin Unicode>use(main)\ngroup(main) using keys\n+ 'a' > call(d)\nany(q) + 'b' > 'c'",
-        Answer::Refused(4, Code::C05),
-    ),
-    (
-        "begin Unicode>use(main)\ngroup(main) using keys\n+ 'a' > call(d)",
-        Answer::Refused(3, Code::C11),
-    ),
-    (
-        "begin Unicode>use(main)\ngroup(main) using keys\nstore(&version) '5.0'",
-        Answer::Refused(3, Code::C12),
-    ),
-];
+/// Sources with a picture of four bytes. The name of the picture stands before the answer, `-` where there is none.
+const PICTURES: &str =
+    r##"A:store(&bitmap) 'p.ico'¶begin Unicode > use(main)¶group(main) using keys¶+ 'a' > 'b'¶ ⇒ p.ico lines 4 size 150
+A:store(n) 'p'¶store(&bitmap) $n '.ico'¶store(&bitmap) 'q'¶begin Unicode > use(main)¶group(main) using keys¶+ 'a' > 'b'¶ ⇒ p.ico lines 6 size 186
+A:store(&bitmap) ''¶begin Unicode > use(main)¶group(main) using keys¶+ 'a' > 'b'¶ ⇒ - lines 4 size 138
+A:¶begin Unicode > use(main)¶group(main) using keys¶+ 'a' > 'b'¶ ⇒ - lines 4 size 126"##;
 
-/// The statements before a source of one rule, its picture's name, and what it compiles to with a picture of four bytes.
-const PICTURES: &[(&str, Option<&str>, Answer)] = &[
-    (
-        "store(&bitmap) 'p.ico'",
-        Some("p.ico"),
-        Answer::File(4, 150),
-    ),
-    (
-        "store(n) 'p'\nstore(&bitmap) $n '.ico'\nstore(&bitmap) 'q'",
-        Some("p.ico"),
-        Answer::File(6, 186),
-    ),
-    ("store(&bitmap) ''", None, Answer::File(4, 138)),
-    ("", None, Answer::File(4, 126)),
-];
+/// Sources whose records put 1,024 characters each, with the end of the answer.
+const LONG: &str =
+    r##"A:store(s) '⟨x×1024⟩'¶begin Unicode > use(main)¶group(main) using keys¶⟨+ 'a' > outs(s)¶×32418⟩ ⇒  size 67107424
+A:store(s) '⟨x×1024⟩'¶begin Unicode > use(main)¶group(main) using keys¶⟨+ 'a' > outs(s)¶×32419⟩ ⇒ refused C23 size 67109494"##;
 
 /// The lines of records in their order, as the digits of a number.
 fn record_lines(compiled: &Compiled) -> u64 {
@@ -92,85 +54,68 @@ fn record_lines(compiled: &Compiled) -> u64 {
     lines
 }
 
-/// The answer for a source with a picture.
-fn answered(alloc: Global, source: &[u8], picture: &[u8]) -> Result<Answer, Fail> {
+/// Writes the answer for a source with a picture.
+fn write_answer(
+    alloc: Global,
+    out: &mut String,
+    source: &[u8],
+    picture: &[u8],
+) -> Result<(), AllocError> {
     match compile(alloc, source, picture) {
-        Ok(compiled) => Ok(Answer::File(record_lines(&compiled), compiled.bytes.len())),
-        Err(CompileError::Refused(refusal)) => Ok(Answer::Refused(refusal.line, refusal.code)),
-        Err(CompileError::TooLarge { code, size }) => Ok(Answer::TooLarge(code, size)),
-        Err(error) => Err(error.into()),
+        Ok(compiled) => {
+            let lines = record_lines(&compiled);
+            write!(out, "lines {lines} size {}", compiled.bytes.len())
+        }
+        Err(error) => write!(out, "{error}"),
     }
 }
 
-fn compiles_to(alloc: Global, source: &str, wanted: Answer) -> Result<bool, Fail> {
-    Ok(answered(alloc, source.as_bytes(), &[])? == wanted)
+/// The answer for a source without a picture.
+fn answered(alloc: Global, row: &str) -> Result<String, Fail> {
+    let source = source_of(alloc, row)?;
+    let mut out = String::new(alloc);
+    write_answer(alloc, &mut out, source.as_bytes(), &[])?;
+    Ok(out)
 }
 
-/// Whether a source has this picture's name, or none.
-fn is_named(alloc: Global, source: &[u8], wanted: Option<&str>) -> Result<bool, Fail> {
+/// Writes the name of a source's picture.
+fn write_name(alloc: Global, out: &mut String, source: &[u8]) -> Result<(), Fail> {
     let checked = front(alloc, source)?;
-    Ok(match (picture_name(alloc, &checked)?, wanted) {
-        (Some(name), Some(wanted)) => name.as_slice() == wanted.as_bytes(),
-        (None, None) => true,
-        _ => false,
-    })
-}
-
-/// Whether a row of pictures is as it says.
-fn is_pictured(
-    alloc: Global,
-    statements: &str,
-    name: Option<&str>,
-    wanted: Answer,
-) -> Result<bool, Fail> {
-    let mut source = with_line(alloc, &[], statements.as_bytes())?;
-    source.extend_from_slice(KEYBOARD.as_bytes())?;
-    let source = with_line(alloc, source.as_slice(), b"+ 'a' > 'b'")?;
-    Ok(
-        is_named(alloc, source.as_slice(), name)?
-            && answered(alloc, source.as_slice(), &[0, 1, 2, 3])? == wanted,
-    )
-}
-
-fn add_copies(source: &mut Vec<u8>, text: &[u8], count: u32) -> Result<(), AllocError> {
-    for _ in 0..count {
-        source.extend_from_slice(text)?;
+    match picture_name(alloc, &checked)? {
+        Some(name) => out.push_str(str::from_utf8(name.as_slice()).unwrap_or("?"))?,
+        None => out.push('-')?,
     }
     Ok(())
 }
 
-/// The size of the file of so many records that put 1,024 characters each, or how it is refused.
-fn long_file(alloc: Global, records: u32) -> Result<Result<usize, (Code, u64)>, Fail> {
-    let mut source = Vec::from_slice(alloc, b"store(s) '")?;
-    add_copies(&mut source, b"x", 1_024)?;
-    source.extend_from_slice(b"'\n")?;
-    source.extend_from_slice(KEYBOARD.as_bytes())?;
-    add_copies(&mut source, b"+ 'a' > outs(s)\n", records)?;
-    match compile(alloc, source.as_slice(), &[]) {
-        Ok(compiled) => Ok(Ok(compiled.bytes.len())),
-        Err(CompileError::TooLarge { code, size }) => Ok(Err((code, size))),
-        Err(error) => Err(error.into()),
-    }
+/// The name of a source's picture, and the answer for it with a picture of four bytes.
+fn pictured(alloc: Global, row: &str) -> Result<String, Fail> {
+    let source = source_of(alloc, row)?;
+    let mut out = String::new(alloc);
+    write_name(alloc, &mut out, source.as_bytes())?;
+    out.push(' ')?;
+    write_answer(alloc, &mut out, source.as_bytes(), &[0, 1, 2, 3])?;
+    Ok(out)
 }
 
-/// The first row of `SOURCES` that isn't right.
-fn wrong_source(alloc: Global) -> Result<Option<&'static str>, Fail> {
-    for &(source, wanted) in SOURCES {
-        if !compiles_to(alloc, source, wanted)? {
-            return Ok(Some(source));
-        }
-    }
-    Ok(None)
+/// The source of a row and its answer.
+fn parted(row: &str) -> Result<(&str, &str), &'static str> {
+    row.split_once(" ⇒ ").ok_or("a row without an answer")
 }
 
-/// The first row of `PICTURES` that isn't right, by its statements.
-fn wrong_picture(alloc: Global) -> Result<Option<&'static str>, Fail> {
-    for &(statements, name, wanted) in PICTURES {
-        if !is_pictured(alloc, statements, name, wanted)? {
-            return Ok(Some(statements));
-        }
-    }
-    Ok(None)
+fn is_right(alloc: Global, row: &str) -> Result<bool, Fail> {
+    let (text, wanted) = parted(row)?;
+    Ok(answered(alloc, text)?.as_str() == wanted)
+}
+
+fn is_right_with_picture(alloc: Global, row: &str) -> Result<bool, Fail> {
+    let (text, wanted) = parted(row)?;
+    Ok(pictured(alloc, text)?.as_str() == wanted)
+}
+
+fn ends_right(alloc: Global, row: &str) -> Result<bool, Fail> {
+    let (text, wanted) = parted(row)?;
+    Ok(answered(alloc, text)?.as_str().ends_with(wanted))
 }
 
 /// Whether the keyboard of one rule is compiled to its file.
@@ -182,17 +127,30 @@ fn is_one_rule(alloc: Global) -> Result<bool, Fail> {
 
 #[test]
 fn compiles_or_refuses(rt: HostRuntime) -> Result<(), Fail> {
-    let wrong = wrong_source(rt.alloc())?;
-    assert!(rt; wrong.is_none(), "{}", wrong.unwrap_or(""));
-    let wrong = wrong_picture(rt.alloc())?;
-    assert!(rt; wrong.is_none(), "{}", wrong.unwrap_or(""));
+    for row in SOURCES.lines() {
+        assert!(rt; is_right(rt.alloc(), row)?, "{row}");
+    }
+    Ok(())
+}
+
+#[test]
+fn compiles_with_pictures(rt: HostRuntime) -> Result<(), Fail> {
+    for row in PICTURES.lines() {
+        assert!(rt; is_right_with_picture(rt.alloc(), row)?, "{row}");
+    }
+    Ok(())
+}
+
+#[test]
+fn compiles_one_rule(rt: HostRuntime) -> Result<(), Fail> {
     assert!(rt; is_one_rule(rt.alloc())?);
     Ok(())
 }
 
 #[test]
 fn refuses_too_large_files(rt: HostRuntime) -> Result<(), Fail> {
-    assert!(rt; long_file(rt.alloc(), 32_418)? == Ok(67_107_424));
-    assert!(rt; long_file(rt.alloc(), 32_419)? == Err((Code::C23, 67_109_494)));
+    for row in LONG.lines() {
+        assert!(rt; ends_right(rt.alloc(), row)?, "{row}");
+    }
     Ok(())
 }

@@ -2,8 +2,8 @@
 //! `expanding` of `rule_expand`, and `compiling` of `kmn_compiler`.
 //!
 //! They stand here because a crate with tests is proved twice, once with them and once without: so each of those crates is
-//! proved once, and the tests are proved over them, beside those of `source_tests`. `fixtures` has what several of them
-//! take. No layer stands above.
+//! proved once, and the tests are proved over them, beside those of `source_tests`. `rows` has the sources of rows, and
+//! `fixtures` what the tests of compiling take. No layer stands above.
 #![tactic(auto)]
 
 #[cfg(test)]
@@ -15,3 +15,5 @@ mod expanding;
 pub mod fixtures;
 #[cfg(test)]
 mod ordering;
+#[cfg(test)]
+mod rows;

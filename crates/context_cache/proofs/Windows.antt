@@ -4,6 +4,7 @@ use Rattle.std.specs.Prelude.{◌||◌}
 use Rattle.std.specs.List.{remove, ends_with}
 use Rattle.std.proofs.lemmas.List.{drop-append-le, drop-map, drop-take, length-map, length-take}
 use Rattle.std.proofs.lemmas.Grind.{common_steps}
+use Rattle.std.proofs.Math.Seq.{drop-append_seam, take-append_seam}
 use Rattle.std.proofs.Math.Nat.{min-eq_left}
 use Rattle.std.proofs.lemmas.Slice.Eq.{bytes_eq-Decides}
 use Rattle.std.proofs.lemmas.Bool.{cases_Bool, eqb-true, and_parts}
@@ -39,6 +40,18 @@ filled_in text old before missing few at is =
     ∙ ap (λ n. drop n (map Char front ++ old)) start
     ∙ drop-append-le place (map Char front) old (omega (arith, many, parted))
     ∙ ap (λ xs. xs ++ old) (drop-map Char place front ∙ ap (map Char) last))
+
+-- the characters that are missing, pushed behind the items and brought before them by a rotation
+pub rotated_in : (text : List ℕ) (old : List Item) (before missing count : ℕ) → length old ≤ 64 → before ≡ length text - length (characters old)
+    → missing ≡ min before (64 - length old) → count ≡ length old
+    → drop count (old ++ map Char (take missing (drop (before - missing) text))) ++ take count (old ++ map Char (take missing (drop (before - missing) text)))
+    ≡ filled text old
+rotated_in text old before missing count few at is all =
+    let more : List Item = map Char (take missing (drop (before - missing) text)) in
+    ap (λ n. drop n (old ++ more) ++ take n (old ++ more)) all
+    ∙ (ap (λ xs. xs ++ take (length old) (old ++ more)) (drop-append_seam old more)
+    ∙ (ap (λ xs. more ++ xs) (take-append_seam old more)
+    ∙ filled_in text old before missing few at is))
 
 -- where none are missing, the items are what is filled
 pub none_missing : (text : List ℕ) (old : List Item) → length old ≤ 64 → min (length text - length (characters old)) (64 - length old) ≡ 0

@@ -4,6 +4,11 @@ use Rattle.kmn_base.specs.declared.items.Item.{Item}
 use Rattle.kmn_base.specs.declared.items.Item.TheVariants.{Char}
 use Rattle.kmn_base.specs.Lists.{characters, without_last, window}
 
+-- the last items before the caret, and for how many there is room
+pub record CacheValue : Type 0 where
+  pub items : List Item
+  pub room : ℕ
+
 -- the list whose characters are a text and whose last items are these
 abbrev pub whole : List ℕ → List Item → List Item
 whole text items = map Char (without_last (length (characters items)) text) ++ items

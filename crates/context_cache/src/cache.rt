@@ -1,45 +1,55 @@
-ghost use Rattle.std.specs.Prelude.{◌≡◌, ◌≤◌, ◌<◌, ◌-◌, ◌+◌, ◌^◌, [], ◌∷◌, ◌++◌, length, drop, min};
+ghost use Rattle.std.specs.Prelude.{◌≡◌, ◌≤◌, ◌<◌, ◌-◌, ◌+◌, ◌^◌, [], ◌∷◌, ◌++◌, IfOk, length, drop, min};
 ghost use Rattle.std.specs.List.{suffix_len};
+ghost use Rattle.kmn_base.specs.declared.limits.TheConstants.{WINDOW_ITEMS};
 ghost use Rattle.kmn_base.specs.Lists.{characters, is_mark, without_last, window, read_again};
 ghost use Rattle.context_cache.specs.Cached.{filled, StandsAtEnd};
 
 use crate::texts::{character_count, end_marks, push_characters, push_items, still_stands};
-use arrayvec::ArrayVec;
 use kmn_base::limits::WINDOW_ITEMS;
 use kmn_base::slices::behind;
-use kmn_base::{Item, slices};
+use kmn_base::{Item, Memory, slices};
+use std::alloc::Global;
 use std::marker::Model;
 
-/// The last items before the caret, at most 64.
+/// The last items before the caret, at most 64. Their places are reserved once, so that no later call takes memory.
 #[derive(Drop)]
 pub struct Cache {
-    items: ArrayVec<Item, 64>,
+    items: Vec<Item>,
 }
 
 impl Model for Cache {
-    ghost use Rattle.std.specs.Prelude.{List, ◌≤◌, length};
-    ghost use Rattle.kmn_base.specs.declared.items.Item.{Item};
+    ghost use Rattle.std.specs.Prelude.{◌≤◌, length, vec_capacity};
+    ghost use Rattle.context_cache.specs.Cached.{CacheValue};
 
-    ghost Value = { List Item };
+    ghost Value = { CacheValue };
 
-    ghost view = { λ cache. cache.items.items };
+    ghost view = { λ cache. record { items = cache.items.items; room = vec_capacity cache.items } };
 
     ghost invariant = { λ cache. length cache.items.items ≤ 64 };
 }
 
 impl Cache {
-    /// An empty cache.
-    pub fn new() -> Cache
-        ensures { result ≡ [] }
+    /// An empty cache, with room for 64 items.
+    pub fn with_room(alloc: Global) -> Result<Cache, Memory>
+        ensures { IfOk result (λ cache. cache ≡ record { items = []; room = WINDOW_ITEMS }) }
+    {
+        Ok(Cache {
+            items: Vec::with_capacity(alloc, WINDOW_ITEMS)?,
+        })
+    }
+
+    /// An empty cache, with no room for items. It stands in for one that is moved.
+    pub fn without_room(alloc: Global) -> Cache
+        ensures { result ≡ record { items = []; room = 0 } }
     {
         Cache {
-            items: ArrayVec::new(),
+            items: Vec::new(alloc),
         }
     }
 
     /// The items, the last before the caret at the end.
     pub fn items(&self) -> &[Item]
-        ensures value { result.now ≡ self.now }
+        ensures value { result.now ≡ self.now.items }
         ensures few { length result.now ≤ 64 }
     {
         self.items.as_slice()
@@ -48,26 +58,27 @@ impl Cache {
     /// Puts an item behind the others, of which the last 64 stay.
     #[tactic(auto, using(crate::proofs::Windows::window_full, crate::proofs::Windows::window_with_room))]
     pub fn put(&mut self, item: Item)
-        ensures { self.new ≡ window (self.old ++ item ∷ []) }
+        requires { self.old.room ≡ WINDOW_ITEMS }
+        ensures { self.new ≡ record self.old { items = window (self.old.items ++ item ∷ []) } }
     {
-        if self.items.is_full() {
+        if self.items.len() == WINDOW_ITEMS {
             self.items.remove(0);
         }
-        self.items.push(item);
+        self.items.push_reserved(item);
     }
 
     /// Takes the last items.
     pub fn take(&mut self, n: usize)
-        requires { n ≤ length self.old }
-        ensures { self.new ≡ without_last n self.old }
+        requires { n ≤ length self.old.items }
+        ensures { self.new ≡ record self.old { items = without_last n self.old.items } }
     {
         self.items.truncate(self.items.len() - n);
     }
 
     /// How many of the last items are characters.
     pub fn last_characters(&self, n: usize) -> usize
-        requires { n ≤ length self.now }
-        ensures { result ≡ length (characters (drop (length self.now - n) self.now)) }
+        requires { n ≤ length self.now.items }
+        ensures { result ≡ length (characters (drop (length self.now.items - n) self.now.items)) }
     {
         let items = self.items.as_slice();
         character_count(behind(items, items.len() - n))
@@ -75,18 +86,18 @@ impl Cache {
 
     /// How many marks stand at the end.
     pub fn end_marks(&self) -> usize
-        ensures value { result ≡ suffix_len is_mark self.now }
-        ensures within { result ≤ length self.now }
+        ensures value { result ≡ suffix_len is_mark self.now.items }
+        ensures within { result ≤ length self.now.items }
     {
         end_marks(self.items.as_slice())
     }
 
     /// How many more characters of a text of this length there is room for before the items, whose characters are its last ones.
     fn missing(&self, text_len: usize) -> usize
-        requires { length (characters self.now) ≤ text_len }
-        ensures { result ≡ min (text_len - length (characters self.now)) (64 - length self.now) }
+        requires { length (characters self.now.items) ≤ text_len }
+        ensures { result ≡ min (text_len - length (characters self.now.items)) (64 - length self.now.items) }
     {
-        if self.items.is_full() {
+        if self.items.len() == WINDOW_ITEMS {
             return 0;
         }
         let before = text_len - character_count(self.items.as_slice());
@@ -98,41 +109,41 @@ impl Cache {
     #[tactic(auto, using(crate::proofs::Windows::filled_in, crate::proofs::Windows::none_missing))]
     pub fn fill(&mut self, older: &[char], newer: &[char])
         requires few { length older.now + length newer.now < 2 ^ 33 }
-        requires stands { StandsAtEnd self.old (older.now ++ newer.now) }
-        ensures { self.new ≡ filled (older.now ++ newer.now) self.old }
+        requires stands { StandsAtEnd self.old.items (older.now ++ newer.now) }
+        requires room { self.old.room ≡ WINDOW_ITEMS }
+        ensures { self.new ≡ record self.old { items = filled (older.now ++ newer.now) self.old.items } }
     {
         let missing = self.missing(older.len() + newer.len());
         if missing == 0 {
             return;
         }
         let before = older.len() + newer.len() - character_count(self.items.as_slice());
-        let mut filled = ArrayVec::new();
-        push_characters(&mut filled, older, newer, before - missing, missing);
-        push_items(&mut filled, self.items.as_slice());
-        self.items = filled;
+        push_characters(&mut self.items, older, newer, before - missing, missing);
+        self.items.rotate_right(missing);
     }
 
     /// Reads the text before the caret again: where the items still stand at its end they stay, else the last characters of the
     /// text take their place.
     #[tactic(auto, using(crate::proofs::Windows::still_the_same, crate::proofs::Windows::read_anew))]
     pub fn sync(&mut self, left: &[char])
-        ensures { self.new ≡ window (read_again self.old left.now) }
+        requires { self.old.room ≡ WINDOW_ITEMS }
+        ensures { self.new ≡ record self.old { items = window (read_again self.old.items left.now) } }
     {
         if still_stands(self.items.as_slice(), left) {
             return;
         }
         self.items.clear();
         for c in slices::behind(left, left.len().saturating_sub(WINDOW_ITEMS)) {
-            self.items.push(Item::Char(*c));
+            self.items.push_reserved(Item::Char(*c));
         }
     }
 
-    /// A cache with the same items.
-    pub fn copy(&self) -> Cache
-        ensures { result ≡ self.now }
+    /// A cache with the same items, and room of its own.
+    pub fn copy(&self, alloc: Global) -> Result<Cache, Memory>
+        ensures { IfOk result (λ cache. cache ≡ record { items = self.now.items; room = WINDOW_ITEMS }) }
     {
-        let mut items = ArrayVec::new();
+        let mut items = Vec::with_capacity(alloc, WINDOW_ITEMS)?;
         push_items(&mut items, self.items.as_slice());
-        Cache { items }
+        Ok(Cache { items })
     }
 }

@@ -1,9 +1,9 @@
 //! The last items before the caret, at most 64 of them, which is all of the text that a rule sees.
 //!
-//! It stands on `kmn_base`, whose `specs/Lists` say what the window, a put and reading again are, and on `arrayvec` for its
-//! room: no call takes memory or refuses anything. Contracts see a `Cache` as its items. The layer above uses its calls, each
-//! of which is the window of what the call would make of the whole list (`specs/Cached`), and the laws in `laws`: a list before
-//! the caret is its text and the items of the cache, and puts, takes and refills of the cache are those of that list.
+//! It stands on `kmn_base`, whose `specs/Lists` say what the window, a put and reading again are. Contracts see a `Cache` as its
+//! items and its room, which `with_room` and `copy` take: no other call takes memory or refuses anything. The layer above uses its
+//! calls, each of which is the window of what the call would make of the whole list (`specs/Cached`), and the laws in `laws`: a
+//! list before the caret is its text and the items of the cache, and puts, takes and refills of the cache are those of that list.
 #![tactic(auto)]
 
 mod cache;

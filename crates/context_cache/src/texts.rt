@@ -1,11 +1,10 @@
 //! Items against the characters of a text.
 
-ghost use Rattle.std.specs.Prelude.{◌≡◌, ◌≤◌, ◌<◌, ◌+◌, ◌++◌, length, map, take, drop, slice_index, nat_eq};
+ghost use Rattle.std.specs.Prelude.{◌≡◌, ◌≤◌, ◌<◌, ◌+◌, ◌++◌, length, map, take, drop, slice_index, nat_eq, vec_len, vec_capacity};
 ghost use Rattle.std.specs.List.{ends_with, suffix_len};
 ghost use Rattle.kmn_base.specs.declared.items.Item.TheVariants as item;
 ghost use Rattle.kmn_base.specs.Lists.{characters, is_mark, still_stands};
 
-use arrayvec::ArrayVec;
 use kmn_base::Item;
 use kmn_base::limits::WINDOW_ITEMS;
 
@@ -23,28 +22,31 @@ fn char_at(older: &[char], newer: &[char], place: usize) -> char
 
 /// Appends so many characters of one text followed by another, from a place on.
 pub fn push_characters(
-    items: &mut ArrayVec<Item, 64>,
+    items: &mut Vec<Item>,
     older: &[char],
     newer: &[char],
     from: usize,
     count: usize,
 )
     requires within { from + count ≤ length older.now + length newer.now }
-    requires room { length items.old.items + count ≤ 64 }
-    ensures { items.new.items ≡ items.old.items ++ map item.Char (take count (drop from (older.now ++ newer.now))) }
+    requires room { vec_len items.old + count ≤ vec_capacity items.old }
+    ensures items { items.new.items ≡ items.old.items ++ map item.Char (take count (drop from (older.now ++ newer.now))) }
+    ensures count { vec_len items.new ≡ vec_len items.old + count }
+    ensures room { vec_capacity items.new ≡ vec_capacity items.old }
 {
     for place in from..from + count {
-        items.push(Item::Char(char_at(older, newer, place)));
+        items.push_reserved(Item::Char(char_at(older, newer, place)));
     }
 }
 
 /// Appends items.
-pub fn push_items(items: &mut ArrayVec<Item, 64>, others: &[Item])
-    requires room { length items.old.items + length others.now ≤ 64 }
-    ensures { items.new.items ≡ items.old.items ++ others.now }
+pub fn push_items(items: &mut Vec<Item>, others: &[Item])
+    requires room { vec_len items.old + length others.now ≤ vec_capacity items.old }
+    ensures items { items.new.items ≡ items.old.items ++ others.now }
+    ensures room { vec_capacity items.new ≡ vec_capacity items.old }
 {
     for other in others {
-        items.push(*other);
+        items.push_reserved(*other);
     }
 }
 

@@ -7,6 +7,7 @@ use Rattle.std.proofs.lemmas.List.{drop-drop, take-append-drop, length-take-le}
 use Rattle.std.proofs.lemmas.List.Elements.{All-take, All-drop}
 use Rattle.std.proofs.lemmas.Nat.{le_bytes_4}
 use Rattle.kmn_base.proofs.SmallBytes.{AreBytes, byte_small}
+use Rattle.kmx_format.specs.declared.places.TheConstants.{CHECKSUM_AT, GROUPS_AT, STORES_AT, VERSION_AT}
 use Rattle.kmx_format.specs.File.{word}
 use Rattle.kmx_format.specs.TablesOf.{word_at}
 use Rattle.kmx_parts.specs.View.{store_count, group_count}
@@ -71,14 +72,14 @@ pub exported_files_stay : ExportedFilesStay
 unfolding replaced
 exported_files_stay bytes out unit small export =
     let long : 64 ≤ length out = has_header out export.same.valid in
-    let version : ℕ = played_version (word_at out 4) in
-    let one : pointed_stores out unit (word_at out 32) (store_count out) out ≡ out = stores_stay out unit (word_at out 32) (store_count out) out export.same.contents in
-    let two : pointed_groups out unit (word_at out 36) (group_count out) out ≡ out = groups_stay out unit (word_at out 36) (group_count out) out export.same.contexts in
-    let three : with_word 4 version out ≡ out =
-    ap (λ v. with_word 4 v out) (played_twice (word_at bytes 4) (word_at out 4) export.version) ∙ word_again out 4 small (omega (arith, long)) in
-    let all : with_word 4 version (pointed_groups out unit (word_at out 36) (group_count out) (pointed_stores out unit (word_at out 32) (store_count out) out)) ≡ out =
-    ap (λ (xs : List ℕ). with_word 4 version (pointed_groups out unit (word_at out 36) (group_count out) xs)) one ∙ ap (with_word 4 version) two ∙ three in
-    ap (λ (xs : List ℕ). with_word 8 (checksum (with_word 8 0 xs)) (with_word 8 0 xs)) all
-    ∙ overwritten 8 0 (checksum (with_word 8 0 out)) out (omega (arith, long))
-    ∙ ap (λ n. with_word 8 n out) (sym export.checksum)
-    ∙ word_again out 8 small (omega (arith, long))
+    let version : ℕ = played_version (word_at out VERSION_AT) in
+    let one : pointed_stores out unit (word_at out STORES_AT) (store_count out) out ≡ out = stores_stay out unit (word_at out STORES_AT) (store_count out) out export.same.contents in
+    let two : pointed_groups out unit (word_at out GROUPS_AT) (group_count out) out ≡ out = groups_stay out unit (word_at out GROUPS_AT) (group_count out) out export.same.contexts in
+    let three : with_word VERSION_AT version out ≡ out =
+    ap (λ v. with_word VERSION_AT v out) (played_twice (word_at bytes VERSION_AT) (word_at out VERSION_AT) export.version) ∙ word_again out VERSION_AT small (omega (arith, long)) in
+    let all : with_word VERSION_AT version (pointed_groups out unit (word_at out GROUPS_AT) (group_count out) (pointed_stores out unit (word_at out STORES_AT) (store_count out) out)) ≡ out =
+    ap (λ (xs : List ℕ). with_word VERSION_AT version (pointed_groups out unit (word_at out GROUPS_AT) (group_count out) xs)) one ∙ ap (with_word VERSION_AT version) two ∙ three in
+    ap (λ (xs : List ℕ). with_word CHECKSUM_AT (checksum (with_word CHECKSUM_AT 0 xs)) (with_word CHECKSUM_AT 0 xs)) all
+    ∙ overwritten CHECKSUM_AT 0 (checksum (with_word CHECKSUM_AT 0 out)) out (omega (arith, long))
+    ∙ ap (λ n. with_word CHECKSUM_AT n out) (sym export.checksum)
+    ∙ word_again out CHECKSUM_AT small (omega (arith, long))

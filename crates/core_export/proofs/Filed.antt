@@ -7,6 +7,7 @@ use Rattle.rule_model.specs.declared.tables.Rule.{Rule}
 use Rattle.rule_model.specs.declared.tables.Store.{Store}
 use Rattle.rule_model.specs.declared.tables.Group.{Group}
 use Rattle.rule_model.specs.declared.tables.Tables.{Tables}
+use Rattle.kmx_format.specs.declared.places.TheConstants.{CHECKSUM_AT, GROUPS_AT, GROUP_COUNT_AT, STORES_AT, STORE_COUNT_AT, VERSION_AT}
 use Rattle.kmx_format.specs.FileUnits.{element_units, pattern_units, output_units, name_units}
 use Rattle.kmx_format.specs.File.{half, word, words, string, offset_of, store_strings, group_strings, rule_strings, store_record, store_records, flag, group_record, group_records, key_code, key_flags, rule_record, rule_records, rules_of, stores_place, groups_place, rules_place, store_strings_place, group_strings_place, rule_strings_place, header_words, file_of}
 use Rattle.kmx_format.specs.TablesOf.{half_at, word_at, tables_of}
@@ -194,11 +195,11 @@ laid tables picture unit writable fits =
     let p : Parts tables picture bytes = parts tables picture in
     let ns : List ℕ = header_words tables picture in
     let high : ℕ = store_strings_place tables in
-    let store_number : word_at bytes 24 ≡ length tables.stores = nth_word_at bytes 0 ns 6 (lit< tt) (omega (arith, writable.store_count)) p.head in
-    let group_number : word_at bytes 28 ≡ length tables.groups = nth_word_at bytes 0 ns 7 (lit< tt) (omega (arith, writable.group_count)) p.head in
-    let stores_at : word_at bytes 32 ≡ offset_of tables.stores stores_place =
+    let store_number : word_at bytes STORE_COUNT_AT ≡ length tables.stores = nth_word_at bytes 0 ns 6 (lit< tt) (omega (arith, writable.store_count)) p.head in
+    let group_number : word_at bytes GROUP_COUNT_AT ≡ length tables.groups = nth_word_at bytes 0 ns 7 (lit< tt) (omega (arith, writable.group_count)) p.head in
+    let stores_at : word_at bytes STORES_AT ≡ offset_of tables.stores stores_place =
     nth_word_at bytes 0 ns 8 (lit< tt) (omega (arith, small, offset_of-le tables.stores stores_place (length bytes) p.stores.within)) p.head in
-    let groups_at : word_at bytes 36 ≡ groups_place tables =
+    let groups_at : word_at bytes GROUPS_AT ≡ groups_place tables =
     nth_word_at bytes 0 ns 9 (lit< tt) (omega (arith, small, offset_of-le tables.groups (groups_place tables) (length bytes) p.groups.within)) p.head
     ∙ groups_there tables.groups (groups_place tables) tables.start_unicode writable.start_unicode in
     let groups = groups_clear bytes small unit high (groups_place tables) (rules_place tables) (group_strings_place tables) (rule_strings_place tables) tables.groups (omega arith) (omega arith) (omega arith)
@@ -207,35 +208,35 @@ laid tables picture unit writable fits =
       first = groups_place tables;
       second = rules_place tables;
       header = omega arith;
-      stores = stores_first tables.stores (word_at bytes 32) (store_count bytes) store_number stores_at;
+      stores = stores_first tables.stores (word_at bytes STORES_AT) (store_count bytes) store_number stores_at;
       groups = (omega (arith, groups_at), omega (arith, groups_at, group_number));
       order = omega arith;
-      records = subst (λ (n : ℕ). GroupsLaid bytes unit high (rules_place tables) (word_at bytes 36) n) (sym group_number)
+      records = subst (λ (n : ℕ). GroupsLaid bytes unit high (rules_place tables) (word_at bytes GROUPS_AT) n) (sym group_number)
           (subst (λ (q : ℕ). GroupsLaid bytes unit high (rules_place tables) q (length tables.groups)) (sym groups_at) groups.1);
       within = p.store_strings.within;
-      store_strings = at_offset (StoresClear bytes high) tables.stores stores_place (word_at bytes 32) (store_count bytes) stores_at store_number
+      store_strings = at_offset (StoresClear bytes high) tables.stores stores_place (word_at bytes STORES_AT) (store_count bytes) stores_at store_number
           (stores_clear_at bytes small unit high stores_place high tables.stores (omega arith) p.stores p.store_strings);
-      group_strings = subst (λ (n : ℕ). GroupsClear bytes high (word_at bytes 36) n) (sym group_number)
+      group_strings = subst (λ (n : ℕ). GroupsClear bytes high (word_at bytes GROUPS_AT) n) (sym group_number)
           (subst (λ (q : ℕ). GroupsClear bytes high q (length tables.groups)) (sym groups_at) groups.0);
     }
 
 -- ---- the law
 
-header_part : (version sum : ℕ) (out : List ℕ) → Outside 4 12 out (with_word 8 sum (with_word 8 0 (with_word 4 version out)))
+header_part : (version sum : ℕ) (out : List ℕ) → Outside 4 12 out (with_word CHECKSUM_AT sum (with_word CHECKSUM_AT 0 (with_word VERSION_AT version out)))
 header_part version sum out =
-    let third : List ℕ = with_word 4 version out in
-    let blank : List ℕ = with_word 8 0 third in
-    after 4 12 out third (with_word 8 sum blank) (wider 4 8 4 12 out third (omega arith) (omega arith) (word_outside 4 version out))
-    (after 4 12 third blank (with_word 8 sum blank) (wider 8 12 4 12 third blank (omega arith) (omega arith) (word_outside 8 0 third))
-    (wider 8 12 4 12 blank (with_word 8 sum blank) (omega arith) (omega arith) (word_outside 8 sum blank)))
+    let third : List ℕ = with_word VERSION_AT version out in
+    let blank : List ℕ = with_word CHECKSUM_AT 0 third in
+    after 4 12 out third (with_word CHECKSUM_AT sum blank) (wider 4 8 4 12 out third (omega arith) (omega arith) (word_outside VERSION_AT version out))
+    (after 4 12 third blank (with_word CHECKSUM_AT sum blank) (wider 8 12 4 12 third blank (omega arith) (omega arith) (word_outside CHECKSUM_AT 0 third))
+    (wider 8 12 4 12 blank (with_word CHECKSUM_AT sum blank) (omega arith) (omega arith) (word_outside CHECKSUM_AT sum blank)))
 
-version_half : (version sum : ℕ) (out : List ℕ) → version < 2 ^ 16 → 8 ≤ length out → half_at (with_word 8 sum (with_word 8 0 (with_word 4 version out))) 4 ≡ version
+version_half : (version sum : ℕ) (out : List ℕ) → version < 2 ^ 16 → 8 ≤ length out → half_at (with_word CHECKSUM_AT sum (with_word CHECKSUM_AT 0 (with_word VERSION_AT version out))) 4 ≡ version
 version_half version sum out below long =
-    let third : List ℕ = with_word 4 version out in
-    let blank : List ℕ = with_word 8 0 third in
-    sym ((front_same 8 12 blank (with_word 8 sum blank) (word_outside 8 sum blank)).halves 4 (omega arith) (omega arith))
-    ∙ sym ((front_same 8 12 third blank (word_outside 8 0 third)).halves 4 (omega arith) (omega arith))
-    ∙ half_there 4 version out below (omega (arith, long))
+    let third : List ℕ = with_word VERSION_AT version out in
+    let blank : List ℕ = with_word CHECKSUM_AT 0 third in
+    sym ((front_same 8 12 blank (with_word CHECKSUM_AT sum blank) (word_outside CHECKSUM_AT sum blank)).halves VERSION_AT (omega arith) (omega arith))
+    ∙ sym ((front_same 8 12 third blank (word_outside CHECKSUM_AT 0 third)).halves VERSION_AT (omega arith) (omega arith))
+    ∙ half_there VERSION_AT version out below (omega (arith, long))
 
 played_half : (version : ℕ) → played_version version < 2 ^ 16
 played_half version = omega arith
@@ -255,19 +256,19 @@ of_tables tables picture unit writable picture_size fits found =
     let long : 64 ≤ length bytes = has_header bytes valid in
     let b : IsBlank bytes high unit = zero_unit_blank bytes high (omega arith) unit valid l.store_strings l.group_strings found in
     let p : Parts tables picture bytes = parts tables picture in
-    let word_is : word_at bytes 4 ≡ tables.version =
+    let word_is : word_at bytes VERSION_AT ≡ tables.version =
     nth_word_at bytes 0 (header_words tables picture) 1 (lit< tt) (omega (arith, version-small tables.version writable.version)) p.head in
-    let same : word_at bytes 4 ≡ half_at bytes 4 = word_is ∙ sym (half_of_file tables picture writable fits) in
-    let v : ℕ = played_version (word_at bytes 4) in
-    let one : List ℕ = pointed_stores bytes unit (word_at bytes 32) (store_count bytes) bytes in
-    let two : List ℕ = pointed_groups bytes unit (word_at bytes 36) (group_count bytes) one in
-    let sum : ℕ = checksum (with_word 8 0 (with_word 4 v two)) in
-    let fin : List ℕ = with_word 8 sum (with_word 8 0 (with_word 4 v two)) in
+    let same : word_at bytes VERSION_AT ≡ half_at bytes VERSION_AT = word_is ∙ sym (half_of_file tables picture writable fits) in
+    let v : ℕ = played_version (word_at bytes VERSION_AT) in
+    let one : List ℕ = pointed_stores bytes unit (word_at bytes STORES_AT) (store_count bytes) bytes in
+    let two : List ℕ = pointed_groups bytes unit (word_at bytes GROUPS_AT) (group_count bytes) one in
+    let sum : ℕ = checksum (with_word CHECKSUM_AT 0 (with_word VERSION_AT v two)) in
+    let fin : List ℕ = with_word CHECKSUM_AT sum (with_word CHECKSUM_AT 0 (with_word VERSION_AT v two)) in
     let header : Outside 4 12 two fin = header_part v sum two in
-    let one_size : length bytes ≡ length one = (stores_outside bytes unit (word_at bytes 32) (store_count bytes) bytes).size in
-    let two_size : length one ≡ length two = (groups_outside bytes unit high l.second (word_at bytes 36) (group_count bytes) one l.records).size in
+    let one_size : length bytes ≡ length one = (stores_outside bytes unit (word_at bytes STORES_AT) (store_count bytes) bytes).size in
+    let two_size : length one ≡ length two = (groups_outside bytes unit high l.second (word_at bytes GROUPS_AT) (group_count bytes) one l.records).size in
     says_same bytes fin unit high l (omega (arith, b.within, fits)) (omega (arith, b.behind)) b.behind b.blank b.ended valid
-    (version_half v sum two (played_half (word_at bytes 4)) (omega (arith, long, one_size, two_size)) ∙ ap played_version same)
+    (version_half v sum two (played_half (word_at bytes VERSION_AT)) (omega (arith, long, one_size, two_size)) ∙ ap played_version same)
     (version_made bytes fin unit refl (omega (arith, long, one_size, two_size, header.size))) header
 
 pub written_files_are_exported : WrittenFilesAreExported

@@ -4,6 +4,7 @@ use Rattle.std.specs.Prelude.{nat_le}
 use Rattle.std.proofs.lemmas.Bool.{cases_lt, not-false}
 use Rattle.kmn_base.specs.declared.codes.Code.TheVariants.{V01, V02, V03, V04, V05, V06, V07, V08, V15, V16}
 use Rattle.kmn_base.specs.declared.limits.TheConstants.{STORES, GROUPS, PICTURE_BYTES, FILE_BYTES}
+use Rattle.kmx_format.specs.declared.places.TheConstants.{FLAGS_AT, GROUPS_AT, GROUP_COUNT_AT, IDENTIFIER_AT, PICTURE_AT, PICTURE_SIZE_AT, START_ANSI_AT, START_UNICODE_AT, STORES_AT, STORE_COUNT_AT, VERSION_AT}
 use Rattle.kmx_format.specs.TablesOf.{half_at, word_at, string_at, stores_from, groups_from, tables_of}
 use Rattle.kmx_format.specs.Writable.{is_version}
 use Rattle.kmx_parts.specs.View.{is_ended, store_count, group_count}
@@ -19,13 +20,13 @@ pub record Laid (bytes : List ℕ) (unit high : ℕ) : Type 0 where
   pub first : ℕ
   pub second : ℕ
   pub header : 64 ≤ first
-  pub stores : (store_count bytes ≡ 0) ⊎ ((64 ≤ word_at bytes 32) × (word_at bytes 32 + 12 * store_count bytes ≤ first))
-  pub groups : (first ≤ word_at bytes 36) × (word_at bytes 36 + 24 * group_count bytes ≤ second)
+  pub stores : (store_count bytes ≡ 0) ⊎ ((64 ≤ word_at bytes STORES_AT) × (word_at bytes STORES_AT + 12 * store_count bytes ≤ first))
+  pub groups : (first ≤ word_at bytes GROUPS_AT) × (word_at bytes GROUPS_AT + 24 * group_count bytes ≤ second)
   pub order : second ≤ high
-  pub records : GroupsLaid bytes unit high second (word_at bytes 36) (group_count bytes)
+  pub records : GroupsLaid bytes unit high second (word_at bytes GROUPS_AT) (group_count bytes)
   pub within : high ≤ length bytes
-  pub store_strings : StoresClear bytes high (word_at bytes 32) (store_count bytes)
-  pub group_strings : GroupsClear bytes high (word_at bytes 36) (group_count bytes)
+  pub store_strings : StoresClear bytes high (word_at bytes STORES_AT) (store_count bytes)
+  pub group_strings : GroupsClear bytes high (word_at bytes GROUPS_AT) (group_count bytes)
 
 -- a version that the engine plays is one of the format
 played_is_version : (version : ℕ) → is_version version ≡ true → is_version (played_version version) ≡ true
@@ -37,10 +38,10 @@ played_is_version version known =
 
 module _ (bytes fin : List ℕ) (unit high : ℕ) (laid : Laid bytes unit high) (small : unit < 2 ^ 32) (positive : 0 < unit) (behind : high ≤ unit) (blank : string_at bytes unit ≡ []) (ends : is_ended bytes unit ≡ true) where
   abbrev pub first_out : List ℕ
-  first_out = pointed_stores bytes unit (word_at bytes 32) (store_count bytes) bytes
+  first_out = pointed_stores bytes unit (word_at bytes STORES_AT) (store_count bytes) bytes
 
   abbrev pub second_out : List ℕ
-  second_out = pointed_groups bytes unit (word_at bytes 36) (group_count bytes) first_out
+  second_out = pointed_groups bytes unit (word_at bytes GROUPS_AT) (group_count bytes) first_out
 
   stores_part : (place count first : ℕ) → 64 ≤ first → (count ≡ 0) ⊎ ((64 ≤ place) × (place + 12 * count ≤ first)) → Outside 64 first bytes (pointed_stores bytes unit place count bytes)
   stores_part place count first h (inl none) = subst (λ (n : ℕ). Outside 64 first bytes (pointed_stores bytes unit place n bytes)) (sym none) (unchanged 64 first bytes)
@@ -53,15 +54,15 @@ module _ (bytes fin : List ℕ) (unit high : ℕ) (laid : Laid bytes unit high) 
       stores_kept bytes unit fin small place count bytes refl refl (omega (arith, within, there.1))
       (narrower 64 first place (place + 12 * count) (pointed_stores bytes unit place count bytes) fin there.0 there.1 h)
 
-  pub says_same : IsValid bytes → half_at fin 4 ≡ played_version (half_at bytes 4) → word_at fin 4 ≡ played_version (word_at bytes 4)
+  pub says_same : IsValid bytes → half_at fin VERSION_AT ≡ played_version (half_at bytes VERSION_AT) → word_at fin VERSION_AT ≡ played_version (word_at bytes VERSION_AT)
       → Outside 4 12 second_out fin → SaysTheSame bytes fin
   unfolding fault_of size_fault header_fault arrays_fault tables_of
   says_same valid version_half version_word header =
       let first : ℕ = laid.first in
       let second : ℕ = laid.second in
       let behind_header : first ≤ second = omega (arith, laid.groups.0, laid.groups.1) in
-      let one : Outside 64 first bytes first_out = stores_part (word_at bytes 32) (store_count bytes) first laid.header laid.stores in
-      let two : Outside second high first_out second_out = groups_outside bytes unit high second (word_at bytes 36) (group_count bytes) first_out laid.records in
+      let one : Outside 64 first bytes first_out = stores_part (word_at bytes STORES_AT) (store_count bytes) first laid.header laid.stores in
+      let two : Outside second high first_out second_out = groups_outside bytes unit high second (word_at bytes GROUPS_AT) (group_count bytes) first_out laid.records in
       let sizes : length bytes ≡ length fin = one.size ∙ two.size ∙ header.size in
       let tail : drop high bytes ≡ drop high fin =
       later first high bytes first_out (omega (arith, behind_header, laid.order)) one.behind ∙ two.behind ∙ later 12 high second_out fin (omega (arith, laid.header, behind_header, laid.order)) header.behind in
@@ -71,51 +72,51 @@ module _ (bytes fin : List ℕ) (unit high : ℕ) (laid : Laid bytes unit high) 
       joined 12 second first_out second_out fin (narrower 0 second 12 second first_out second_out (omega arith) (omega arith) to_second) (narrower 12 high 12 second second_out fin (omega arith) laid.order from_header) in
       let w : (at : ℕ) → 12 ≤ at → at + 4 ≤ 64 → word_at bytes at ≡ word_at fin at =
       λ at a b. (front_same 64 first bytes first_out one).words at (omega arith) b ∙ end.words at a (omega (arith, b, laid.header, behind_header)) in
-      let w0 : word_at bytes 0 ≡ word_at fin 0 =
-      (front_same 64 first bytes first_out one).words 0 (omega arith) (omega arith) ∙ to_second.words 0 (omega arith) (omega (arith, laid.header, behind_header))
-      ∙ (front_same 4 12 second_out fin header).words 0 (omega arith) (omega arith) in
-      let w24 : word_at bytes 24 ≡ word_at fin 24 = w 24 (omega arith) (omega arith) in
-      let w28 : word_at bytes 28 ≡ word_at fin 28 = w 28 (omega arith) (omega arith) in
-      let w32 : word_at bytes 32 ≡ word_at fin 32 = w 32 (omega arith) (omega arith) in
-      let w36 : word_at bytes 36 ≡ word_at fin 36 = w 36 (omega arith) (omega arith) in
-      let w40 : word_at bytes 40 ≡ word_at fin 40 = w 40 (omega arith) (omega arith) in
-      let w44 : word_at bytes 44 ≡ word_at fin 44 = w 44 (omega arith) (omega arith) in
-      let w48 : word_at bytes 48 ≡ word_at fin 48 = w 48 (omega arith) (omega arith) in
-      let w56 : word_at bytes 56 ≡ word_at fin 56 = w 56 (omega arith) (omega arith) in
-      let w60 : word_at bytes 60 ≡ word_at fin 60 = w 60 (omega arith) (omega arith) in
-      let stores : StoresKept bytes unit fin small (word_at bytes 32) (store_count bytes) =
-      few_stores_kept (word_at bytes 32) (store_count bytes) first (omega (arith, behind_header, laid.order, laid.within)) laid.stores
+      let w0 : word_at bytes IDENTIFIER_AT ≡ word_at fin IDENTIFIER_AT =
+      (front_same 64 first bytes first_out one).words IDENTIFIER_AT (omega arith) (omega arith) ∙ to_second.words IDENTIFIER_AT (omega arith) (omega (arith, laid.header, behind_header))
+      ∙ (front_same 4 12 second_out fin header).words IDENTIFIER_AT (omega arith) (omega arith) in
+      let w24 : word_at bytes STORE_COUNT_AT ≡ word_at fin STORE_COUNT_AT = w STORE_COUNT_AT (omega arith) (omega arith) in
+      let w28 : word_at bytes GROUP_COUNT_AT ≡ word_at fin GROUP_COUNT_AT = w GROUP_COUNT_AT (omega arith) (omega arith) in
+      let w32 : word_at bytes STORES_AT ≡ word_at fin STORES_AT = w STORES_AT (omega arith) (omega arith) in
+      let w36 : word_at bytes GROUPS_AT ≡ word_at fin GROUPS_AT = w GROUPS_AT (omega arith) (omega arith) in
+      let w40 : word_at bytes START_ANSI_AT ≡ word_at fin START_ANSI_AT = w START_ANSI_AT (omega arith) (omega arith) in
+      let w44 : word_at bytes START_UNICODE_AT ≡ word_at fin START_UNICODE_AT = w START_UNICODE_AT (omega arith) (omega arith) in
+      let w48 : word_at bytes FLAGS_AT ≡ word_at fin FLAGS_AT = w FLAGS_AT (omega arith) (omega arith) in
+      let w56 : word_at bytes PICTURE_AT ≡ word_at fin PICTURE_AT = w PICTURE_AT (omega arith) (omega arith) in
+      let w60 : word_at bytes PICTURE_SIZE_AT ≡ word_at fin PICTURE_SIZE_AT = w PICTURE_SIZE_AT (omega arith) (omega arith) in
+      let stores : StoresKept bytes unit fin small (word_at bytes STORES_AT) (store_count bytes) =
+      few_stores_kept (word_at bytes STORES_AT) (store_count bytes) first (omega (arith, behind_header, laid.order, laid.within)) laid.stores
       (narrower 12 second 64 first first_out fin (omega arith) behind_header end) in
-      let array : SameWithin (word_at bytes 36) (word_at bytes 36 + 24 * group_count bytes) bytes fin =
-      narrower first second (word_at bytes 36) (word_at bytes 36 + 24 * group_count bytes) bytes fin laid.groups.0 laid.groups.1
+      let array : SameWithin (word_at bytes GROUPS_AT) (word_at bytes GROUPS_AT + 24 * group_count bytes) bytes fin =
+      narrower first second (word_at bytes GROUPS_AT) (word_at bytes GROUPS_AT + 24 * group_count bytes) bytes fin laid.groups.0 laid.groups.1
       (joined first second bytes first_out fin (back_same 64 first second bytes first_out one) (narrower 12 second first second first_out fin (omega (arith, laid.header)) (omega arith) end)) in
-      let groups : GroupsKept bytes unit fin small (word_at bytes 36) (group_count bytes) =
-      groups_kept bytes unit fin small high second (word_at bytes 36) (group_count bytes) first_out laid.records laid.within (sym one.size)
+      let groups : GroupsKept bytes unit fin small (word_at bytes GROUPS_AT) (group_count bytes) =
+      groups_kept bytes unit fin small high second (word_at bytes GROUPS_AT) (group_count bytes) first_out laid.records laid.within (sym one.size)
       (sym (later first second bytes first_out behind_header one.behind)) array
       (narrower 12 high second high second_out fin (omega (arith, laid.header, behind_header)) (omega arith) from_header) in
-      let of_stores = stores_same bytes fin unit high sizes small tail positive behind blank ends w24 w28 0 (word_at bytes 32) (store_count bytes) stores laid.store_strings in
-      let of_groups = groups_same bytes fin unit high sizes small tail positive behind blank ends w24 w28 0 (word_at bytes 36) (group_count bytes) groups laid.group_strings in
+      let of_stores = stores_same bytes fin unit high sizes small tail positive behind blank ends w24 w28 0 (word_at bytes STORES_AT) (store_count bytes) stores laid.store_strings in
+      let of_groups = groups_same bytes fin unit high sizes small tail positive behind blank ends w24 w28 0 (word_at bytes GROUPS_AT) (group_count bytes) groups laid.group_strings in
       let size = or_else-none (size_fault bytes) _ valid in
       let head = or_else-none (header_fault bytes) _ size.1 in
       let arrays = or_else-none (arrays_fault bytes) _ head.1 in
-      let store_faults = or_else-none (stores_fault bytes 0 (word_at bytes 32) (store_count bytes)) _ arrays.1 in
+      let store_faults = or_else-none (stores_fault bytes 0 (word_at bytes STORES_AT) (store_count bytes)) _ arrays.1 in
       let group_faults = or_else-none _ _ store_faults.1 in
       let identifier = or_else-none _ _ head.0 in
       let version = or_else-none _ _ identifier.1 in
-      let known : is_version (word_at bytes 4) ≡ true = not-false _ (broken-none _ 4 _ version.0) in
+      let known : is_version (word_at bytes VERSION_AT) ≡ true = not-false _ (broken-none _ VERSION_AT _ version.0) in
       let size_clean : size_fault fin ≡ None =
       ap (λ n. or_else (broken V15 0 (nat_lt FILE_BYTES n)) (or_else (broken V01 n (nat_lt n 64)) None)) (sym sizes) ∙ size.0 in
       let counts_same : _ =
-      (λ i. or_else (broken V04 48 (nat_lt 0x1F (w48 i)))
-      (or_else (broken V15 24 (nat_lt STORES (w24 i))) (or_else (broken V15 28 (nat_lt GROUPS (w28 i))) (or_else (broken V05 44 (nat_eq (w44 i) no_group))
-      (or_else (broken V06 40 (not (nat_eq (w40 i) no_group) && not (nat_lt (w40 i) (w28 i)))) (or_else (broken V06 44 (not (nat_lt (w44 i) (w28 i)))) None)))))) in
+      (λ i. or_else (broken V04 FLAGS_AT (nat_lt 0x1F (w48 i)))
+      (or_else (broken V15 STORE_COUNT_AT (nat_lt STORES (w24 i))) (or_else (broken V15 GROUP_COUNT_AT (nat_lt GROUPS (w28 i))) (or_else (broken V05 START_UNICODE_AT (nat_eq (w44 i) no_group))
+      (or_else (broken V06 START_ANSI_AT (not (nat_eq (w40 i) no_group) && not (nat_lt (w40 i) (w28 i)))) (or_else (broken V06 START_UNICODE_AT (not (nat_lt (w44 i) (w28 i)))) None)))))) in
       let head_clean : header_fault fin ≡ None =
-      both _ _ (ap (λ n. broken V02 0 (not (nat_eq n 0x5354_584B))) (sym w0) ∙ identifier.0)
-      (both _ _ (unbroken_not V03 4 _ (ap is_version version_word ∙ played_is_version (word_at bytes 4) known)) (sym counts_same ∙ version.1)) in
+      both _ _ (ap (λ n. broken V02 IDENTIFIER_AT (not (nat_eq n 0x5354_584B))) (sym w0) ∙ identifier.0)
+      (both _ _ (unbroken_not V03 VERSION_AT _ (ap is_version version_word ∙ played_is_version (word_at bytes VERSION_AT) known)) (sym counts_same ∙ version.1)) in
       let arrays_same : arrays_fault bytes ≡ arrays_fault fin =
-      λ i. or_else (broken V07 32 (nat_lt 0 (w24 i) && not (nat_le (w32 i + 12 * w24 i) (sizes i))))
-      (or_else (broken V08 36 (nat_lt 0 (w28 i) && not (nat_le (w36 i + 24 * w28 i) (sizes i))))
-      (or_else (broken V16 56 (nat_lt 0 (w60 i) && (not (nat_le (w56 i + w60 i) (sizes i)) || nat_lt PICTURE_BYTES (w60 i)))) None)) in
+      λ i. or_else (broken V07 STORES_AT (nat_lt 0 (w24 i) && not (nat_le (w32 i + 12 * w24 i) (sizes i))))
+      (or_else (broken V08 GROUPS_AT (nat_lt 0 (w28 i) && not (nat_le (w36 i + 24 * w28 i) (sizes i))))
+      (or_else (broken V16 PICTURE_AT (nat_lt 0 (w60 i) && (not (nat_le (w56 i + w60 i) (sizes i)) || nat_lt PICTURE_BYTES (w60 i)))) None)) in
       record {
         valid = both _ _ size_clean (both _ _ head_clean (both _ _ (sym arrays_same ∙ arrays.0)
             (both _ _ (sym (of_stores.0 ∙ ap₂ (stores_fault fin 0) w32 w24) ∙ store_faults.0)

@@ -1,5 +1,6 @@
 -- What is made of a file, once it is known to say the same.
 use Rattle.std.proofs.Common.{◌≡◌, ℕ, ◌^◌, ◌<◌, ◌≤◌, false, nat_lt, ltb-false, List, length, Some, sym, subst, ap, ◌∙◌, arith}
+use Rattle.kmx_format.specs.declared.places.TheConstants.{CHECKSUM_AT, GROUPS_AT, STORES_AT, VERSION_AT}
 use Rattle.kmx_format.specs.TablesOf.{word_at}
 use Rattle.kmx_parts.specs.View.{store_count, group_count}
 use Rattle.kmx_verifier.specs.FaultOf.{size_fault, fault_of, IsValid}
@@ -20,16 +21,16 @@ has_header bytes h =
 played_small : (version : ℕ) → played_version version < 2 ^ 32
 played_small version = omega arith
 
-pub version_made : (bytes out : List ℕ) (unit : ℕ) → out ≡ exported bytes unit → 12 ≤ length out → word_at out 4 ≡ played_version (word_at bytes 4)
+pub version_made : (bytes out : List ℕ) (unit : ℕ) → out ≡ exported bytes unit → 12 ≤ length out → word_at out VERSION_AT ≡ played_version (word_at bytes VERSION_AT)
 unfolding replaced
 version_made bytes out unit is long =
-    let pointed : List ℕ = pointed_groups bytes unit (word_at bytes 36) (group_count bytes) (pointed_stores bytes unit (word_at bytes 32) (store_count bytes) bytes) in
-    version_stands pointed out (played_version (word_at bytes 4)) (checksum (with_word 8 0 (with_word 4 (played_version (word_at bytes 4)) pointed)))
-    (played_small (word_at bytes 4)) is long
+    let pointed : List ℕ = pointed_groups bytes unit (word_at bytes GROUPS_AT) (group_count bytes) (pointed_stores bytes unit (word_at bytes STORES_AT) (store_count bytes) bytes) in
+    version_stands pointed out (played_version (word_at bytes VERSION_AT)) (checksum (with_word CHECKSUM_AT 0 (with_word VERSION_AT (played_version (word_at bytes VERSION_AT)) pointed)))
+    (played_small (word_at bytes VERSION_AT)) is long
 
 -- the answer of the exporter
 pub is_made : (file bytes out written : List ℕ) (unit : ℕ) → bytes ≡ file → Some unit ≡ zero_unit bytes → out ≡ exported bytes unit
-    → (12 ≤ length out → word_at out 8 ≡ checksum (with_word 8 0 out)) → written ≡ out → SaysTheSame file written
+    → (12 ≤ length out → word_at out CHECKSUM_AT ≡ checksum (with_word CHECKSUM_AT 0 out)) → written ≡ out → SaysTheSame file written
     → (u : ℕ) × (zero_unit file ≡ Some u) × (out ≡ exported file u) × IsExport file out
 is_made file bytes out written unit is found made right same_bytes same =
     let of_file : out ≡ exported file unit = made ∙ ap (λ (xs : List ℕ). exported xs unit) is in

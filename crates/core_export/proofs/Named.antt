@@ -9,6 +9,7 @@ use Rattle.rule_model.specs.declared.tables.Group.{Group}
 use Rattle.rule_model.specs.declared.tables.Tables.{Tables}
 use Rattle.rule_model.specs.Tab.{tab, tab_options}
 use Rattle.rule_model.specs.Trace.{trace}
+use Rattle.kmx_format.specs.declared.places.TheConstants.{GROUPS_AT, GROUP_COUNT_AT, STORES_AT}
 use Rattle.kmx_format.specs.FileUnits.{output_units, name_units}
 use Rattle.kmx_format.specs.File.{string, offset_of, group_strings, flag, group_record, group_records, groups_place, rules_place, group_strings_place, header_words, file_of}
 use Rattle.kmx_format.specs.TablesOf.{word_at, string_at, tables_of}
@@ -69,10 +70,10 @@ of_tables tables picture writable fits named =
     let small : length bytes < 2 ^ 32 = omega (arith, fits) in
     let p : Parts tables picture bytes = parts tables picture in
     let ns : List ℕ = header_words tables picture in
-    let group_number : word_at bytes 28 ≡ length tables.groups = nth_word_at bytes 0 ns 7 (lit< tt) (omega (arith, writable.group_count)) p.head in
-    let groups_at : word_at bytes 36 ≡ groups_place tables =
+    let group_number : word_at bytes GROUP_COUNT_AT ≡ length tables.groups = nth_word_at bytes 0 ns 7 (lit< tt) (omega (arith, writable.group_count)) p.head in
+    let groups_at : word_at bytes GROUPS_AT ≡ groups_place tables =
     nth_word_at bytes 0 ns 9 (lit< tt) (omega (arith, small, offset_of-le tables.groups (groups_place tables) (length bytes) p.groups.within)) p.head ∙ groups_there tables.groups (groups_place tables) named in
-    some_first (end_in_groups bytes (word_at bytes 36) (group_count bytes)) (end_in_stores bytes (word_at bytes 32) (store_count bytes))
+    some_first (end_in_groups bytes (word_at bytes GROUPS_AT) (group_count bytes)) (end_in_stores bytes (word_at bytes STORES_AT) (store_count bytes))
     (subst (λ (place : ℕ). is_some (end_in_groups bytes place (group_count bytes)) ≡ true) (sym groups_at)
     (first_end bytes small (groups_place tables) (rules_place tables) (group_strings_place tables) (group_count bytes) tables.groups (omega arith) group_number named p.groups p.group_strings))
 

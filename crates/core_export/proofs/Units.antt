@@ -6,6 +6,7 @@ use Rattle.std.proofs.lemmas.Bool.{not-false}
 use Rattle.std.proofs.lemmas.Bool.Decides.{eqb_tells}
 use Rattle.std.proofs.lemmas.List.{drop-drop}
 use Rattle.kmn_base.specs.Spelling.{whole_units}
+use Rattle.kmx_format.specs.declared.places.TheConstants.{GROUPS_AT, STORES_AT}
 use Rattle.kmx_format.specs.TablesOf.{word_at, before_zero, string_at, uses_keys_at}
 use Rattle.kmx_parts.specs.View.{has_zero, is_ended, store_count, group_count}
 use Rattle.kmx_verifier.specs.declared.faults.StringKind.{StringKind}
@@ -166,13 +167,13 @@ module _ (bytes : List ℕ) (high : ℕ) (positive : 0 < high) where
       (in_records unit (uses_keys_at bytes place) (word_at bytes (place + 4)) (word_at bytes (place + 16)) records.0 clear.3))
       (in_groups unit (before + word_at bytes (place + 16)) (place + 24) count parts.1 clear.4) h
 
-  pub zero_unit_blank : (unit : ℕ) → IsValid bytes → StoresClear bytes high (word_at bytes 32) (store_count bytes) → GroupsClear bytes high (word_at bytes 36) (group_count bytes)
+  pub zero_unit_blank : (unit : ℕ) → IsValid bytes → StoresClear bytes high (word_at bytes STORES_AT) (store_count bytes) → GroupsClear bytes high (word_at bytes GROUPS_AT) (group_count bytes)
       → zero_unit bytes ≡ Some unit → IsBlank bytes high unit
   unfolding fault_of zero_unit
   zero_unit_blank unit valid stores groups h =
       let size = or_else-none (size_fault bytes) _ valid in
       let head = or_else-none (header_fault bytes) _ size.1 in
       let arrays = or_else-none (arrays_fault bytes) _ head.1 in
-      let store_faults = or_else-none (stores_fault bytes 0 (word_at bytes 32) (store_count bytes)) _ arrays.1 in
+      let store_faults = or_else-none (stores_fault bytes 0 (word_at bytes STORES_AT) (store_count bytes)) _ arrays.1 in
       let group_faults = or_else-none _ _ store_faults.1 in
-      end_blank unit (first_found unit _ _ (in_groups unit 0 (word_at bytes 36) (group_count bytes) group_faults.0 groups) (in_stores unit 0 (word_at bytes 32) (store_count bytes) store_faults.0 stores) h)
+      end_blank unit (first_found unit _ _ (in_groups unit 0 (word_at bytes GROUPS_AT) (group_count bytes) group_faults.0 groups) (in_stores unit 0 (word_at bytes STORES_AT) (store_count bytes) store_faults.0 stores) h)

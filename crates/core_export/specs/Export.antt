@@ -2,6 +2,7 @@
 use Rattle.std.specs.Prelude.{◌≡◌, ℕ, zero, suc, ◌+◌, ◌*◌, min, Bool, true, not, nat_eq, ◌&&◌, if◌then◌else◌, List, length, Option, Some, None, Result, Ok, Err}
 use Rattle.std.specs.Option.{option_or}
 use Rattle.rule_model.specs.declared.tables.Tables.{Tables}
+use Rattle.kmx_format.specs.declared.places.TheConstants.{CHECKSUM_AT, GROUPS_AT, STORES_AT, VERSION_AT}
 use Rattle.kmx_format.specs.declared.sizes.TheConstants.{STORE_BYTES, GROUP_BYTES, RULE_BYTES}
 use Rattle.kmx_format.specs.TablesOf.{word_at, string_at, tables_of}
 use Rattle.kmx_parts.specs.View.{store_count, group_count}
@@ -45,7 +46,7 @@ end_in_stores bytes place (suc count) =
 
 -- a zero unit of the file: that of the first group's name, or else of the first string that there is
 unfoldable pub zero_unit : List ℕ → Option ℕ
-zero_unit bytes = option_or (end_in_groups bytes (word_at bytes 36) (group_count bytes)) (end_in_stores bytes (word_at bytes 32) (store_count bytes))
+zero_unit bytes = option_or (end_in_groups bytes (word_at bytes GROUPS_AT) (group_count bytes)) (end_in_stores bytes (word_at bytes STORES_AT) (store_count bytes))
 
 -- ---- the words that are replaced
 
@@ -75,13 +76,13 @@ played_version version = min version 0x0F00
 
 -- with the checksum of the bytes in its word, which is 0 where the sum is taken
 abbrev pub summed : List ℕ → List ℕ
-summed bytes = with_word 8 (checksum (with_word 8 0 bytes)) (with_word 8 0 bytes)
+summed bytes = with_word CHECKSUM_AT (checksum (with_word CHECKSUM_AT 0 bytes)) (with_word CHECKSUM_AT 0 bytes)
 
 -- bytes with the words of a file replaced: offsets 0 point to the zero unit, and the version and the checksum are written
 unfoldable pub replaced : List ℕ → ℕ → List ℕ → List ℕ
 replaced bytes unit out =
-    summed (with_word 4 (played_version (word_at bytes 4))
-    (pointed_groups bytes unit (word_at bytes 36) (group_count bytes) (pointed_stores bytes unit (word_at bytes 32) (store_count bytes) out)))
+    summed (with_word VERSION_AT (played_version (word_at bytes VERSION_AT))
+    (pointed_groups bytes unit (word_at bytes GROUPS_AT) (group_count bytes) (pointed_stores bytes unit (word_at bytes STORES_AT) (store_count bytes) out)))
 
 -- the file with its own words replaced
 abbrev pub exported : List ℕ → ℕ → List ℕ
@@ -113,14 +114,14 @@ with_played_version tables = record tables { version = played_version tables.ver
 pub record SaysTheSame (bytes out : List ℕ) : Type 0 where
   pub valid : IsValid out
   pub tables : tables_of out ≡ with_played_version (tables_of bytes)
-  pub contents : are_contents_pointed out (word_at out 32) (store_count out) ≡ true
-  pub contexts : are_groups_pointed out (word_at out 36) (group_count out) ≡ true
+  pub contents : are_contents_pointed out (word_at out STORES_AT) (store_count out) ≡ true
+  pub contexts : are_groups_pointed out (word_at out GROUPS_AT) (group_count out) ≡ true
 
 -- all that the engine wants of a file
 pub record IsExport (bytes out : List ℕ) : Type 0 where
   pub same : SaysTheSame bytes out
-  pub version : word_at out 4 ≡ played_version (word_at bytes 4)
-  pub checksum : word_at out 8 ≡ checksum (with_word 8 0 out)
+  pub version : word_at out VERSION_AT ≡ played_version (word_at bytes VERSION_AT)
+  pub checksum : word_at out CHECKSUM_AT ≡ checksum (with_word CHECKSUM_AT 0 out)
 
 -- why the words of a file aren't replaced: it has no string at all; or its parts lie on one another, so that with the words
 -- replaced it would say something else; want of memory tells nothing

@@ -4,6 +4,7 @@ ghost use Rattle.std.specs.Prelude.{◌≡◌, ◌≤◌, ◌+◌, ◌*◌, ◌<
 ghost use Rattle.kmn_base.specs.declared.limits.TheConstants.{FILE_BYTES};
 ghost use Rattle.core_export.specs.Export.{end_of, end_in_records, end_in_group, end_in_groups, end_in_stores, zero_unit};
 
+use kmx_format::places::{GROUP_COUNT_AT, GROUPS_AT, STORE_COUNT_AT, STORES_AT};
 use kmx_format::sizes::{GROUP_BYTES, RULE_BYTES, STORE_BYTES};
 use kmx_parts::{string_bytes, word_at};
 
@@ -86,9 +87,17 @@ pub(crate) fn zero_unit(bytes: &[u8]) -> Option<u32>
     requires { length bytes.now ≤ FILE_BYTES }
     ensures { result ≡ zero_unit bytes.now }
 {
-    let found = end_in_groups(bytes, word_at(bytes, 36), word_at(bytes, 28));
+    let found = end_in_groups(
+        bytes,
+        word_at(bytes, GROUPS_AT),
+        word_at(bytes, GROUP_COUNT_AT),
+    );
     if found.is_some() {
         return found;
     }
-    end_in_stores(bytes, word_at(bytes, 32), word_at(bytes, 24))
+    end_in_stores(
+        bytes,
+        word_at(bytes, STORES_AT),
+        word_at(bytes, STORE_COUNT_AT),
+    )
 }

@@ -1,5 +1,5 @@
 -- The names of a file's key dictionary, joined by spaces, are no longer than a store may be.
-use Rattle.std.proofs.Common.{◌≡◌, ℕ, suc, ◌+◌, ◌<◌, ◌≤◌, Bool, true, false, List, [], ◌∷◌, ◌++◌, length, Option, Some, refl, sym, ap, ◌∙◌, arith, eqb-true, cond, if◌then◌else◌}
+use Rattle.std.proofs.Common.{◌≡◌, ℕ, suc, ◌+◌, ◌<◌, ◌≤◌, Bool, true, false, List, [], ◌∷◌, ◌++◌, length, get_or, refl, sym, ap, ◌∙◌, arith, eqb-true, cond, if◌then◌else◌}
 use Rattle.std.specs.Prelude.{All, ◌||◌, nat_eq, nat_lt, nat_le, filter, filter_map, find, chars, encode_utf8_all}
 use Rattle.std.specs.List.{list_any, AllByRecursion, slice_split, onto_first, join_with_byte}
 use Rattle.std.proofs.lemmas.List.{length-map}
@@ -16,6 +16,7 @@ use Rattle.kmn_parser.specs.ProgramLaws.{IsCharacter, IsOwnKey}
 use Rattle.kmn_parser.proofs.CleanTexts.{counted-characters}
 use Rattle.rule_model.specs.declared.tables.Store.{Store}
 use Rattle.rule_model.specs.declared.tables.Tables.{Tables}
+use Rattle.rule_model.proofs.Dictionary.{dictionary_has}
 use Rattle.rule_model.specs.Tab.{distinct_onto, element_char, is_dictionary, store_elements, tab_dictionary, words}
 use Rattle.limit_checker.specs.Limits.{names_size}
 use Rattle.kmx_format.specs.Playable.{IsPlayable, IsPlayableStore}
@@ -104,15 +105,9 @@ text-count cs all =
 abbrev AreFew : List Element → Type 0
 AreFew elements = (length elements ≤ STORE_ELEMENTS) × All IsCharacter (filter_map element_char elements)
 
-found-few : (test : Bool) (store : Store) (other : Option Store) → AreFew store.elements → AreFew (store_elements other) → AreFew (store_elements (cond test (Some store) other))
-found-few true store other here rest = here
-found-few false store other here rest = rest
-
 dictionary-few : (stores : List Store) → All IsPlayableStore stores → AreFew (store_elements (find is_dictionary stores))
-dictionary-few [] h = ((omega arith), All-nil IsCharacter)
-dictionary-few (store ∷ stores) h =
-    let here = All-head IsPlayableStore store stores h in
-    found-few (is_dictionary store) store (find is_dictionary stores) (here.element_count, value-characters store.elements here.elements) (dictionary-few stores (All-tail IsPlayableStore store stores h))
+dictionary-few stores h = dictionary_has AreFew stores (omega arith, All-nil IsCharacter)
+    (λ i d within. let store = get_or stores i d in let here = h i d within in (here.element_count, value-characters store.elements here.elements))
 
 -- the names of a file's dictionary stand in one store, parted by spaces
 pub dictionary-total : (tables : Tables) → IsPlayable tables → total (tab_dictionary tables.stores) ≤ suc STORE_ELEMENTS

@@ -1,5 +1,5 @@
 -- The names of a key dictionary are fewer than there are codes: each takes a character and a space of one store.
-use Rattle.std.proofs.Common.{◌≡◌, ℕ, suc, ◌+◌, ◌*◌, ◌≤◌, Bool, true, false, not, List, [], ◌∷◌, ◌++◌, length, Option, Some, refl, ap, ◌∙◌, arith, cond, length-append, if◌then◌else◌}
+use Rattle.std.proofs.Common.{◌≡◌, ℕ, suc, ◌+◌, ◌*◌, ◌≤◌, Bool, true, false, not, List, [], ◌∷◌, ◌++◌, length, refl, ap, ◌∙◌, arith, cond, length-append, if◌then◌else◌}
 use Rattle.std.specs.Prelude.{All, filter, filter_map, find, nat_eq, encode_utf8_all}
 use Rattle.std.specs.Char.{encode_utf8}
 use Rattle.std.specs.List.{list_any, slice_split, onto_first}
@@ -13,6 +13,7 @@ use Rattle.kmn_base.specs.declared.limits.TheConstants.{STORE_ELEMENTS, KEY_NAME
 use Rattle.kmn_base.specs.Names.{same_name}
 use Rattle.virtual_keys.proofs.WordBytes.{HasNoSpace, bytes_of}
 use Rattle.rule_model.specs.declared.tables.Store.{Store}
+use Rattle.rule_model.proofs.Dictionary.{dictionary_has}
 use Rattle.rule_model.specs.Tab.{distinct_onto, element_char, is_dictionary, store_elements, tab_dictionary, words}
 
 -- 1 for a part that is a word
@@ -126,17 +127,8 @@ characters-few (element.Key flags code ∷ es) = next-right (length (filter_map 
 abbrev pub HasFewElements : Store → Type 0
 HasFewElements store = length store.elements ≤ STORE_ELEMENTS
 
-found-few : (test : Bool) (store : Store) (other : Option Store) → length store.elements ≤ STORE_ELEMENTS → length (store_elements other) ≤ STORE_ELEMENTS
-    → length (store_elements (cond test (Some store) other)) ≤ STORE_ELEMENTS
-found-few true store other here rest = here
-found-few false store other here rest = rest
-
 dictionary-few : (stores : List Store) → All HasFewElements stores → length (store_elements (find is_dictionary stores)) ≤ STORE_ELEMENTS
-dictionary-few [] few = omega arith
-dictionary-few (store ∷ stores) few =
-    found-few (is_dictionary store) store (find is_dictionary stores)
-    (All-head HasFewElements store stores few)
-    (dictionary-few stores (All-tail HasFewElements store stores few))
+dictionary-few stores few = dictionary_has (λ (elements : List Element). length elements ≤ STORE_ELEMENTS) stores (omega arith) few
 
 -- so there is a code for each name
 pub few_names : (stores : List Store) → All HasFewElements stores → length (tab_dictionary stores) ≤ KEY_NAMES

@@ -1,5 +1,5 @@
 ghost use Rattle.std.specs.Prelude.{◌≡◌, ◌≤◌, ◌<◌, ◌-◌, ◌+◌, ◌^◌, [], ◌∷◌, ◌++◌, length, drop, take, nat_lt};
-ghost use Rattle.kmn_base.specs.declared.limits.TheConstants.{EVENT_PUTS};
+ghost use Rattle.kmn_base.specs.declared.limits.TheConstants.{EVENT_PUTS, WINDOW_ITEMS};
 ghost use Rattle.kmn_base.specs.Lists.{characters, without_last, window, put, read_again};
 ghost use Rattle.rule_model.specs.Enter.{without_end_marks, without_last_character};
 ghost use Rattle.rule_model.specs.KeyEvent.{deleted, inserted};
@@ -26,8 +26,8 @@ pub struct Edited {
 }
 
 impl<'a> Model for Left<'a> {
-    ghost use Rattle.std.specs.Prelude.{◌≤◌};
-    ghost use Rattle.kmn_base.specs.declared.limits.TheConstants.{EVENT_PUTS};
+    ghost use Rattle.std.specs.Prelude.{◌≡◌, ◌≤◌};
+    ghost use Rattle.kmn_base.specs.declared.limits.TheConstants.{EVENT_PUTS, WINDOW_ITEMS};
     ghost use Rattle.context_cache.specs.Cached.{whole, StandsAtEnd};
     ghost use Rattle.event_text.specs.Texts.{LeftValue};
 
@@ -35,12 +35,13 @@ impl<'a> Model for Left<'a> {
 
     ghost view = { λ left. record {
       lent = left.text.lent;
-      items = whole left.text.text left.cache;
-      cache = left.cache;
+      items = whole left.text.text left.cache.items;
+      cache = left.cache.items;
       put = left.put;
     } };
 
-    ghost invariant = { λ left. (left.text.added ≤ left.put) × (left.put ≤ EVENT_PUTS) × StandsAtEnd left.cache left.text.text };
+    ghost invariant = { λ left. (left.text.added ≤ left.put) × (left.put ≤ EVENT_PUTS) × StandsAtEnd left.cache.items left.text.text
+        × (left.cache.room ≡ WINDOW_ITEMS) };
 }
 
 impl<'a> Left<'a> {
@@ -51,10 +52,11 @@ impl<'a> Left<'a> {
     pub fn begin(lent: &'a [char], inserted: Inserted, mut cache: Cache) -> Left<'a>
         requires few { length lent.now < 2 ^ 32 }
         requires room { inserted.room ≡ EVENT_PUTS }
+        requires places { cache.room ≡ WINDOW_ITEMS }
         ensures { result ≡ record {
           lent = lent.now;
-          items = read_again cache lent.now;
-          cache = window (read_again cache lent.now);
+          items = read_again cache.items lent.now;
+          cache = window (read_again cache.items lent.now);
           put = 0;
         } }
     {
@@ -164,10 +166,11 @@ impl<'a> Left<'a> {
     /// Ends the event: its last 64 items, and the edit that makes its text of the lent one.
     #[tactic(auto, using(crate::proofs::Lefts::characters_are))]
     pub fn finish(mut self) -> Edited
-        ensures cache { result.cache ≡ window self.entry.items }
+        ensures cache { result.cache.items ≡ window self.entry.items }
         ensures deleted { (before : _) → characters before ≡ self.entry.lent → result.deleted ≡ deleted before self.entry.items }
         ensures inserted { (before : _) → characters before ≡ self.entry.lent → result.inserted.text ≡ inserted before self.entry.items }
         ensures room { result.inserted.room ≡ EVENT_PUTS }
+        ensures places { result.cache.room ≡ WINDOW_ITEMS }
         ensures small { result.deleted < 2 ^ 32 }
         ensures few { length result.inserted.text ≤ EVENT_PUTS }
     {

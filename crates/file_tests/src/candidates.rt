@@ -128,16 +128,24 @@ fn keyboard_of<'a>(alloc: Global, file: FileTables<'a>) -> Result<IndexedKeyboar
     Err(Memory)
 }
 
+/// Whether a store has these elements, and none behind them.
+fn has_elements(keyboard: &IndexedKeyboard<'_>, store: u32, elements: &[Element]) -> bool {
+    for place in 0..4usize {
+        if keyboard.element_at(store, place) != elements.get(place).copied() {
+            return false;
+        }
+    }
+    true
+}
+
 /// Whether each store has its elements, and none behind them.
 fn has_contents(keyboard: &IndexedKeyboard<'_>) -> bool {
-    (0..6u32).all(|store| {
-        (0..4usize).all(|place| {
-            let wanted = CONTENTS
-                .get(store as usize)
-                .and_then(|elements| elements.get(place));
-            keyboard.element_at(store, place) == wanted.copied()
-        })
-    })
+    for (store, elements) in (0u32..).zip(CONTENTS) {
+        if !has_elements(keyboard, store, elements) {
+            return false;
+        }
+    }
+    true
 }
 
 /// The elements of a text.
@@ -168,6 +176,16 @@ fn has_system_options(keyboard: &IndexedKeyboard<'_>) -> bool {
         && keyboard.element_at(7, 31).is_none()
 }
 
+/// Whether just these of eight stores have the truth.
+fn are_true(truths: &[bool], wanted: &[u32]) -> bool {
+    for (store, truth) in (0u32..).zip(truths) {
+        if *truth != wanted.contains(&store) {
+            return false;
+        }
+    }
+    truths.len() == 8
+}
+
 /// Whether a platform has each word of just the stores that it should.
 fn has_truths(
     alloc: Global,
@@ -178,106 +196,184 @@ fn has_truths(
     let platform = elements_of(alloc, platform)?;
     let mut truths = vec![in alloc; false; keyboard.store_count() as usize]?;
     keyboard.find_truths(truths.as_mut_slice(), platform.as_slice());
-    let truths = truths.as_slice();
-    Ok((0..8u32).all(|store| {
-        let holds = wanted.iter().any(|number| *number == store);
-        truths.get(store as usize).copied() == Some(holds)
-    }))
+    Ok(are_true(truths.as_slice(), wanted))
+}
+
+/// Whether a store has the same elements as those that it should, and as no other.
+fn is_alike(keyboard: &IndexedKeyboard<'_>, store: u32, first: u32) -> bool {
+    for (other, first_of_other) in (0u32..).zip(ALIKE) {
+        if keyboard.same_elements(store, other) != (*first_of_other == first) {
+            return false;
+        }
+    }
+    true
 }
 
 /// Whether of each two stores those have the same elements that should.
 fn are_alike(keyboard: &IndexedKeyboard<'_>) -> bool {
-    (0..9u32).all(|store| {
-        (0..9u32).all(|other| {
-            let wanted = ALIKE.get(store as usize) == ALIKE.get(other as usize);
-            keyboard.same_elements(store, other) == wanted
-        })
-    })
+    for (store, first) in (0u32..).zip(ALIKE) {
+        if !is_alike(keyboard, store, *first) {
+            return false;
+        }
+    }
+    true
 }
 
 /// Whether rows are of these stores and places.
 fn are_rows(rows: &[Holding], wanted: &[(u16, u16)]) -> bool {
+    for (row, pair) in rows.iter().zip(wanted) {
+        if (row.store, row.place) != *pair {
+            return false;
+        }
+    }
     rows.len() == wanted.len()
-        && rows
-            .iter()
-            .zip(wanted)
-            .all(|(row, pair)| (row.store, row.place) == *pair)
+}
+
+/// Whether the candidates of each row are those that it has.
+fn all_answer(with_keys: &RuleIndex, without_keys: &RuleIndex) -> bool {
+    for asked in CANDIDATES {
+        if !answers(with_keys, without_keys, asked) {
+            return false;
+        }
+    }
+    true
+}
+
+/// Whether both groups have their candidates.
+fn has_candidates(alloc: Global) -> Result<bool, Memory> {
+    let file = FileTables::of(FILE);
+    let with_keys = index_of(alloc, &file, 0)?;
+    let without_keys = index_of(alloc, &file, 1)?;
+    Ok(all_answer(&with_keys, &without_keys))
 }
 
 #[test]
 fn candidates_of_a_press(rt: HostRuntime) -> Result<(), Fail> {
-    let file = FileTables::of(FILE);
-    let with_keys = index_of(rt.alloc(), &file, 0)?;
-    let without_keys = index_of(rt.alloc(), &file, 1)?;
-    for asked in CANDIDATES.iter() {
-        assert!(rt; answers(&with_keys, &without_keys, asked));
-    }
+    assert!(rt; has_candidates(rt.alloc())?);
     Ok(())
+}
+
+/// Whether the contexts have these counts of items.
+fn has_counts(index: &RuleIndex) -> bool {
+    for (number, count) in (0u32..).zip(&[0, 1, 1, 2, 1, 1, 0]) {
+        if index.pattern_count(number) != *count {
+            return false;
+        }
+    }
+    true
+}
+
+/// Whether the contexts of the first group are those that it should have.
+fn has_contexts(alloc: Global) -> Result<bool, Memory> {
+    let index = index_of(alloc, &FileTables::of(FILE), 0)?;
+    Ok(
+        has_counts(&index)
+            && index.context(3) == [ContextItem::Char('x'), ContextItem::Any(0)].as_slice()
+            && index.context(4) == [ContextItem::NotAny(0)].as_slice()
+            && index.context(6).is_empty(),
+    )
 }
 
 #[test]
 fn contexts_of_records(rt: HostRuntime) -> Result<(), Fail> {
-    let index = index_of(rt.alloc(), &FileTables::of(FILE), 0)?;
-    let counts = [0, 1, 1, 2, 1, 1, 0];
-    for number in 0..7u32 {
-        assert!(rt; index.pattern_count(number) == counts[number as usize]);
-    }
-    assert!(rt; index.context(3) == [ContextItem::Char('x'), ContextItem::Any(0)].as_slice());
-    assert!(rt; index.context(4) == [ContextItem::NotAny(0)].as_slice());
-    assert!(rt; index.context(6).is_empty());
+    assert!(rt; has_contexts(rt.alloc())?);
     Ok(())
+}
+
+/// Whether the first file has its options and own keys.
+fn has_own_keys(alloc: Global) -> Result<bool, Memory> {
+    let keyboard = keyboard_of(alloc, FileTables::of(FILE))?;
+    Ok(
+        keyboard.numbers() == [None, Some(0), Some(1), Some(2), Some(3)].as_slice()
+            && keyboard.own_key(256) == Some(b"K1".as_slice())
+            && keyboard.own_key(257) == Some(b"k2".as_slice())
+            && keyboard.own_key(258).is_none(),
+    )
 }
 
 #[test]
 fn options_and_own_keys_of_a_file(rt: HostRuntime) -> Result<(), Fail> {
-    let keyboard = keyboard_of(rt.alloc(), FileTables::of(FILE))?;
-    assert!(rt; keyboard.numbers() == [None, Some(0), Some(1), Some(2), Some(3)].as_slice());
-    assert!(rt; keyboard.own_key(256) == Some(b"K1".as_slice()));
-    assert!(rt; keyboard.own_key(257) == Some(b"k2".as_slice()));
-    assert!(rt; keyboard.own_key(258).is_none());
+    assert!(rt; has_own_keys(rt.alloc())?);
     Ok(())
 }
 
-#[test]
-fn holders_of_items(rt: HostRuntime) -> Result<(), Fail> {
-    let keyboard = keyboard_of(rt.alloc(), FileTables::of(STORES_FILE))?;
-    assert!(rt; has_contents(&keyboard));
-    for (item, rows) in HOLDERS.iter() {
-        assert!(rt; are_rows(keyboard.holders(*item), rows));
+/// Whether each item has its holders.
+fn are_held(keyboard: &IndexedKeyboard<'_>) -> bool {
+    for (item, rows) in HOLDERS {
+        if !are_rows(keyboard.holders(*item), rows) {
+            return false;
+        }
     }
-    assert!(rt; keyboard.place_of(0, Char('a')) == Some(0));
-    assert!(rt; keyboard.place_of(3, Char('a')) == Some(1));
-    assert!(rt; keyboard.place_of(2, Char('a')).is_none());
-    assert!(rt; keyboard.place_of(7, Char(' ')) == Some(7));
-    assert!(rt; keyboard.place_of(8, Char('a')).is_none());
-    Ok(())
+    true
+}
+
+/// Whether items have their first places in stores.
+fn has_places(keyboard: &IndexedKeyboard<'_>) -> bool {
+    keyboard.place_of(0, Char('a')) == Some(0)
+        && keyboard.place_of(3, Char('a')) == Some(1)
+        && keyboard.place_of(2, Char('a')).is_none()
+        && keyboard.place_of(7, Char(' ')) == Some(7)
+        && keyboard.place_of(8, Char('a')).is_none()
+}
+
+/// Whether the six stores have what they should, and which are alike.
+fn has_stores(alloc: Global) -> Result<bool, Memory> {
+    let keyboard = keyboard_of(alloc, FileTables::of(STORES_FILE))?;
+    Ok(
+        has_contents(&keyboard)
+            && are_held(&keyboard)
+            && has_places(&keyboard)
+            && are_alike(&keyboard),
+    )
 }
 
 #[test]
-fn stores_that_are_alike(rt: HostRuntime) -> Result<(), Fail> {
-    let keyboard = keyboard_of(rt.alloc(), FileTables::of(STORES_FILE))?;
-    assert!(rt; are_alike(&keyboard));
+fn stores_of_a_file(rt: HostRuntime) -> Result<(), Fail> {
+    assert!(rt; has_stores(rt.alloc())?);
     Ok(())
+}
+
+/// The first store of a system option, by its text, that has other elements.
+fn wrong_option(
+    alloc: Global,
+    keyboard: &IndexedKeyboard<'_>,
+) -> Result<Option<&'static str>, Fail> {
+    for &(store, text) in SYSTEM_CONTENTS {
+        if !has_text(alloc, keyboard, store, text)? {
+            return Ok(Some(text));
+        }
+    }
+    Ok(None)
+}
+
+/// The first platform that has other words.
+fn wrong_platform(
+    alloc: Global,
+    keyboard: &IndexedKeyboard<'_>,
+) -> Result<Option<&'static str>, Fail> {
+    for &(platform, wanted) in PLATFORMS {
+        if !has_truths(alloc, keyboard, platform, wanted)? {
+            return Ok(Some(platform));
+        }
+    }
+    Ok(None)
+}
+
+/// What is wrong with the system options behind the six stores.
+fn wrong_of_options(alloc: Global) -> Result<Option<&'static str>, Fail> {
+    let keyboard = keyboard_of(alloc, FileTables::of(STORES_FILE))?;
+    if !has_system_options(&keyboard) {
+        return Ok(Some("the places of the options"));
+    }
+    if let Some(text) = wrong_option(alloc, &keyboard)? {
+        return Ok(Some(text));
+    }
+    wrong_platform(alloc, &keyboard)
 }
 
 #[test]
 fn system_options(rt: HostRuntime) -> Result<(), Fail> {
-    let keyboard = keyboard_of(rt.alloc(), FileTables::of(STORES_FILE))?;
-    assert!(rt; has_system_options(&keyboard));
-    for &(store, text) in SYSTEM_CONTENTS {
-        assert!(rt; has_text(rt.alloc(), &keyboard, store, text)?);
-    }
-    Ok(())
-}
-
-#[test]
-fn words_of_a_platform(rt: HostRuntime) -> Result<(), Fail> {
-    let keyboard = keyboard_of(rt.alloc(), FileTables::of(STORES_FILE))?;
-    for &(platform, wanted) in PLATFORMS {
-        assert!(rt;
-            has_truths(rt.alloc(), &keyboard, platform, wanted)?,
-            "{platform}"
-        );
-    }
+    let wrong = wrong_of_options(rt.alloc())?;
+    assert!(rt; wrong.is_none(), "{}", wrong.unwrap_or(""));
     Ok(())
 }

@@ -1,212 +1,129 @@
 //! Bytes and what they give, and each item as its bytes.
 
-use item_codec::{BadKind, BadUnits, UnitItem, items_of, spell};
+use item_codec::{BadUnits, UnitItem, items_of, spell};
 use kmn_base::{Memory, Seq};
 use std::alloc::{AllocError, Global};
+use std::fmt::Write;
 use std::test::Fail;
 
-/// Bytes, and what a walk over them gives.
-type WalkRow = (&'static str, &'static [Result<UnitItem, BadUnits>]);
-
-/// Bytes that give the items of `every_kind`.
-const EVERY_KIND: WalkRow = (
-    "3d d8 00 de ff ff 01 00 02 00 ff ff 02 00 03 00 04 00 ff ff 03 00 ff ff 04 00 ff ff 05 00 01 00 \
+/// The bytes of `ITEMS`.
+const EVERY_KIND: &str = "\
+3d d8 00 de ff ff 01 00 02 00 ff ff 02 00 03 00 04 00 ff ff 03 00 ff ff 04 00 ff ff 05 00 01 00 \
 ff ff 06 00 ff ff 07 00 ff ff 08 00 09 01 ff ff 0a 00 10 40 41 00 10 00 ff ff 11 00 02 00 ff ff 12 00 05 00 \
 ff ff 13 00 06 00 07 00 ff ff 14 00 06 00 02 00 07 00 ff ff 15 00 fe ff ff ff 16 00 08 00 \
-ff ff 17 00 22 00 02 00 07 00 ff ff 17 00 20 00 01 00 fe ff ff ff 18 00 22 00 07 00",
-    &[
-        Ok(UnitItem::Char('\u{1F600}')),
-        Ok(UnitItem::Any(2)),
-        Ok(UnitItem::Index(3, 4)),
-        Ok(UnitItem::Context),
-        Ok(UnitItem::Nul),
-        Ok(UnitItem::Enter(1)),
-        Ok(UnitItem::Stop),
-        Ok(UnitItem::Beep),
-        Ok(UnitItem::Dead(265)),
-        Ok(UnitItem::Key(0x4010, 65)),
-        Ok(UnitItem::ContextAt(2)),
-        Ok(UnitItem::NotAny(5)),
-        Ok(UnitItem::Set(6, 7)),
-        Ok(UnitItem::Test(6, 2, 7)),
-        Ok(UnitItem::Save(0xFFFE)),
-        Ok(UnitItem::Reset(8)),
-        Ok(UnitItem::SystemTest(34, 2, 7)),
-        Ok(UnitItem::SystemTest(32, 1, 0xFFFE)),
-        Ok(UnitItem::SetSystem(34, 7)),
-    ],
-);
+ff ff 17 00 22 00 02 00 07 00 ff ff 17 00 20 00 01 00 fe ff ff ff 18 00 22 00 07 00";
 
-const FAULTS: &[WalkRow] = &[
-    (
-        "ff ff 03 00 61 00 ff ff 14 00 01 00 03 00 02 00 61 00",
-        &[
-            Ok(UnitItem::Context),
-            Ok(UnitItem::Char('a')),
-            Err(BadUnits {
-                kind: BadKind::U5,
-                at: 6,
-                code: 0,
-            }),
-        ],
-    ),
-    (
-        "ff ff 0a 00 00 40 41 00 11 00",
-        &[Err(BadUnits {
-            kind: BadKind::U4,
-            at: 0,
-            code: 0,
-        })],
-    ),
-    (
-        "61 00 ff ff 09 00",
-        &[
-            Ok(UnitItem::Char('a')),
-            Err(BadUnits {
-                kind: BadKind::U2,
-                at: 2,
-                code: 9,
-            }),
-        ],
-    ),
-    (
-        "3d d8 61 00",
-        &[Err(BadUnits {
-            kind: BadKind::U1,
-            at: 0,
-            code: 0,
-        })],
-    ),
-    (
-        "62 00 61",
-        &[
-            Ok(UnitItem::Char('b')),
-            Err(BadUnits {
-                kind: BadKind::U6,
-                at: 2,
-                code: 0,
-            }),
-        ],
-    ),
-    (
-        "00 00 61 00",
-        &[Err(BadUnits {
-            kind: BadKind::U3,
-            at: 0,
-            code: 0,
-        })],
-    ),
-    (
-        "ff ff 14 00 00 00 03 00 02",
-        &[Err(BadUnits {
-            kind: BadKind::U6,
-            at: 0,
-            code: 0,
-        })],
-    ),
-    (
-        "ff ff 17 00 22 00 03 00 01 00",
-        &[Err(BadUnits {
-            kind: BadKind::U5,
-            at: 0,
-            code: 0,
-        })],
-    ),
-    (
-        "61 00 ff ff 17 00 22 00 00 00 01 00",
-        &[
-            Ok(UnitItem::Char('a')),
-            Err(BadUnits {
-                kind: BadKind::U3,
-                at: 2,
-                code: 0,
-            }),
-        ],
-    ),
-    (
-        "ff ff 18 00 22 00",
-        &[Err(BadUnits {
-            kind: BadKind::U3,
-            at: 0,
-            code: 0,
-        })],
-    ),
-    (
-        "ff ff 18 00 22 00 01",
-        &[Err(BadUnits {
-            kind: BadKind::U6,
-            at: 0,
-            code: 0,
-        })],
-    ),
-    (
-        "ff ff 19 00",
-        &[Err(BadUnits {
-            kind: BadKind::U2,
-            at: 0,
-            code: 25,
-        })],
-    ),
+/// An item of each kind.
+const ITEMS: &[UnitItem] = &[
+    UnitItem::Char('\u{1F600}'),
+    UnitItem::Any(2),
+    UnitItem::Index(3, 4),
+    UnitItem::Context,
+    UnitItem::Nul,
+    UnitItem::Enter(1),
+    UnitItem::Stop,
+    UnitItem::Beep,
+    UnitItem::Dead(265),
+    UnitItem::Key(0x4010, 65),
+    UnitItem::ContextAt(2),
+    UnitItem::NotAny(5),
+    UnitItem::Set(6, 7),
+    UnitItem::Test(6, 2, 7),
+    UnitItem::Save(0xFFFE),
+    UnitItem::Reset(8),
+    UnitItem::SystemTest(34, 2, 7),
+    UnitItem::SystemTest(32, 1, 0xFFFE),
+    UnitItem::SetSystem(34, 7),
 ];
 
+/// On each line bytes, and what a walk over them gives: items, and the kind, the place and the code of a fault.
+const FAULTS: &str = "\
+ff ff 03 00 61 00 ff ff 14 00 01 00 03 00 02 00 61 00 => Context Char('a') U5 at 6 code 0
+ff ff 0a 00 00 40 41 00 11 00 => U4 at 0 code 0
+61 00 ff ff 09 00 => Char('a') U2 at 2 code 9
+3d d8 61 00 => U1 at 0 code 0
+62 00 61 => Char('b') U6 at 2 code 0
+00 00 61 00 => U3 at 0 code 0
+ff ff 14 00 00 00 03 00 02 => U6 at 0 code 0
+ff ff 17 00 22 00 03 00 01 00 => U5 at 0 code 0
+61 00 ff ff 17 00 22 00 00 00 01 00 => Char('a') U3 at 2 code 0
+ff ff 18 00 22 00 => U3 at 0 code 0
+ff ff 18 00 22 00 01 => U6 at 0 code 0
+ff ff 19 00 => U2 at 0 code 25";
+
+/// The byte of a hexadecimal number.
+fn byte_of(word: &str) -> Result<u8, &'static str> {
+    u8::from_str_radix(word, 16)
+        .ok()
+        .ok_or("a number that is no byte")
+}
+
 /// The bytes of a text of hexadecimal numbers.
-fn bytes_of(alloc: Global, text: &str) -> Result<Vec<u8>, AllocError> {
+fn bytes_of(alloc: Global, text: &str) -> Result<Vec<u8>, Fail> {
     let mut bytes = Vec::new(alloc);
     for word in text.split_whitespace() {
-        if let Ok(byte) = u8::from_str_radix(word, 16) {
-            bytes.push(byte)?;
-        }
+        bytes.push(byte_of(word)?)?;
     }
     Ok(bytes)
 }
 
-/// Whether a walk over bytes gives what it should.
-fn is_walked(alloc: Global, row: WalkRow) -> Result<bool, Fail> {
-    let bytes = bytes_of(alloc, row.0)?;
-    let mut given = Vec::new(alloc);
-    for result in items_of(&bytes[..bytes.len().min(256)]) {
-        given.push(result)?;
+/// Appends an item or a fault.
+fn write_result(out: &mut String, given: Result<UnitItem, BadUnits>) -> Result<(), AllocError> {
+    match given {
+        Ok(item) => write!(out, " {item:?}"),
+        Err(fault) => write!(out, " {:?} at {} code {}", fault.kind, fault.at, fault.code),
     }
-    Ok(given.as_slice() == row.1)
+}
+
+/// Appends what a walk over bytes gives.
+fn write_walk(out: &mut String, bytes: &[u8]) -> Result<(), AllocError> {
+    for result in items_of(&bytes[..bytes.len().min(256)]) {
+        write_result(out, result)?;
+    }
+    Ok(())
+}
+
+/// Whether a walk over a row's bytes gives what the row wants.
+fn is_walked(alloc: Global, row: &str) -> Result<bool, Fail> {
+    let (bytes, wanted) = row.split_once(" =>").ok_or("a row without an answer")?;
+    let bytes = bytes_of(alloc, bytes)?;
+    let mut out = String::new(alloc);
+    write_walk(&mut out, bytes.as_slice())?;
+    Ok(out.as_str() == wanted)
+}
+
+/// Whether a walk over bytes gives an item of each kind, and no more.
+fn gives_items(bytes: &[u8]) -> bool {
+    let mut results = items_of(&bytes[..bytes.len().min(256)]);
+    for item in ITEMS {
+        if results.next() != Some(Ok(*item)) {
+            return false;
+        }
+    }
+    results.next().is_none()
 }
 
 /// Spells an item of each kind.
-fn every_kind(out: &mut Seq<u8>) -> Result<(), Memory> {
-    spell(out, UnitItem::Char('\u{1F600}'))?;
-    spell(out, UnitItem::Any(2))?;
-    spell(out, UnitItem::Index(3, 4))?;
-    spell(out, UnitItem::Context)?;
-    spell(out, UnitItem::Nul)?;
-    spell(out, UnitItem::Enter(1))?;
-    spell(out, UnitItem::Stop)?;
-    spell(out, UnitItem::Beep)?;
-    spell(out, UnitItem::Dead(265))?;
-    spell(out, UnitItem::Key(0x4010, 65))?;
-    spell(out, UnitItem::ContextAt(2))?;
-    spell(out, UnitItem::NotAny(5))?;
-    spell(out, UnitItem::Set(6, 7))?;
-    spell(out, UnitItem::Test(6, 2, 7))?;
-    spell(out, UnitItem::Save(0xFFFE))?;
-    spell(out, UnitItem::Reset(8))?;
-    spell(out, UnitItem::SystemTest(34, 2, 7))?;
-    spell(out, UnitItem::SystemTest(32, 1, 0xFFFE))?;
-    spell(out, UnitItem::SetSystem(34, 7))
+fn spell_items(out: &mut Seq<u8>) -> Result<(), Memory> {
+    for item in ITEMS {
+        spell(out, *item)?;
+    }
+    Ok(())
 }
 
-/// Whether the items of each kind are spelled as they should.
+/// Whether bytes give an item of each kind, and these are spelled as the bytes.
 fn are_spelled(alloc: Global) -> Result<bool, Fail> {
+    let bytes = bytes_of(alloc, EVERY_KIND)?;
     let mut spelled = Seq::new(alloc);
-    every_kind(&mut spelled)?;
-    let wanted = bytes_of(alloc, EVERY_KIND.0)?;
-    Ok(spelled.as_slice() == wanted.as_slice())
+    spell_items(&mut spelled)?;
+    Ok(gives_items(bytes.as_slice()) && spelled.as_slice() == bytes.as_slice())
 }
 
 #[test]
 fn bytes_and_their_items(rt: HostRuntime) -> Result<(), Fail> {
-    for &row in FAULTS {
-        assert!(rt; is_walked(rt.alloc(), row)?, "{}", row.0);
+    for row in FAULTS.lines() {
+        assert!(rt; is_walked(rt.alloc(), row)?, "{row}");
     }
-    assert!(rt; is_walked(rt.alloc(), EVERY_KIND)?);
     assert!(rt; are_spelled(rt.alloc())?);
     Ok(())
 }

@@ -3,7 +3,8 @@
 //! `kmx_decompiler`, which makes its texts by `decompile_text`, `layouts` of `touch_layout`, and `exporting` of `core_export`.
 //!
 //! They stand here because a crate with tests is proved twice, once with them and once without: so each of those crates is
-//! proved once, and the tests are proved over them. `fixtures` has what several of them take. No layer stands above.
+//! proved once, and the tests are proved over them. `files` has the files of rows, and `fixtures`
+//! what several of them take. No layer stands above.
 #![tactic(auto)]
 
 #[cfg(test)]
@@ -12,6 +13,8 @@ mod candidates;
 mod codec;
 #[cfg(test)]
 mod exporting;
+#[cfg(test)]
+mod files;
 pub mod fixtures;
 #[cfg(test)]
 mod layouts;

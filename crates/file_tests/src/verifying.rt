@@ -1,15 +1,14 @@
 //! Files and what verifying them gives.
 
-use crate::fixtures::{ON_LAYER, ONE_RULE, TWO_KEYS};
+use crate::files::changed;
+use crate::fixtures::TWO_KEYS;
 use kmn_base::{Code, RuleKey};
 use kmx_verifier::{Fault, VerifyError, verify};
-use rule_model::{Group, Out};
+use rule_model::{Group, Out, Rule};
 use std::alloc::{AllocError, Global};
 use std::test::Fail;
 
-/// On each line changes of a file, and what verifying it gives then. `two` begins with the file of two keys, `layer` with that
-/// of a condition on the layer, else it is that of one rule. `<` cuts the file to a length, `@` goes to a place, and hexadecimal
-/// digits are the bytes from there on. Of a valid file its version and its counts are given.
+/// On each line a file as `changed` reads it, and what verifying it gives. Of a valid file its version and its counts are given.
 const CHANGES: &str = "\
  > valid 0A00 0 1 1
 <63 > V01 at 63 unit 00
@@ -93,51 +92,6 @@ layer @112 96 @150 FFFF 1100 0100 0000 > V13 at 150 unit 00
 layer @112 A8 @116 96 @150 FFFF 1700 2200 0200 0100 FFFF 0100 0100 0000 FFFF 0200 0100 0200 0000 > valid 0A00 1 1 1
 layer @112 A8 @116 96 @150 FFFF 1700 2200 0200 0100 FFFF 0100 0100 0000 FFFF 0200 0100 0100 0000 > V13 at 168 unit 00";
 
-/// Puts a byte at a place, behind the last one where the place is past it.
-fn put(file: &mut Vec<u8>, place: usize, byte: u8) -> Result<(), AllocError> {
-    match file.get_mut(place) {
-        Some(there) => {
-            *there = byte;
-            Ok(())
-        }
-        None => {
-            file.push(byte)?;
-            Ok(())
-        }
-    }
-}
-
-/// Puts the bytes of hexadecimal digits from a place on; answers the place behind them.
-fn put_digits(file: &mut Vec<u8>, place: usize, digits: &str) -> Result<usize, AllocError> {
-    let mut place = place;
-    for pair in digits.as_bytes().chunks(2) {
-        let text = str::from_utf8(pair).unwrap_or("");
-        put(file, place, u8::from_str_radix(text, 16).unwrap_or(0))?;
-        place = place.saturating_add(1);
-    }
-    Ok(place)
-}
-
-/// A file with changes made in it.
-fn changed(alloc: Global, changes: &str) -> Result<Vec<u8>, AllocError> {
-    let mut file = Vec::from_slice(alloc, &ONE_RULE)?;
-    let mut place = 0;
-    for word in changes.split_whitespace() {
-        if word == "two" {
-            file = Vec::from_slice(alloc, &TWO_KEYS)?;
-        } else if word == "layer" {
-            file = Vec::from_slice(alloc, &ON_LAYER)?;
-        } else if let Some(length) = word.strip_prefix('<') {
-            file.truncate(length.parse::<usize>().unwrap_or(0));
-        } else if let Some(number) = word.strip_prefix('@') {
-            place = number.parse::<usize>().unwrap_or(0);
-        } else {
-            place = put_digits(&mut file, place, word)?;
-        }
-    }
-    Ok(file)
-}
-
 /// What verifying bytes gives, as text.
 fn given(alloc: Global, bytes: &[u8]) -> Result<String, AllocError> {
     match verify(alloc, bytes) {
@@ -157,36 +111,40 @@ fn given(alloc: Global, bytes: &[u8]) -> Result<String, AllocError> {
 
 /// Whether verifying a changed file gives what its line says.
 fn is_right(alloc: Global, line: &str) -> Result<bool, Fail> {
-    let (changes, wanted) = line.split_once("> ").unwrap_or((line, ""));
+    let (changes, wanted) = line.split_once("> ").ok_or("a row without an answer")?;
     let file = changed(alloc, changes)?;
     Ok(given(alloc, file.as_slice())?.as_str() == wanted)
 }
 
-/// Whether the records of a group of the file of two keys put these characters, for A with these flags.
-fn are_records(group: &Group, outputs: &[(u32, char)]) -> bool {
-    group.rules.len() == outputs.len()
-        && group.rules.as_slice().iter().zip(outputs).all(|(rule, row)| {
-            rule.line == 5
-                && rule.key
-                    == RuleKey::Virtual {
-                        flags: row.0,
-                        code: 0x41,
-                    }
-                && rule.output.as_slice() == [Out::Char(row.1)].as_slice()
-        })
+/// Whether a record of the file of two keys puts this character, for A with these flags.
+fn is_record(rule: &Rule, flags: u32, put: char) -> bool {
+    let code = 0x41;
+    rule.line == 5
+        && rule.key == RuleKey::Virtual { flags, code }
+        && rule.output.as_slice() == [Out::Char(put)].as_slice()
+}
+
+/// Whether the groups of the file of two keys are one group with its two records.
+fn are_groups(groups: &[Group]) -> bool {
+    let [group] = groups else {
+        return false;
+    };
+    match group.rules.as_slice() {
+        [plain, shifted] => is_record(plain, 0x4000, 'x') && is_record(shifted, 0x4010, 'y'),
+        _ => false,
+    }
 }
 
 /// Whether the tables of the file of two keys are what it says.
 fn has_tables(alloc: Global) -> Result<bool, Fail> {
     let file = verify(alloc, &TWO_KEYS)?;
     let tables = file.copied_tables(alloc)?;
-    let groups = tables.groups.as_slice();
     Ok(
         file.bytes() == TWO_KEYS.as_slice()
             && tables.stores.len() == 2
             && !file.is_option(0)
             && !file.is_option(2)
-            && groups.iter().all(|group| are_records(group, &[(0x4000, 'x'), (0x4010, 'y')])),
+            && are_groups(tables.groups.as_slice()),
     )
 }
 

@@ -13,7 +13,8 @@ use Rattle.kmn_base.proofs.Spelling.{spellings_are_short}
 use Rattle.kmn_base.proofs.Faults.{spelled_item_is_no_fault}
 use Rattle.kmn_base.proofs.FirstFaults.{spelled_through_or_bad}
 use Rattle.item_codec.specs.Laws.{SpelledIsReadAgain, SpelledGivesItsItems, BadGivesItsFault, GivenFaultIsBad, ItemsHaveOneSpelling}
-use Rattle.item_codec.specs.Walk.{first_item, spelled_size, results_at, results_from, items_given, results_of}
+use Rattle.kmn_base.specs.FirstItem.{first_item}
+use Rattle.item_codec.specs.Walk.{spelled_size, results_at, results_from, items_given, results_of}
 use Rattle.item_codec.proofs.FirstItems.{first_item-bytes, length-spelled}
 
 abbrev pub Results : Type 0

@@ -1,6 +1,6 @@
 -- Lemmas on the spelling of items.
 use Rattle.std.proofs.Common.{◌≡◌, ℕ, ◌+◌, ◌-◌, ◌/◌, ◌%◌, ◌^◌, ◌<◌, ◌≤◌, true, false, ◌⊎◌, Option, Some, None, List, [], ◌∷◌, ◌++◌, length, refl, ap, inl, inr, lit<, lit≤, arith}
-use Rattle.std.specs.Prelude.{nat_eq, nat_lt, if◌then◌else◌}
+use Rattle.std.specs.Prelude.{nat_eq, nat_lt}
 use Rattle.std.specs.List.{All, AllByRecursion}
 use Rattle.std.proofs.lemmas.List.Elements.{All-same, All-from_recursion}
 use Rattle.std.specs.Char.{IsScalar}
@@ -10,6 +10,7 @@ use Rattle.std.proofs.lemmas.Bool.{cases_lt, cond-true, cond-false, lt-ltb, le-l
 use Rattle.std.proofs.lemmas.Bool.Decides.{nat_tests}
 use Rattle.kmn_base.specs.declared.units.UnitItem.{UnitItem}
 use Rattle.kmn_base.specs.declared.units.UnitItem.TheVariants.{Char, Any, Index, Context, Nul, Enter, Stop, Beep, Dead, Key, ContextAt, NotAny, Set, Test, Save, Reset, SystemTest, SetSystem}
+use Rattle.kmn_base.specs.FirstItem.{first_item}
 use Rattle.kmn_base.specs.Laws.{SpellingsArePrefixFree, SpellingsAreShort, SpellingsAreUnits}
 use Rattle.kmn_base.specs.Spelling.{char_units, spelling, IsOperand, IsSpellable, is_high_surrogate, is_low_surrogate}
 
@@ -72,60 +73,6 @@ is_wide c h l =
 
 pub character_cases : (c : ℕ) → IsSpellable (Char c) → IsNarrow c ⊎ IsWide c
 character_cases c h = elim (cases_lt c 0x1_0000) [ inl l ↦ inl (is_narrow c h l) | inr l ↦ inr (is_wide c h l) ]
-
--- an item of one operand, of two, of three, at the front of units
-abbrev pub with_one : (ℕ → UnitItem) → List ℕ → Option UnitItem
-with_one item [] = None
-with_one item (a ∷ units) = Some (item a)
-
-abbrev pub with_two : (ℕ → ℕ → UnitItem) → List ℕ → Option UnitItem
-with_two item [] = None
-with_two item (a ∷ []) = None
-with_two item (a ∷ b ∷ units) = Some (item a b)
-
-abbrev pub with_three : (ℕ → ℕ → ℕ → UnitItem) → List ℕ → Option UnitItem
-with_three item [] = None
-with_three item (a ∷ []) = None
-with_three item (a ∷ b ∷ []) = None
-with_three item (a ∷ b ∷ c ∷ units) = Some (item a b c)
-
--- the item of a code, with its operands at the front of units
-abbrev pub item_of_code : ℕ → List ℕ → Option UnitItem
-item_of_code code units =
-    if nat_eq code 0x01 then with_one Any units
-    else if nat_eq code 0x02 then with_two Index units
-    else if nat_eq code 0x03 then Some Context
-    else if nat_eq code 0x04 then Some Nul
-    else if nat_eq code 0x05 then with_one Enter units
-    else if nat_eq code 0x06 then Some Stop
-    else if nat_eq code 0x07 then Some Beep
-    else if nat_eq code 0x08 then with_one Dead units
-    else if nat_eq code 0x0A then with_two Key units
-    else if nat_eq code 0x11 then with_one ContextAt units
-    else if nat_eq code 0x12 then with_one NotAny units
-    else if nat_eq code 0x13 then with_two Set units
-    else if nat_eq code 0x14 then with_three Test units
-    else if nat_eq code 0x15 then with_one Save units
-    else if nat_eq code 0x16 then with_one Reset units
-    else if nat_eq code 0x17 then with_three SystemTest units
-    else if nat_eq code 0x18 then with_two SetSystem units
-    else None
-
-abbrev pub item_of_pair : ℕ → List ℕ → Option UnitItem
-item_of_pair high [] = None
-item_of_pair high (low ∷ units) = Some (Char (surrogate_pair_char high low))
-
-abbrev pub item_behind_sentinel : List ℕ → Option UnitItem
-item_behind_sentinel [] = None
-item_behind_sentinel (code ∷ units) = item_of_code code units
-
--- the item at the front of units that are spelled
-abbrev pub first_item : List ℕ → Option UnitItem
-first_item [] = None
-first_item (unit ∷ units) =
-    if nat_eq unit 0xFFFF then item_behind_sentinel units
-    else if is_high_surrogate unit then item_of_pair unit units
-    else Some (Char unit)
 
 first_item-char : (c : ℕ) (units : List ℕ) → IsSpellable (Char c) → first_item (char_units c ++ units) ≡ Some (Char c)
 first_item-char c units h = elim (character_cases c h) [

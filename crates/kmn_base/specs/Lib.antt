@@ -3,6 +3,7 @@ pub mod Bytes
 pub mod Lending
 pub mod CodeTexts
 pub mod Digits
+pub mod FirstItem
 pub mod Lists
 pub mod Names
 pub mod Rising

@@ -1,5 +1,4 @@
 pub mod ItemTexts
 pub mod Lefts
-pub mod MoreLines
 pub mod SpreadValues
 pub mod Steps

@@ -9,15 +9,14 @@ ghost use Rattle.rule_model.specs.ChosenLines.{lines_of_one, lines_of, lines_if_
 ghost use Rattle.plain_event.specs.Entering.{keyboard_of, stores_of, enters, adds};
 
 use crate::defaults::by_default;
-use crate::elements::item_caught;
 use crate::left;
-use crate::matching::chosen_in;
 use crate::outputs::{
     put_any, put_context, put_index, put_item, reset_current, save_current, set_current, set_system,
 };
 use indexed_tables::IndexedTables;
 use kmn_base::limits::EVENT_ENTRIES;
 use kmn_base::{Item, KeyPress, Memory, Seq};
+use plain_matching::{chosen_in, item_caught};
 use rule_model::{Caught, EventState, Group, Out, Rule};
 use std::alloc::Global;
 
@@ -245,7 +244,7 @@ fn in_group(
 
 /// Enters a group.
 #[cycle(acts)]
-#[tactic(auto, using(rule_model::proofs::PlainKeyboard::enter_more, crate::proofs::MoreLines::more_lines))]
+#[tactic(auto, using(rule_model::proofs::PlainKeyboard::enter_more, rule_model::proofs::MoreLines::more_lines))]
 fn enter(
     entering: &Entering,
     group: u32,

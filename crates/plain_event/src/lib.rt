@@ -1,21 +1,18 @@
 //! What the tables of a compiled file do with an event, computed as their meaning says it.
 //!
-//! It stands on `kmn_base`, `virtual_keys`, `rule_model`, whose meaning of an event it computes, and `indexed_tables`, which
-//! have what events look up. It is clear and not fast: the first record that holds goes first, found by trying each, and a
-//! list is made anew where an item is put. `plain_event` does an event on a `PlainState`, whose values stand by store
+//! It stands on `kmn_base`, `virtual_keys`, `rule_model`, whose meaning of an event it computes, `indexed_tables`, which have
+//! what events look up, and `plain_matching`, which chooses the record that goes first. It is clear and not fast: a list is
+//! made anew where an item is put. `plain_event` does an event on a `PlainState`, whose values stand by store
 //! number, those of the system options behind the others; `specs/PlainStates` says what such a state means. `traced_event`
 //! does the same and tells the lines of the rules that the event chose, which `rule_trace` above shows; `plain_event` is
 //! called by tests of the meaning.
 #![tactic(auto)]
 
-mod contents;
 mod defaults;
 mod editor;
-mod elements;
 mod entering;
 mod events;
 mod left;
-mod matching;
 mod outputs;
 mod state;
 mod texts;

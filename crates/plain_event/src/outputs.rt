@@ -6,13 +6,12 @@ ghost use Rattle.rule_model.specs.Act.{put_item, put_items, item_list, put_eleme
 ghost use Rattle.rule_model.specs.Tab.{tab, elements_of};
 ghost use Rattle.rule_model.specs.System.{system_ref};
 
-use crate::contents::{element, value_at};
-use crate::elements::{item_of, place_caught};
 use crate::left::with_item;
 use crate::values::set_value;
 use indexed_tables::IndexedTables;
 use kmn_base::limits::EVENT_PUTS;
 use kmn_base::{Element, Item, Memory, Seq};
+use plain_matching::{element, item_of, place_caught, value_at};
 use rule_model::{Caught, EventState};
 use std::alloc::Global;
 

@@ -1,21 +1,27 @@
 //! The cache after each call, and what is filled in and read again.
 
+ghost use Rattle.std.specs.Prelude.{◌≡◌, IfOk};
+ghost use Rattle.kmn_base.specs.declared.limits.TheConstants.{WINDOW_ITEMS};
+
 use context_cache::Cache;
-use kmn_base::Item;
 use kmn_base::Item::{Char, Mark};
+use kmn_base::{Item, Memory};
+use std::alloc::Global;
 use std::test::Fail;
 
 /// Two items at the end, a mark among them, with the text before the caret.
-fn marked() -> Cache {
-    let mut cache = Cache::new();
+fn marked(alloc: Global) -> Result<Cache, Memory>
+    ensures { IfOk result (λ cache. cache.room ≡ WINDOW_ITEMS) }
+{
+    let mut cache = Cache::with_room(alloc)?;
     cache.put(Char('a'));
     cache.put(Mark(1));
-    cache
+    Ok(cache)
 }
 
 /// Whether 64 characters push a mark out, and what is left when all but one are taken.
-fn forgets() -> bool {
-    let mut cache = marked();
+fn forgets(alloc: Global) -> Result<bool, Memory> {
+    let mut cache = marked(alloc)?;
     for _ in 0..63 {
         cache.put(Char('b'));
     }
@@ -26,36 +32,48 @@ fn forgets() -> bool {
     if count == 64 {
         cache.take(63);
     }
-    full && forgotten && cache.items() == [Char('b')].as_slice()
+    Ok(full && forgotten && cache.items() == [Char('b')].as_slice())
 }
 
 /// Whether reading a text again leaves these items.
-fn reads(left: &[char], items: &[Item]) -> bool {
-    let mut cache = marked();
+fn reads(alloc: Global, left: &[char], items: &[Item]) -> Result<bool, Memory> {
+    let mut cache = marked(alloc)?;
     cache.sync(left);
-    cache.items() == items
+    Ok(cache.items() == items)
+}
+
+/// Whether a copy has these items, and room for one more.
+fn copies(alloc: Global) -> Result<bool, Memory> {
+    let mut copy = marked(alloc)?.copy(alloc)?;
+    let same = copy.items() == [Char('a'), Mark(1)].as_slice();
+    copy.put(Char('b'));
+    Ok(same && copy.items() == [Char('a'), Mark(1), Char('b')].as_slice())
 }
 
 /// Whether the last items are counted by kind.
-fn counts() -> bool {
-    let cache = marked();
-    cache.end_marks() == 1 && cache.items().len() == 2 && cache.last_characters(2) == 1
+fn counts(alloc: Global) -> Result<bool, Memory> {
+    let cache = marked(alloc)?;
+    Ok(cache.end_marks() == 1 && cache.items().len() == 2 && cache.last_characters(2) == 1)
 }
 
 /// Whether characters are filled in before the items.
-fn fills() -> bool {
-    let mut cache = Cache::new();
-    cache.fill(&['a'], &['b']);
-    cache.items() == [Char('a'), Char('b')].as_slice()
+fn fills(alloc: Global) -> Result<bool, Memory> {
+    let mut cache = Cache::with_room(alloc)?;
+    cache.put(Char('a'));
+    cache.fill(&['c', 'b'], &['a']);
+    Ok(cache.items() == [Char('c'), Char('b'), Char('a')].as_slice())
 }
 
 #[test]
 fn items_of_a_cache(rt: HostRuntime) -> Result<(), Fail> {
-    assert!(rt; forgets());
-    assert!(rt; marked().copy().items() == [Char('a'), Mark(1)].as_slice());
-    assert!(rt;
-        reads(&['a'], &[Char('a'), Mark(1)]) && reads(&['b', 'a'], &[Char('b'), Char('a')])
-    );
-    assert!(rt; reads(&[], &[]) && counts() && fills());
+    let alloc = rt.alloc();
+    assert!(rt; forgets(alloc)?);
+    assert!(rt; copies(alloc)?);
+    assert!(rt; reads(alloc, &['a'], &[Char('a'), Mark(1)])?);
+    assert!(rt; reads(alloc, &['b', 'a'], &[Char('b'), Char('a')])?);
+    assert!(rt; reads(alloc, &[], &[])?);
+    assert!(rt; counts(alloc)?);
+    assert!(rt; fills(alloc)?);
+    assert!(rt; Cache::without_room(alloc).items().is_empty());
     Ok(())
 }

@@ -1,7 +1,6 @@
 //! The lines of the rules that the events of a session choose.
 
-use crate::fixtures::press;
-use crate::sessions::event;
+use crate::shared::{event, press};
 use kmn_base::{Event, Memory};
 use kmn_compiler::compile;
 use kmx_verifier::verify;
@@ -18,10 +17,10 @@ const KEYBOARD: &[u8] = b"begin Unicode > use(main)\nstore(o) '0'\ngroup(main) u
 /// On each line the steps of a session, each with the lines of the rules that it chooses, `-` where there are none. A refused
 /// step leaves those of the step before.
 const CASES: &str = "\
-K_A 4,11,13 ; K_E - ; K_A 4,11,13 ; |0 -
+K_A 4,11,13 ; K_E - ; K_A 4,11,13 ; @0 -
 K_D 6 ; K_D 5,13 ; K_D 6 ; -0,0,u - ; K_D 5,13
-K_S - ; =o,1 - ; K_S 8 ; =o,0 -
-K_A 4,11,13 ; |9 4,11,13 ; =x,1 -";
+K_S - ; o=1 - ; K_S 8 ; o=0 -
+K_A 4,11,13 ; @9 4,11,13 ; x=1 -";
 
 /// The lines that a session tells.
 fn shown(alloc: Global, session: &Session) -> Result<String, Memory> {
@@ -60,23 +59,41 @@ fn wrong_step(
     Ok(None)
 }
 
-/// The first wrong step of the cases, each of which a fresh session plays.
+/// The first wrong step of a case that a fresh session plays.
+fn wrong_case(
+    alloc: Global,
+    session: &Session,
+    case: &'static str,
+) -> Result<Option<&'static str>, Fail> {
+    let mut fresh = session.fresh(alloc)?;
+    wrong_step(alloc, &mut fresh, case)
+}
+
+/// The first wrong step of the cases.
 fn wrong_in(alloc: Global, session: &Session) -> Result<Option<&'static str>, Fail> {
     for case in CASES.lines() {
-        let mut fresh = session.fresh(alloc)?;
-        if let Some(step) = wrong_step(alloc, &mut fresh, case)? {
+        if let Some(step) = wrong_case(alloc, session, case)? {
             return Ok(Some(step));
         }
     }
     Ok(None)
 }
 
+/// What is wrong with a session on that keyboard: the press that enters all groups, or a step of the cases.
+fn wrong_of(alloc: Global, session: &mut Session) -> Result<Option<&'static str>, Fail> {
+    if !tells_all(alloc, session)? {
+        return Ok(Some("K_R"));
+    }
+    wrong_in(alloc, session)
+}
+
 /// Whether a press whose rule enters a group that enters itself tells a line for each group that may be entered.
 fn tells_all(alloc: Global, session: &mut Session) -> Result<bool, Fail> {
     let begins = session.chosen().is_empty();
     session.step(alloc, &Event::Key(press(b"K_R")))?;
-    let mut lines = session.chosen().iter();
-    Ok(begins && lines.len() == 50 && lines.next() == Some(&7) && lines.all(|line| *line == 15))
+    let mut lines = [15u32; 50];
+    lines[0] = 7;
+    Ok(begins && session.chosen() == lines.as_slice())
 }
 
 /// The first wrong step of the cases, or the press that enters all groups.
@@ -84,10 +101,7 @@ fn wrong_with_keyboard(alloc: Global) -> Result<Option<&'static str>, Fail> {
     let compiled = compile(alloc, KEYBOARD, &[])?;
     let file = verify(alloc, compiled.bytes.as_slice())?;
     let mut session = Session::start(alloc, &file)?;
-    if !tells_all(alloc, &mut session)? {
-        return Ok(Some("K_R"));
-    }
-    wrong_in(alloc, &session)
+    wrong_of(alloc, &mut session)
 }
 
 #[test]

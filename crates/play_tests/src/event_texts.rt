@@ -1,7 +1,7 @@
 //! The edit and the last items that the steps of an event leave.
 
 ghost use Rattle.std.specs.Prelude.{◌≡◌};
-ghost use Rattle.kmn_base.specs.declared.limits.TheConstants.{EVENT_PUTS};
+ghost use Rattle.kmn_base.specs.declared.limits.TheConstants.{EVENT_PUTS, WINDOW_ITEMS};
 
 use context_cache::Cache;
 use event_text::{Edited, Inserted, Left};
@@ -57,7 +57,8 @@ fn edited(alloc: Global, text: &str, steps: &str) -> Result<Option<Edited>, Fail
     if text.len() >= 0x1_0000_0000 {
         return Ok(None);
     }
-    let mut left = Left::begin(text.as_slice(), Inserted::with_room(alloc)?, Cache::new());
+    let inserted = Inserted::with_room(alloc)?;
+    let mut left = Left::begin(text.as_slice(), inserted, Cache::with_room(alloc)?);
     for step in steps.chars() {
         act(&mut left, step);
     }
@@ -104,10 +105,11 @@ fn edits_of_events(rt: HostRuntime) -> Result<(), Fail> {
 }
 
 /// Whether the text before the window comes to hand when all of the window was taken.
-fn comes_to_hand(inserted: Inserted) -> bool
-    requires { inserted.room ≡ EVENT_PUTS }
+fn comes_to_hand(inserted: Inserted, cache: Cache) -> bool
+    requires room { inserted.room ≡ EVENT_PUTS }
+    requires places { cache.room ≡ WINDOW_ITEMS }
 {
-    let mut left = Left::begin(&['a'; 100], inserted, Cache::new());
+    let mut left = Left::begin(&['a'; 100], inserted, cache);
     for _ in 0..100 {
         take(&mut left);
     }
@@ -117,6 +119,7 @@ fn comes_to_hand(inserted: Inserted) -> bool
 
 #[test]
 fn events_that_take_more_than_the_window(rt: HostRuntime) -> Result<(), Fail> {
-    assert!(rt; comes_to_hand(Inserted::with_room(rt.alloc())?));
+    let inserted = Inserted::with_room(rt.alloc())?;
+    assert!(rt; comes_to_hand(inserted, Cache::with_room(rt.alloc())?));
     Ok(())
 }

@@ -3,8 +3,8 @@
 //! `sessions` of `play_session`, and `tracing` of `rule_trace`.
 //!
 //! They stand here because a crate with tests is proved twice, once with them and once without: so each of those crates is
-//! proved once, and the tests are proved over them, beside those of `script_tests`. `fixtures` has what several of them
-//! take. No layer stands above.
+//! proved once, and the tests are proved over them, beside those of `script_tests`. `shared` has what several of them take,
+//! and `fixtures` the tables of those of meanings. No layer stands above.
 #![tactic(auto)]
 
 #[cfg(test)]
@@ -22,5 +22,7 @@ mod option_values;
 mod pressing;
 #[cfg(test)]
 mod sessions;
+#[cfg(test)]
+mod shared;
 #[cfg(test)]
 mod tracing;

@@ -3,8 +3,9 @@
 ghost use Rattle.std.specs.Prelude.{◌≡◌, ◌+◌, ◌≤◌, ℕ, List, length, IsTrue};
 ghost use Rattle.plain_event.specs.PlainStates.{IsWithin};
 
-use crate::fixtures::{characters, press, sign, tables};
-use kmn_base::{Element, Event, Memory, Outcome, RuleKey, Seq};
+use crate::fixtures::tables;
+use crate::shared::{characters, event, sign, start};
+use kmn_base::{Element, Event, Memory, RuleKey, Seq};
 use plain_event::{PlainState, plain_event};
 use rule_model::{Out, Pat, Rule, Store, Tables};
 use std::alloc::Global;
@@ -14,8 +15,7 @@ use std::test::Fail;
 /// then the events that it is played, each with the text that it leaves, whose caret is `|`. In a value `*` is a mark, and `_`
 /// a space. The items of a record are parted by dots: `*` is a mark, `?s` any(s), `=sv` a condition, `!sv` one for unequal,
 /// `#so` index(s,o), `:sv` a set, and `^` enters the group again; `l` is the layer and `p` the platform in place of a store.
-/// An event is the name of a key, `@` with a place of the caret, `+` with characters that come to the start of the text, or
-/// the name of an option with `=` and a value.
+/// Events are words that `event` reads.
 const CASES: &str = "\
 ; a,c>y ,c>x ; K_A a| ; K_C y| ; K_F5 y| ; K_LEFT |y
 ; *,a>à ,`>* ; K_BKQUOTE *| ; K_A à| ; K_BKSP |
@@ -23,7 +23,7 @@ vaea wxyz ; ?0,1>#11 ; K_A a| ; K_1 x|
 oab vba ; ?0,1>:01.#01 ; K_A a| ; K_1 b|
 o0 v1 ; =01,a>x ,a>y ; K_A y| ; o=1 y| ; K_A yx|
 o0 v1 ; !01,a>x ,a>y ; K_A x| ; o=1 x| ; K_A xy|
-; ,a>b ; K_A b| ; +xy xyb| ; @1 x|yb
+; ,a>b ; K_A b| ; -0,0,xy xyb| ; @1 x|yb
 vs ; =l0,a>y ,a>n ; K_A n| ; &layer=s n| ; K_A ny| ; &layer=S ny| ; K_A nyn|
 vx ; =l0,a>y !l0,a>n ; K_A n| ; &Layer=x n| ; K_A ny| ; &LAYER=_x ny| ; K_A nyn|
 vz ; =l0,a>y =p0,a>z ,a>n ; layer=z | ; platform=z | ; K_A n| ; @0 |n
@@ -159,58 +159,6 @@ fn keyboard(alloc: Global, stores: &str, records: &str) -> Result<Tables, Memory
         rules.push(rule(alloc, text)?)?;
     }
     tables(alloc, Seq::from_vec(made), Seq::from_vec(rules))
-}
-
-/// The elements of the system options, which stand behind the stores.
-const SYSTEM_OPTIONS: &[&str] = &["default", "windows_desktop_hardware_native"];
-
-/// Before the first event: no text, each store and system option with its elements, and nothing saved.
-fn start(alloc: Global, tables: &Tables) -> Result<PlainState, Memory> {
-    let mut current = Vec::new(alloc);
-    let mut saved = Vec::new(alloc);
-    for store in tables.stores.as_slice() {
-        current.push(store.elements.copy(alloc)?)?;
-        saved.push(None)?;
-    }
-    for value in SYSTEM_OPTIONS {
-        current.push(elements(alloc, value)?)?;
-        saved.push(None)?;
-    }
-    Ok(PlainState {
-        left: Seq::new(alloc),
-        right: Seq::new(alloc),
-        current: Seq::from_vec(current),
-        saved: Seq::from_vec(saved),
-        last: Outcome {
-            delete: 0,
-            pass: false,
-            beeps: 0,
-            entered: 0,
-            put: 0,
-            saved: 0,
-        },
-    })
-}
-
-fn event(alloc: Global, text: &str) -> Result<Event, Memory> {
-    if let Some(place) = text.strip_prefix('@') {
-        return Ok(Event::Caret(place.parse::<u32>().unwrap_or(0)));
-    }
-    if let Some(text) = text.strip_prefix('+') {
-        let text = Seq::from_vec(text.chars().collect(alloc)?);
-        return Ok(Event::Edit {
-            from: 0,
-            to: 0,
-            text,
-        });
-    }
-    let Some((name, value)) = text.split_once('=') else {
-        return Ok(Event::Key(press(text.as_bytes())));
-    };
-    Ok(Event::Setting {
-        name: Seq::from_slice(alloc, name.as_bytes())?,
-        value: Seq::from_vec(value.replace(alloc, "_", " ")?.chars().collect(alloc)?),
-    })
 }
 
 /// The text with its caret.

@@ -1,6 +1,6 @@
 //! Presses of keys on an engine, texts that it reads again, and the options that it finds by name.
 
-use crate::fixtures::{press, sign};
+use crate::shared::{press, sign};
 use kmn_base::{Item, Memory, Outcome, Seq};
 use kmn_compiler::compile;
 use kmx_verifier::verify;

@@ -1,6 +1,6 @@
 //! Sessions with compiled keyboards, event by event.
 
-use crate::fixtures::{press, sign, with_system_options};
+use crate::shared::{event, press, sign, with_system_options};
 use kmn_base::{Element, Event, Item, KeyPress, Memory, Seq};
 use kmn_compiler::compile;
 use kmx_verifier::{Verified, verify};
@@ -23,14 +23,13 @@ const KEYBOARD: &[u8] = b"begin Unicode > use(main)\nstore(o) '0'\ngroup(main) u
     if(o = '1') + 'a' > 'x'\n+ 'a' > 'y'\n+ 's' > set(o = '1')\n+ 'v' > save(o)\n\
     + 'r' > reset(o)\n+ 'z' > set(o = '0')\n+ '`' > dk(x)\ndk(x) + 'q' > U+00E0\n";
 
-/// On each line the steps of a session with that keyboard. A step is a press, `=` and the name and the value of
-/// a setting, `|` and the place of a caret, or `-` and the places of an edit and its text. Behind a blank stand what it
+/// On each line the steps of a session with that keyboard. A step is a word that `event` reads. Behind a blank stand what it
 /// inserted, the context and the changed values, `!` before a saved one; or the refusal. `*` is a mark.
 const CASES: &str = "\
-K_A y,y, ; K_S ,y,o1 ; K_A x,yx, ; K_R ,yx,o0 ; =o,1 ,yx,o1!o1 ; K_Z ,yx,o0 ; K_R ,yx,o1 ; K_V ,yx,
-=O,0 ,,!o0 ; =x,1 ,,
-K_X x,x, ; K_BKQUOTE ,x*, ; |0 ,, ; |1 ,x, ; K_A y,xy,
-K_X x,x, ; K_BKQUOTE ,x*, ; -0,0,uu ,uux, ; |9 E1 ; -2,1, E1 ; -3,4, E1
+K_A y,y, ; K_S ,y,o1 ; K_A x,yx, ; K_R ,yx,o0 ; o=1 ,yx,o1!o1 ; K_Z ,yx,o0 ; K_R ,yx,o1 ; K_V ,yx,
+O=0 ,,!o0 ; x=1 ,,
+K_X x,x, ; K_BKQUOTE ,x*, ; @0 ,, ; @1 ,x, ; K_A y,xy,
+K_X x,x, ; K_BKQUOTE ,x*, ; -0,0,uu ,uux, ; @9 E1 ; -2,1, E1 ; -3,4, E1
 K_X x,x, ; K_BKQUOTE ,x*, ; -1,1,u ,x*,
 K_BKQUOTE ,*, ; K_Q à,à,";
 
@@ -45,17 +44,17 @@ const ON_SYSTEM_OPTIONS: &[(&[u8], &str)] = &[
         "\
 K_A y,y, ; K_S ,y,&layers ; K_A x,yx, ; K_S ,yx, ; K_D ,yx,&layerdefault ; K_A y,yxy,
 K_F n,n, ; K_E ,n,&layer ; K_F f,nf, ; K_D ,nf,&layerdefault ; K_E ,nf,&layer
-K_D ,, ; =&Layer,x ,,&layerx!&layerx ; =&LAYER,x ,, ; =layer,z ,, ; K_A y,y, ; K_S ,y,&layers ; K_A x,yx,
-=platform,web ,, ; K_A y,y, ; =&platform,web ,y,&platformweb!&platformweb ; K_A w,yw, ; =&PLATFORM,weB ,yw,&platformweB!&platformweB
-=&platform,webs ,,&platformwebs!&platformwebs ; K_A y,y, ; =&platform, ,y,&platform!&platform ; K_A y,yy,
-K_O ,,o1!o1&layers ; K_A x,x, ; K_D ,x,&layerdefault ; K_A o,xo, ; =o,0 ,xo,o0!o0 ; K_A y,xoy, ; K_R ,xoy,
-=&layer,s ,,&layers!&layers ; |0 ,, ; K_X x,x, ; -0,0,u ,ux, ; K_A x,uxx, ; |9 E1 ; K_D ,uxx,&layerdefault",
+K_D ,, ; &Layer=x ,,&layerx!&layerx ; &LAYER=x ,, ; layer=z ,, ; K_A y,y, ; K_S ,y,&layers ; K_A x,yx,
+platform=web ,, ; K_A y,y, ; &platform=web ,y,&platformweb!&platformweb ; K_A w,yw, ; &PLATFORM=weB ,yw,&platformweB!&platformweB
+&platform=webs ,,&platformwebs!&platformwebs ; K_A y,y, ; &platform= ,y,&platform!&platform ; K_A y,yy,
+K_O ,,o1!o1&layers ; K_A x,x, ; K_D ,x,&layerdefault ; K_A o,xo, ; o=0 ,xo,o0!o0 ; K_A y,xoy, ; K_R ,xoy,
+&layer=s ,,&layers!&layers ; @0 ,, ; K_X x,x, ; -0,0,u ,ux, ; K_A x,uxx, ; @9 E1 ; K_D ,uxx,&layerdefault",
     ),
     (
         b"store(layer) 'l'\nstore(platform) 'p'\nstore(~layer) '0'\nbegin Unicode > use(main)\ngroup(main) using keys\n\
         if(~layer = '1') + 'a' > 'o'\nif(layer = 'default') + 'a' > 'd'\n+ 'a' > 'y'\n+ 's' > set(layer = 's')\n",
         "\
-K_A d,d, ; =&layer,1 ,d,&layer1!&layer1 ; K_A o,do, ; =&Layer,s ,do,&layers!&layers ; K_A d,dod, ; K_S ,dod,&layers ; K_A y,dody,",
+K_A d,d, ; &layer=1 ,d,&layer1!&layer1 ; K_A o,do, ; &Layer=s ,do,&layers!&layers ; K_A d,dod, ; K_S ,dod,&layers ; K_A y,dody,",
     ),
 ];
 
@@ -65,35 +64,6 @@ const NUMBERS: &[(u32, &str, &str)] = &[
     (1, "&platform", "windows desktop hardware native"),
     (2, "", ""),
 ];
-
-/// A number of the table.
-fn number(text: &str) -> u32 {
-    text.parse().unwrap_or(0)
-}
-
-/// The event of a step.
-pub fn event(alloc: Global, word: &str) -> Result<Event, Memory> {
-    if let Some(place) = word.strip_prefix('|') {
-        return Ok(Event::Caret(number(place)));
-    }
-    if let Some(setting) = word.strip_prefix('=') {
-        let (name, value) = setting.split_once(',').unwrap_or((setting, ""));
-        return Ok(Event::Setting {
-            name: Seq::from_slice(alloc, name.as_bytes())?,
-            value: Seq::from_vec(value.chars().collect(alloc)?),
-        });
-    }
-    if let Some(edit) = word.strip_prefix('-') {
-        let (from, rest) = edit.split_once(',').unwrap_or((edit, ""));
-        let (to, text) = rest.split_once(',').unwrap_or((rest, ""));
-        return Ok(Event::Edit {
-            from: number(from),
-            to: number(to),
-            text: Seq::from_vec(text.chars().collect(alloc)?),
-        });
-    }
-    Ok(Event::Key(press(word.as_bytes())))
-}
 
 /// Appends the characters of a value.
 fn show_value(text: &mut String, value: &[Element]) -> Result<(), Memory> {

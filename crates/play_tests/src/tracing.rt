@@ -5,8 +5,8 @@ ghost use Rattle.std.specs.List.{Contains};
 ghost use Rattle.plain_event.specs.PlainStates.{IsWithin};
 ghost use Rattle.rule_trace.specs.Coverage.{record_lines, AreLinesOf};
 
-use crate::fixtures::press;
-use kmn_base::{Element, Event, KeyPress, Memory, Outcome, Seq};
+use crate::shared::{event, start};
+use kmn_base::{Event, Memory};
 use kmn_compiler::compile;
 use kmx_verifier::verify;
 use plain_event::PlainState;
@@ -73,9 +73,6 @@ const SAMPLE_EVENTS: &str =
 
 const SAMPLE_HITS: &str = "15=1 16=1 17=1 18=1 19=0 20=0 21=2 22=1 23=1 24=2 27=1 28=0 31=1";
 
-/// The elements of the system options, which stand behind the stores.
-const SYSTEM_OPTIONS: &[&str] = &["default", "windows desktop hardware native"];
-
 /// The tables of the compiled file of a source.
 fn tables_of(alloc: Global, source: &str) -> Result<Tables, Fail> {
     let compiled = compile(alloc, source.as_bytes(), &[])?;
@@ -94,61 +91,6 @@ fn source_of(alloc: Global, statements: &str) -> Result<String, Memory> {
         source.push('\n')?;
     }
     Ok(source)
-}
-
-/// Before the first event: no text, each store and system option with its elements, and nothing saved.
-fn start(alloc: Global, tables: &Tables) -> Result<PlainState, Memory> {
-    let mut current = Vec::new(alloc);
-    let mut saved = Vec::new(alloc);
-    for store in tables.stores.as_slice() {
-        current.push(store.elements.copy(alloc)?)?;
-        saved.push(None)?;
-    }
-    for value in SYSTEM_OPTIONS {
-        current.push(Seq::from_vec(value.chars().map(Element::Char).collect(alloc)?))?;
-        saved.push(None)?;
-    }
-    Ok(PlainState {
-        left: Seq::new(alloc),
-        right: Seq::new(alloc),
-        current: Seq::from_vec(current),
-        saved: Seq::from_vec(saved),
-        last: Outcome {
-            delete: 0,
-            pass: false,
-            beeps: 0,
-            entered: 0,
-            put: 0,
-            saved: 0,
-        },
-    })
-}
-
-/// The press of a word.
-fn press_of(word: &str) -> KeyPress {
-    let (mods, name) = word.split_once('+').unwrap_or(("0", word));
-    KeyPress {
-        code: if name.starts_with("T_") {
-            256
-        } else {
-            press(name.as_bytes()).code
-        },
-        mods: mods.parse().unwrap_or(0),
-    }
-}
-
-/// The event of a word.
-fn event(alloc: Global, word: &str) -> Result<Event, Memory> {
-    if let Some(place) = word.strip_prefix('@') {
-        return Ok(Event::Caret(place.parse::<u32>().unwrap_or(0)));
-    }
-    let Some((name, value)) = word.split_once('=') else {
-        return Ok(Event::Key(press_of(word)));
-    };
-    Ok(Event::Setting {
-        name: Seq::from_slice(alloc, name.as_bytes())?,
-        value: Seq::from_vec(value.chars().collect(alloc)?),
-    })
 }
 
 /// Whether an event stands within each text.
@@ -222,21 +164,50 @@ fn count(tables: &Tables, coverage: &mut Coverage, lines: &[u32])
     coverage.add(lines);
 }
 
+/// Does one step and counts the lines that it chooses; whether these are the wanted ones.
+fn shows(
+    alloc: Global,
+    tables: &Tables,
+    state: &mut PlainState,
+    coverage: &mut Coverage,
+    step: &str,
+) -> Result<bool, Fail>
+    requires { AreLinesOf tables.now coverage.old }
+    ensures { AreLinesOf tables.now coverage.new }
+{
+    let (word, wanted) = step.split_once(' ').unwrap_or((step, ""));
+    let traced = traced(alloc, tables, state, word)?;
+    let chosen = traced.lines.as_slice();
+    let shown = shown_lines(alloc, chosen)?;
+    count(tables, coverage, chosen);
+    *state = traced.state;
+    Ok(shown.as_str() == wanted)
+}
+
+/// Whether each step shows the wanted lines.
+fn show_all(
+    alloc: Global,
+    tables: &Tables,
+    coverage: &mut Coverage,
+    steps: &str,
+) -> Result<bool, Fail>
+    requires { AreLinesOf tables.now coverage.old }
+{
+    let mut state = start(alloc, tables)?;
+    for step in steps.split(" ; ") {
+        if !shows(alloc, tables, &mut state, coverage, step)? {
+            return Ok(false);
+        }
+    }
+    Ok(true)
+}
+
 /// Whether each event chooses the wanted lines, and they come to the wanted hits.
 fn is_right(alloc: Global, source: &str, steps: &str, hits: &str) -> Result<bool, Fail> {
     let tables = tables_of(alloc, source)?;
     let mut coverage = Coverage::new(alloc, &tables)?;
-    let mut state = start(alloc, &tables)?;
-    for step in steps.split(" ; ") {
-        let (word, wanted) = step.split_once(' ').unwrap_or((step, ""));
-        let traced = traced(alloc, &tables, &state, word)?;
-        if shown_lines(alloc, traced.lines.as_slice())?.as_str() != wanted {
-            return Ok(false);
-        }
-        count(&tables, &mut coverage, traced.lines.as_slice());
-        state = traced.state;
-    }
-    Ok(shown_hits(alloc, &coverage)?.as_str() == hits)
+    let is_right = show_all(alloc, &tables, &mut coverage, steps)?;
+    Ok(is_right && shown_hits(alloc, &coverage)?.as_str() == hits)
 }
 
 /// Whether a case is right.

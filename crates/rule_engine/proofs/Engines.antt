@@ -2,12 +2,13 @@
 use Rattle.std.proofs.Common.{◌≡◌, ℕ, suc, ◌<◌, get_or, Bool, true, false, List, [], ◌∷◌, length, map, Option, Some, None, refl, sym, ◌∙◌, ap, arith}
 use Rattle.std.specs.Prelude.{if◌then◌else◌, slice_get, slice_set}
 use Rattle.std.specs.Option.{option_flatten}
+use Rattle.std.proofs.Math.Path.{transport}
 use Rattle.std.proofs.lemmas.Option.{slice_get-get_or}
 use Rattle.std.proofs.lemmas.List.{length-map}
 use Rattle.kmn_base.specs.declared.items.Item.{Item}
 use Rattle.kmn_base.specs.declared.items.Element.{Element}
 use Rattle.kmn_base.specs.declared.items.Element.TheVariants.{Char}
-use Rattle.kmn_base.specs.declared.limits.TheConstants.{EVENT_PUTS}
+use Rattle.kmn_base.specs.declared.limits.TheConstants.{EVENT_ENTRIES, EVENT_PUTS, WINDOW_ITEMS}
 use Rattle.rule_model.specs.declared.tables.Tables.{Tables}
 use Rattle.rule_model.specs.Keyboard.{StoreMeaning, Numbered}
 use Rattle.rule_model.specs.Plain.{of_options}
@@ -20,6 +21,7 @@ use Rattle.option_store.specs.Cells.{first_cells, changed, host_cell, current_va
 use Rattle.option_store.specs.Meaning.{stated, option_values, option_saves, holding}
 use Rattle.option_store.proofs.FirstCells.{first_cells_count}
 use Rattle.option_store.proofs.Meaning.{calls_follow, first_option_values, first_option_saves}
+use Rattle.context_cache.specs.Cached.{CacheValue}
 use Rattle.event_text.specs.Texts.{InsertedValue}
 use Rattle.rule_engine.specs.Engine.{EngineState, IsEngine, IsRunnable, IsAtWork, engine_with, first_engine, option_named, with_option, set_by_host}
 use Rattle.rule_engine.specs.Event.{moment_with}
@@ -39,9 +41,9 @@ module _ {X : Type 0} where
       one true behind = ap suc behind
       one false behind = behind
 
-pub at_work_is_engine : (tables : Tables) (context : List Item) (cells : List Cell) (truths : List Bool) (inserted : InsertedValue) (chosen : List ℕ)
-    → IsAtWork tables context cells truths inserted → IsEngine (engine_with tables context cells inserted.text chosen)
-at_work_is_engine tables context cells truths inserted chosen h =
+pub at_work_is_engine : (tables : Tables) (cache : CacheValue) (cells : List Cell) (truths : List Bool) (inserted : InsertedValue) (chosen : List ℕ) (lines : ℕ)
+    → IsAtWork tables cache cells truths inserted lines → IsEngine (engine_with tables cache.items cells inserted.text chosen)
+at_work_is_engine tables cache cells truths inserted chosen lines h =
     let stores : List StoreMeaning = (tab tables).stores in
     record {
       few = h.few;
@@ -53,17 +55,33 @@ at_work_is_engine tables context cells truths inserted chosen h =
 abbrev pub nothing_inserted : InsertedValue
 nothing_inserted = record { text = []; room = EVENT_PUTS }
 
-pub first_is_at_work : (tables : Tables) (context : List Item) (cells : List Cell) (truths : List Bool) (inserted : InsertedValue) → IsRunnable tables → context ≡ []
-    → cells ≡ first_cells 0 (length (tab tables).stores) → truths ≡ truths_at (moment_with tables cells) → inserted ≡ nothing_inserted
-    → IsAtWork tables context cells truths inserted
-first_is_at_work tables context cells truths inserted can empty are right nothing = record {
+abbrev pub nothing_at_hand : CacheValue
+nothing_at_hand = record { items = []; room = WINDOW_ITEMS }
+
+pub first_is_at_work : (tables : Tables) (cache : CacheValue) (cells : List Cell) (truths : List Bool) (inserted : InsertedValue) (lines : ℕ) → IsRunnable tables
+    → cache ≡ nothing_at_hand → cells ≡ first_cells 0 (length (tab tables).stores) → truths ≡ truths_at (moment_with tables cells)
+    → inserted ≡ nothing_inserted → lines ≡ EVENT_ENTRIES → IsAtWork tables cache cells truths inserted lines
+first_is_at_work tables cache cells truths inserted lines can empty are right nothing noted = record {
   runnable = can;
-  few = omega (arith, ap length empty);
+  few = omega (arith, ap (λ (value : CacheValue). length value.items) empty);
   stores = ap length are ∙ first_cells_count 0 (length (tab tables).stores);
   right = right;
   text = omega (arith, ap (λ (value : InsertedValue). length value.text) nothing);
-  room = ap (λ (value : InsertedValue). value.room) nothing;
+  room = record {
+    items = ap (λ (value : CacheValue). value.room) empty;
+    text = ap (λ (value : InsertedValue). value.room) nothing;
+    noted = noted;
+  };
 }
+
+-- a copy, which has room of its own
+pub copy_is_at_work : (tables same : Tables) (cache kept : CacheValue) (cells values : List Cell) (truths right : List Bool) (inserted text : InsertedValue) (lines noted : ℕ)
+    → IsAtWork tables cache cells truths inserted lines → same ≡ tables → kept ≡ record cache { room = WINDOW_ITEMS } → values ≡ cells → right ≡ truths
+    → text ≡ inserted → noted ≡ EVENT_ENTRIES → IsAtWork same kept values right text noted
+copy_is_at_work tables same cache kept cells values truths right inserted text lines noted h is items are rights puts room =
+    let whole : kept ≡ cache = items ∙ (λ i. record cache { room = sym h.room.items i }) in
+    let places : noted ≡ lines = room ∙ sym h.room.noted in
+    transport (λ i. IsAtWork (sym is i) (sym whole i) (sym are i) (sym rights i) (sym puts i) (sym places i)) h
 
 pub first_values : (tables : Tables) (cells : List Cell) → cells ≡ first_cells 0 (length (tab tables).stores) → engine_with tables [] cells [] [] ≡ first_engine tables
 first_values tables cells are =

@@ -1,6 +1,5 @@
 pub mod Contexts
 pub mod Engines
-pub mod MoreLines
 pub mod OptionNames
 pub mod OptionSteps
 pub mod Runnable

@@ -1,6 +1,6 @@
 -- The state inside an event as the engine has it: the tables, the lent text, and the state of the event that they stand for.
 use Rattle.std.specs.Prelude.{◌≡◌, ◌<◌, ◌≤◌, ℕ, Bool, List, length, All}
-use Rattle.kmn_base.specs.declared.limits.TheConstants.{EVENT_ENTRIES, RECORDS}
+use Rattle.kmn_base.specs.declared.limits.TheConstants.{EVENT_ENTRIES, EVENT_PUTS, RECORDS, WINDOW_ITEMS}
 use Rattle.rule_model.specs.declared.event_state.EventState.{EventState}
 use Rattle.rule_model.specs.declared.tables.Group.{Group}
 use Rattle.rule_model.specs.declared.tables.Out.{Out}
@@ -15,6 +15,8 @@ use Rattle.rule_model.specs.ChosenLines.{Adding, add_lines}
 use Rattle.rule_model.specs.Tab.{tab}
 use Rattle.option_store.specs.declared.options.Cell.{Cell}
 use Rattle.option_store.specs.Meaning.{option_values}
+use Rattle.context_cache.specs.Cached.{CacheValue}
+use Rattle.event_text.specs.Texts.{InsertedValue}
 use Rattle.rule_matching.specs.Moment.{MomentValue, AreShort, truths_at}
 use Rattle.rule_engine.specs.declared.entering.GroupEntry.{GroupEntry}
 
@@ -48,10 +50,17 @@ enters event entering = enter_group entering.depth (keyboard_of event) entering.
 abbrev pub adds : EventValue → GroupEntry → Adding
 adds event entering = add_lines entering.depth (keyboard_of event) entering.press
 
--- an event notes at most one line for each group that it enters, and enters no more groups than it may
-pub record HasNoted (lines : List ℕ) (entered : ℕ) : Type 0 where
+-- an event notes at most one line for each group that it enters, enters no more groups than it may, and has room for their lines
+pub record HasNoted (lines : List ℕ) (entered room : ℕ) : Type 0 where
   pub few : length lines ≤ entered
   pub allowed : entered ≤ EVENT_ENTRIES
+  pub places : room ≡ EVENT_ENTRIES
+
+-- room for an event: for the last items, for what it inserts and for the lines that it notes
+pub record HasRoom (cache : CacheValue) (inserted : InsertedValue) (lines : ℕ) : Type 0 where
+  pub items : cache.room ≡ WINDOW_ITEMS
+  pub text : inserted.room ≡ EVENT_PUTS
+  pub noted : lines ≡ EVENT_ENTRIES
 
 -- what an item of an output sets or resets is a store of the file, of which there are so many, or the layer; a value is that of
 -- such a store too

@@ -1,4 +1,4 @@
-ghost use Rattle.std.specs.Prelude.{◌≡◌, ◌<◌, ◌≤◌, ◌+◌, ◌^◌, length, option_map, IfOk, MatchResult, is_some};
+ghost use Rattle.std.specs.Prelude.{◌≡◌, ◌<◌, ◌≤◌, ◌+◌, ◌^◌, length, option_map, vec_capacity, IfOk, MatchResult, is_some};
 ghost use Rattle.kmn_base.specs.declared.limits.TheConstants.{EVENT_ENTRIES, EVENT_PUTS, STORES};
 ghost use Rattle.kmx_format.specs.TablesOf.{tables_of};
 ghost use Rattle.option_store.specs.Cells.{held_value};
@@ -42,13 +42,15 @@ pub struct Preview {
 
 impl<'a> Model for Engine<'a> {
     ghost use Rattle.std.specs.Arc.{arc_value};
+    ghost use Rattle.std.specs.Prelude.{vec_capacity};
     ghost use Rattle.rule_engine.specs.Engine.{EngineState, engine_with, IsAtWork};
 
     ghost Value = { EngineState };
 
-    ghost view = { λ engine. engine_with (arc_value engine.indexed) engine.workspace.cache engine.workspace.options engine.workspace.inserted.text engine.workspace.chosen.items };
+    ghost view = { λ engine. engine_with (arc_value engine.indexed) engine.workspace.cache.items engine.workspace.options engine.workspace.inserted.text engine.workspace.chosen.items };
 
-    ghost invariant = { λ engine. IsAtWork (arc_value engine.indexed) engine.workspace.cache engine.workspace.options engine.workspace.truths.items engine.workspace.inserted };
+    ghost invariant = { λ engine. IsAtWork (arc_value engine.indexed) engine.workspace.cache engine.workspace.options engine.workspace.truths.items engine.workspace.inserted
+        (vec_capacity engine.workspace.chosen) };
 }
 
 /// How many stores the keyboard of a file has: the layer and the platform stand behind those of the file.
@@ -271,11 +273,12 @@ fn pressed(
     workspace: Workspace,
 ) -> AfterPress
     requires few { length left.now < 2 ^ 32 }
-    requires work { IsAtWork indexed.now workspace.cache workspace.options workspace.truths.items workspace.inserted }
-    ensures outcome { result.outcome ≡ press_outcome left.now key (engine_with indexed.now workspace.cache workspace.options workspace.inserted.text workspace.chosen.items) }
-    ensures engine { engine_with indexed.now result.workspace.cache result.workspace.options result.workspace.inserted.text result.workspace.chosen.items
-        ≡ press_leaves left.now key (engine_with indexed.now workspace.cache workspace.options workspace.inserted.text workspace.chosen.items) }
-    ensures work { IsAtWork indexed.now result.workspace.cache result.workspace.options result.workspace.truths.items result.workspace.inserted }
+    requires work { IsAtWork indexed.now workspace.cache workspace.options workspace.truths.items workspace.inserted (vec_capacity workspace.chosen) }
+    ensures outcome { result.outcome ≡ press_outcome left.now key (engine_with indexed.now workspace.cache.items workspace.options workspace.inserted.text workspace.chosen.items) }
+    ensures engine { engine_with indexed.now result.workspace.cache.items result.workspace.options result.workspace.inserted.text result.workspace.chosen.items
+        ≡ press_leaves left.now key (engine_with indexed.now workspace.cache.items workspace.options workspace.inserted.text workspace.chosen.items) }
+    ensures work { IsAtWork indexed.now result.workspace.cache result.workspace.options result.workspace.truths.items result.workspace.inserted
+        (vec_capacity result.workspace.chosen) }
 {
     let mut event = PressEvent::begin(indexed, left, workspace);
     press(key, &mut event);

@@ -209,7 +209,7 @@ fn in_group(entering: GroupEntry, group: u32, event: &mut PressEvent)
 
 /// Enters a group.
 #[cycle(acts)]
-#[tactic(auto, using(rule_model::proofs::PlainKeyboard::enter_more, crate::proofs::MoreLines::more_lines))]
+#[tactic(auto, using(rule_model::proofs::PlainKeyboard::enter_more, rule_model::proofs::MoreLines::more_lines))]
 fn enter(entering: GroupEntry, group: u32, event: &mut PressEvent)
     requires { event.old.state.entered < 50 }
     ensures { event.new ≡ record event.old {

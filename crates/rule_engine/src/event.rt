@@ -1,4 +1,4 @@
-ghost use Rattle.std.specs.Prelude.{◌≡◌, ◌≤◌, ◌<◌, ◌+◌, ◌^◌, [], ◌∷◌, ◌++◌, IfSome, length, option_map, None, Some, true};
+ghost use Rattle.std.specs.Prelude.{◌≡◌, ◌≤◌, ◌<◌, ◌+◌, ◌^◌, [], ◌∷◌, ◌++◌, IfSome, length, option_map, vec_capacity, None, Some, true};
 ghost use Rattle.std.specs.List.{Contains};
 ghost use Rattle.kmn_base.specs.declared.limits.TheConstants.{EVENT_PUTS};
 ghost use Rattle.kmn_base.specs.Lists.{characters, window, without_last, read_again};
@@ -11,10 +11,9 @@ ghost use Rattle.rule_model.specs.KeyEvent.{begin_event, deleted, inserted, outc
 ghost use Rattle.rule_model.specs.Tab.{tab, elements_of, tab_group, tab_rule};
 ghost use Rattle.rule_index.specs.Groups.{IsRuleIndexOf};
 ghost use Rattle.rule_matching.specs.Moment.{AreShort};
-ghost use Rattle.rule_engine.specs.Event.{CanAct, HasShortContexts, PlatformStays, keyboard_of, moment_of};
+ghost use Rattle.rule_engine.specs.Event.{CanAct, HasRoom, HasShortContexts, PlatformStays, keyboard_of, moment_of};
 
 use crate::workspace::Workspace;
-use arrayvec::ArrayVec;
 use event_text::Left;
 use kmn_base::limits::EVENT_PUTS;
 use kmn_base::{Item, KeyPress, Outcome};
@@ -40,7 +39,7 @@ pub struct PressEvent<'a> {
     entered: u32,
     saves: u32,
     /// The lines of the rules that were chosen, at most one for each group that is entered.
-    lines: ArrayVec<u32, 50>,
+    lines: Vec<u32>,
 }
 
 /// What a press did, and what the next event works on.
@@ -51,7 +50,7 @@ pub struct AfterPress {
 }
 
 impl<'a> Model for PressEvent<'a> {
-    ghost use Rattle.std.specs.Prelude.{[]};
+    ghost use Rattle.std.specs.Prelude.{[], vec_capacity};
     ghost use Rattle.option_store.specs.Meaning.{with_values};
     ghost use Rattle.rule_model.specs.Tab.{tab};
     ghost use Rattle.rule_engine.specs.Event.{CanAct, EventValue, HasNoted};
@@ -75,7 +74,7 @@ impl<'a> Model for PressEvent<'a> {
       lines = event.lines.items;
     } };
 
-    ghost invariant = { λ event. CanAct event.indexed.now event.options event.truths.items × HasNoted event.lines.items event.entered };
+    ghost invariant = { λ event. CanAct event.indexed.now event.options event.truths.items × HasNoted event.lines.items event.entered (vec_capacity event.lines) };
 }
 
 impl<'a> PressEvent<'a> {
@@ -88,16 +87,18 @@ impl<'a> PressEvent<'a> {
         workspace: Workspace,
     ) -> PressEvent<'a>
         requires few { length lent.now < 2 ^ 32 }
-        requires room { workspace.inserted.room ≡ EVENT_PUTS }
+        requires room { HasRoom workspace.cache workspace.inserted (vec_capacity workspace.chosen) }
         requires can { CanAct indexed.now workspace.options workspace.truths.items }
         ensures { result ≡ record {
           tables = indexed.now;
           lent = lent.now;
-          state = begin_event (read_again workspace.cache lent.now)
+          state = begin_event (read_again workspace.cache.items lent.now)
               (option_values (tab indexed.now).stores workspace.options) (option_saves (tab indexed.now).stores workspace.options);
           lines = [];
         } }
     {
+        let mut lines = workspace.chosen;
+        lines.clear();
         PressEvent {
             indexed,
             left: Left::begin(lent, workspace.inserted, workspace.cache),
@@ -109,7 +110,7 @@ impl<'a> PressEvent<'a> {
             beeps: 0,
             entered: 0,
             saves: 0,
-            lines: ArrayVec::new(),
+            lines,
         }
     }
 
@@ -117,12 +118,12 @@ impl<'a> PressEvent<'a> {
     pub fn finish(self) -> AfterPress
         ensures outcome { (before : _) → characters before ≡ self.entry.lent → result.outcome ≡ outcome_of before self.entry.state }
         ensures inserted { (before : _) → characters before ≡ self.entry.lent → result.workspace.inserted.text ≡ inserted before self.entry.state.left }
-        ensures cache { result.workspace.cache ≡ window self.entry.state.left }
+        ensures cache { result.workspace.cache.items ≡ window self.entry.state.left }
         ensures current { option_values (keyboard_of self.entry).stores result.workspace.options ≡ self.entry.state.current }
         ensures saved { option_saves (keyboard_of self.entry).stores result.workspace.options ≡ self.entry.state.saved }
         ensures can { CanAct self.entry.tables result.workspace.options result.workspace.truths.items }
         ensures chosen { result.workspace.chosen.items ≡ self.entry.lines }
-        ensures room { result.workspace.inserted.room ≡ EVENT_PUTS }
+        ensures room { HasRoom result.workspace.cache result.workspace.inserted (vec_capacity result.workspace.chosen) }
         ensures few { length result.workspace.inserted.text ≤ EVENT_PUTS }
     {
         let put = self.left.puts();
@@ -205,7 +206,7 @@ impl<'a> PressEvent<'a> {
         requires { length self.old.lines < self.old.state.entered }
         ensures { self.new ≡ record self.old { lines = self.old.lines ++ line ∷ [] } }
     {
-        self.lines.push(line);
+        self.lines.push_reserved(line);
     }
 
     /// The record of a group that goes first at this moment. What it catches is written where the caller has room for it, which

@@ -1,14 +1,14 @@
-ghost use Rattle.std.specs.Prelude.{◌≡◌, ◌≤◌, ◌<◌, ◌+◌, [], length, IfOk, MatchResult};
-ghost use Rattle.kmn_base.specs.declared.limits.TheConstants.{EVENT_PUTS, STORES};
+ghost use Rattle.std.specs.Prelude.{◌≡◌, ◌≤◌, ◌<◌, ◌+◌, [], length, vec_capacity, IfOk, MatchResult};
+ghost use Rattle.kmn_base.specs.declared.limits.TheConstants.{EVENT_ENTRIES, EVENT_PUTS, STORES, WINDOW_ITEMS};
 ghost use Rattle.option_store.specs.Cells.{changed, first_cells, host_cell};
 ghost use Rattle.rule_model.specs.Tab.{tab};
 ghost use Rattle.rule_matching.specs.Moment.{truths_at};
 ghost use Rattle.rule_engine.specs.Event.{moment_with};
 
-use arrayvec::ArrayVec;
 use context_cache::Cache;
 use event_text::Inserted;
 use kmn_base::Memory;
+use kmn_base::limits::EVENT_ENTRIES;
 use option_store::Options;
 use rule_index::IndexedKeyboard;
 use rule_matching::{PlaceMemory, StoreValue};
@@ -23,42 +23,46 @@ pub struct Workspace {
     pub options: Options,
     pub truths: Vec<bool>,
     pub inserted: Inserted,
-    pub chosen: ArrayVec<u32, 50>,
+    pub chosen: Vec<u32>,
     pub places: PlaceMemory,
 }
 
-/// The same lines once more.
-fn copied(lines: &[u32]) -> ArrayVec<u32, 50>
-    requires { length lines.now ≤ 50 }
-    ensures { result.items ≡ lines.now }
+/// The same lines once more, with room for those of an event.
+fn copied(alloc: Global, lines: &[u32]) -> Result<Vec<u32>, Memory>
+    requires { length lines.now ≤ EVENT_ENTRIES }
+    ensures lines { IfOk result (λ copy. copy.items ≡ lines.now) }
+    ensures room { IfOk result (λ copy. vec_capacity copy ≡ EVENT_ENTRIES) }
 {
-    let mut copy = ArrayVec::new();
+    let mut copy = Vec::with_capacity(alloc, EVENT_ENTRIES as usize)?;
     for line in lines {
-        copy.push(*line);
+        copy.push_reserved(*line);
     }
-    copy
+    Ok(copy)
 }
 
 impl Workspace {
     /// One for so many stores of a keyboard, which tells nothing of the platform yet.
     pub fn new(alloc: Global, stores: u32) -> Result<Workspace, Memory>
         requires { stores ≤ STORES + 2 }
-        ensures cache { IfOk result (λ workspace. workspace.cache ≡ []) }
+        ensures cache { IfOk result (λ workspace. workspace.cache ≡ record { items = []; room = WINDOW_ITEMS }) }
         ensures options { IfOk result (λ workspace. workspace.options ≡ first_cells 0 stores) }
         ensures truths { IfOk result (λ workspace. length workspace.truths.items ≡ stores) }
         ensures inserted { IfOk result (λ workspace. workspace.inserted ≡ record { text = []; room = EVENT_PUTS }) }
         ensures chosen { IfOk result (λ workspace. workspace.chosen.items ≡ []) }
+        ensures lines { IfOk result (λ workspace. vec_capacity workspace.chosen ≡ EVENT_ENTRIES) }
     {
         let options = Options::new(alloc, stores)?;
         let truths = vec![in alloc; false; stores as usize]?;
         let places = PlaceMemory::new(alloc, stores as usize)?;
         let inserted = Inserted::with_room(alloc)?;
+        let cache = Cache::with_room(alloc)?;
+        let chosen = Vec::with_capacity(alloc, EVENT_ENTRIES as usize)?;
         Ok(Workspace {
-            cache: Cache::new(),
+            cache,
             options,
             truths,
             inserted,
-            chosen: ArrayVec::new(),
+            chosen,
             places,
         })
     }
@@ -80,42 +84,46 @@ impl Workspace {
 
     /// What stands in its place while an event works on it: it has no room, and takes no memory.
     pub fn without_room(alloc: Global) -> Workspace
-        ensures cache { result.cache ≡ [] }
+        ensures cache { result.cache ≡ record { items = []; room = 0 } }
         ensures options { result.options ≡ [] }
         ensures truths { result.truths.items ≡ [] }
         ensures inserted { result.inserted ≡ record { text = []; room = 0 } }
         ensures chosen { result.chosen.items ≡ [] }
     {
         Workspace {
-            cache: Cache::new(),
+            cache: Cache::without_room(alloc),
             options: Options::none(alloc),
             truths: Vec::new(alloc),
             inserted: Inserted::without_room(alloc),
-            chosen: ArrayVec::new(),
+            chosen: Vec::new(alloc),
             places: PlaceMemory::without_room(alloc),
         }
     }
 
     /// The same once more, for so many stores of a keyboard, with room of its own.
     pub fn copy(&self, alloc: Global, stores: u32) -> Result<Workspace, Memory>
-        requires { stores ≤ STORES + 2 }
-        ensures cache { IfOk result (λ workspace. workspace.cache ≡ self.now.cache) }
+        requires stores { stores ≤ STORES + 2 }
+        requires lines { vec_capacity self.now.chosen ≡ EVENT_ENTRIES }
+        ensures cache { IfOk result (λ workspace. workspace.cache ≡ record { items = self.now.cache.items; room = WINDOW_ITEMS }) }
         ensures options { IfOk result (λ workspace. workspace.options ≡ self.now.options) }
         ensures truths { IfOk result (λ workspace. workspace.truths.items ≡ self.now.truths.items) }
         ensures inserted { IfOk result (λ workspace. workspace.inserted ≡ self.now.inserted) }
         ensures chosen { IfOk result (λ workspace. workspace.chosen.items ≡ self.now.chosen.items) }
+        ensures places { IfOk result (λ workspace. vec_capacity workspace.chosen ≡ EVENT_ENTRIES) }
     {
         let options = self.options.copy(alloc)?;
         let mut truths = Vec::with_capacity(alloc, self.truths.len())?;
         truths.extend_from_slice(self.truths.as_slice())?;
         let places = PlaceMemory::new(alloc, stores as usize)?;
         let inserted = self.inserted.copy(alloc)?;
+        let cache = self.cache.copy(alloc)?;
+        let chosen = copied(alloc, self.chosen.as_slice())?;
         Ok(Workspace {
-            cache: self.cache.copy(),
+            cache,
             options,
             truths,
             inserted,
-            chosen: copied(self.chosen.as_slice()),
+            chosen,
             places,
         })
     }

@@ -1,13 +1,13 @@
 -- The names that are read of a store are few, since each takes a character and a space.
-use Rattle.std.proofs.Common.{◌≡◌, ℕ, suc, ◌+◌, ◌*◌, ◌≤◌, Bool, true, false, List, [], ◌∷◌, ◌++◌, length, Option, Some, arith, cond, length-append, if◌then◌else◌}
+use Rattle.std.proofs.Common.{◌≡◌, ℕ, suc, ◌+◌, ◌*◌, ◌≤◌, Bool, true, false, List, [], ◌∷◌, ◌++◌, length, arith, length-append, if◌then◌else◌}
 use Rattle.std.specs.Prelude.{find, nat_eq, is_some}
 use Rattle.std.specs.Char.{encode_utf8}
-use Rattle.std.proofs.lemmas.List.Elements.{All-head, All-tail}
 use Rattle.kmn_base.specs.declared.items.Element.{Element}
 use Rattle.kmn_base.specs.declared.limits.TheConstants.{STORE_ELEMENTS}
 use Rattle.virtual_keys.specs.Dictionary.{place_in}
 use Rattle.rule_model.specs.declared.tables.Store.{Store}
 use Rattle.rule_model.specs.Tab.{is_dictionary, store_elements}
+use Rattle.rule_model.proofs.Dictionary.{dictionary_has}
 use Rattle.rule_index.specs.OwnNames.{names_with, names_after, word_after}
 use Rattle.rule_index.specs.Stores.{HaveFewElements}
 
@@ -46,15 +46,6 @@ room_behind c names new word longer elements left element is grown taken room =
     let here : 2 * length names + begun word + suc (length left) ≤ STORE_ELEMENTS = rw is at room in
     rw (grown, taken) (next (nat_eq c 32) names word (word ++ encode_utf8 c) (length left) here)
 
-found-few : (test : Bool) (store : Store) (other : Option Store) → length store.elements ≤ STORE_ELEMENTS → length (store_elements other) ≤ STORE_ELEMENTS
-    → length (store_elements (cond test (Some store) other)) ≤ STORE_ELEMENTS
-found-few true store other here rest = here
-found-few false store other here rest = rest
-
 -- the store of the names has no more elements than a store may have
 pub few_elements : (stores : List Store) → HaveFewElements stores → length (store_elements (find is_dictionary stores)) ≤ STORE_ELEMENTS
-few_elements [] few = omega arith
-few_elements (store ∷ stores) few =
-    found-few (is_dictionary store) store (find is_dictionary stores)
-    (All-head (λ (s : Store). length s.elements ≤ STORE_ELEMENTS) store stores few)
-    (few_elements stores (All-tail (λ (s : Store). length s.elements ≤ STORE_ELEMENTS) store stores few))
+few_elements stores few = dictionary_has (λ (elements : List Element). length elements ≤ STORE_ELEMENTS) stores (omega arith) few

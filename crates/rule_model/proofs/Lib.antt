@@ -2,11 +2,13 @@ pub mod Bounds
 pub mod Budget
 pub mod CasedKeys
 pub mod Choosing
+pub mod Dictionary
 pub mod Distinct
 pub mod Edits
 pub mod Examples
 pub mod Insertions
 pub mod Kept
+pub mod MoreLines
 pub mod PlainContexts
 pub mod PlainCounts
 pub mod PlainKeyboard

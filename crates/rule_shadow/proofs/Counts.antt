@@ -1,8 +1,6 @@
 -- Values element by element, and tests in another order.
 use Rattle.std.proofs.Common.{◌≡◌, Bool, true, false, refl}
 use Rattle.std.specs.Prelude.{◌&&◌}
-use Rattle.kmn_base.specs.declared.items.Element.TheVariants as element
-use Rattle.kmn_base.specs.contracts.items.ElementPartialEq.TheImpl as ElementPartialEq
 
 -- of four tests the last may be asked first, and the third before the second
 and_false : (a : Bool) → (a && false) ≡ false

@@ -21,7 +21,7 @@ use Rattle.rule_shadow.specs.declared.near.Near.{Near}
 use Rattle.rule_shadow.specs.declared.finding.Found.TheVariants as finding
 use Rattle.rule_shadow.specs.Keys.{covers_key}
 use Rattle.rule_shadow.specs.Places.{Narrowing, first_given, stated_range, range_of, patterns_of, places_from}
-use Rattle.rule_shadow.specs.Covers.{covers_place, cover_each, cover_last, is_condition_of, keeps_nul, covers_rule, covers_if_any, split_items, items_at, narrowed, nothing_narrowed}
+use Rattle.rule_shadow.specs.Covers.{covers_place, cover_each, cover_last, is_condition_of, keeps_nul, covers_rule, covers_if_any, split_items, narrowed, nothing_narrowed}
 use Rattle.rule_shadow.specs.Finding.{least_by, least_onto, split_rules, split_or, first_split}
 use Rattle.rule_shadow.specs.Near.{hands_on, is_any, missed_from, miss_of, missed_last, miss_by, is_several, is_at_most, near_rules, near_before, first_near}
 

@@ -5,11 +5,12 @@ ghost use Rattle.rule_shadow.specs.Places.{items_of, patterns_of};
 ghost use Rattle.rule_shadow.specs.Covers.{items_at, narrowed, nothing_narrowed, covers_by, covers_under, covers_list};
 
 use crate::cert::Cert;
-use crate::covering::{covers_rule, item_of};
+use crate::covering::covers_rule;
 use crate::place_list::{is_matched, places};
 use crate::subject::Subject;
 use kmn_base::{Element, Item};
 use rule_model::Pat;
+use store_sets::item_of;
 
 /// A pattern of a context by its place.
 fn pattern_at(context: &[Pat], place: u32) -> Option<Pat>

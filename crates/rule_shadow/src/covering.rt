@@ -1,6 +1,6 @@
-ghost use Rattle.std.specs.Prelude.{◌≡◌, length, is_some, filter_map};
+ghost use Rattle.std.specs.Prelude.{◌≡◌, length, filter_map};
 ghost use Rattle.std.specs.List.{list_all, list_any};
-ghost use Rattle.rule_model.specs.Match.{is_item, item_of, same_value, place_of};
+ghost use Rattle.rule_model.specs.Match.{item_of, same_value};
 ghost use Rattle.rule_shadow.specs.Places.{patterns_of};
 ghost use Rattle.rule_shadow.specs.Covers.{covers_item, covers_range, same_store, covers_place, cover_each, cover_last, same_condition, is_condition_of, is_nul, keeps_nul, covers_rule};
 
@@ -10,41 +10,7 @@ use crate::key_cover::covers_key;
 use crate::place_list::is_matched;
 use kmn_base::{Element, Item};
 use rule_model::{Pat, Rule};
-
-/// Whether an item is the same as an element.
-fn is_item(item: Item, element: Element) -> bool
-    ensures { result ≡ is_item item element }
-{
-    match item {
-        Item::Char(c) => element == Element::Char(c),
-        Item::Mark(m) => element == Element::Mark(m),
-    }
-}
-
-/// The item that stands for an element.
-pub fn item_of(element: Element) -> Option<Item>
-    ensures { result ≡ item_of element }
-{
-    match element {
-        Element::Char(c) => Some(Item::Char(c)),
-        Element::Mark(m) => Some(Item::Mark(m)),
-        Element::Key { .. } => None,
-    }
-}
-
-/// The first place of an item among elements.
-fn place_of(item: Item, elements: &[Element]) -> Option<usize>
-    ensures { result ≡ place_of item elements.now }
-{
-    elements.iter().position(|element| is_item(item, *element))
-}
-
-/// Whether some element is the same as an item.
-fn is_among(item: Item, elements: &[Element]) -> bool
-    ensures { result ≡ is_some (place_of item elements.now) }
-{
-    place_of(item, elements).is_some()
-}
+use store_sets::{is_item, item_of};
 
 /// Whether a pattern matches an item whatever the moment.
 fn covers_item(tables: &FlaggedTables, pattern: Pat, item: Item) -> bool
@@ -53,8 +19,8 @@ fn covers_item(tables: &FlaggedTables, pattern: Pat, item: Item) -> bool
     match pattern {
         Pat::Char(c) => is_item(item, Element::Char(c)),
         Pat::Mark(m) => is_item(item, Element::Mark(m)),
-        Pat::Any(store) => tables.is_fixed(store) && is_among(item, tables.elements(store)),
-        Pat::NotAny(store) => tables.is_fixed(store) && !is_among(item, tables.elements(store)),
+        Pat::Any(store) => tables.is_fixed(store) && tables.has_item(store, item),
+        Pat::NotAny(store) => tables.is_fixed(store) && !tables.has_item(store, item),
         _ => false,
     }
 }

@@ -13,6 +13,7 @@ use kmn_base::Memory;
 use rule_model::Tables;
 use std::alloc::Global;
 use std::marker::Model;
+use store_sets::StoreSets;
 
 /// Whether what a certificate says of a record is so.
 #[tactic(auto, using(crate::proofs::Sound::context_fits))]
@@ -63,18 +64,23 @@ fn found_in(alloc: Global, tables: &FlaggedTables, group: u32, rule: u32) -> Res
 pub struct Finder<'a> {
     tables: &'a Tables,
     flags: Vec<bool>,
+    sets: StoreSets,
 }
 
 impl<'a> Model for Finder<'a> {
     ghost use Rattle.rule_model.specs.declared.tables.Tables.{Tables};
     ghost use Rattle.kmx_format.specs.Writable.{IsWritable};
+    ghost use Rattle.store_sets.specs.Numbers.{AreSetsOf};
     ghost use Rattle.rule_shadow.specs.Flags.{TellOptions};
 
     ghost Value = { Tables };
 
     ghost view = { λ finder. finder.tables.now };
 
-    ghost invariant = { λ finder. IsWritable finder.tables.now × TellOptions finder.tables.now finder.flags.items };
+    ghost invariant = { λ finder.
+        IsWritable finder.tables.now
+        × TellOptions finder.tables.now finder.flags.items
+        × AreSetsOf finder.tables.now.stores finder.sets };
 }
 
 impl<'a> Finder<'a> {
@@ -84,14 +90,27 @@ impl<'a> Finder<'a> {
         ensures { IfOk result (λ finder. finder ≡ tables.now) }
     {
         let flags = option_flags(alloc, tables)?;
-        Ok(Finder { tables, flags })
+        let sets = StoreSets::new(alloc, tables.stores.as_slice())?;
+        Ok(Finder {
+            tables,
+            flags,
+            sets,
+        })
+    }
+
+    /// The tables with what was looked up.
+    fn flagged(&self) -> FlaggedTables<'_>
+        ensures flagged { result ≡ self.now }
+        ensures writable { IsWritable self.now }
+    {
+        FlaggedTables::new(self.tables, self.flags.as_slice(), &self.sets)
     }
 
     /// What is found for the record of a number in the group of a number, both counted from 0; nothing where there is none.
     pub fn found(&self, alloc: Global, group: u32, rule: u32) -> Result<Found, Memory>
         ensures { IfOk result (λ f. f ≡ found self.now group rule) }
     {
-        let tables = FlaggedTables::new(self.tables, self.flags.as_slice());
+        let tables = self.flagged();
         found_in(alloc, &tables, group, rule)
     }
 
@@ -107,7 +126,7 @@ impl<'a> Finder<'a> {
     pub fn covers(&self, group: u32, rule: u32, cert: &Cert) -> bool
         ensures { result ≡ covers self.now group rule cert.now }
     {
-        let tables = FlaggedTables::new(self.tables, self.flags.as_slice());
+        let tables = self.flagged();
         covers_in(&tables, group, rule, cert)
     }
 }
@@ -130,5 +149,10 @@ pub fn covers(tables: &Tables, group: u32, rule: u32, cert: &Cert) -> bool
 {
     let mut flags = [false; 20_000];
     mark_options(&mut flags, tables);
-    covers_in(&FlaggedTables::new(tables, &flags), group, rule, cert)
+    covers_in(
+        &FlaggedTables::without_sets(tables, &flags),
+        group,
+        rule,
+        cert,
+    )
 }

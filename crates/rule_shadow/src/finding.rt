@@ -11,7 +11,7 @@ ghost use Rattle.rule_shadow.specs.Finding.{Says, least_by, least_onto, split_ru
 
 use crate::cert::{Cert, Place};
 use crate::certs::{narrowed, nothing_narrowed, split_store};
-use crate::covering::{conditions_too, cover_last, item_of, keeps_nul};
+use crate::covering::{conditions_too, cover_last, keeps_nul};
 use crate::key_cover::{fits_each, fitting_presses};
 use crate::near::{Near, is_at_most, near_rules};
 use crate::place_list::{is_matched, places};
@@ -20,6 +20,7 @@ use kmn_base::slices::before;
 use kmn_base::{Element, Item, Memory, Seq};
 use rule_model::{Pat, Rule};
 use std::alloc::Global;
+use store_sets::item_of;
 use virtual_keys::Pressed;
 
 /// What is found for a record: a record that covers it, a place with a record for each item, or nothing.

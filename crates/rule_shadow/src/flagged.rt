@@ -1,40 +1,65 @@
-//! Tables with a flag for each store that is an option.
+//! Tables with a flag for each store that is an option, and where memory may be taken with the items of each store in a set.
 
-ghost use Rattle.std.specs.Prelude.{◌≡◌, false, option_copied, slice_get, unwrap_or};
+ghost use Rattle.std.specs.Prelude.{◌≡◌, false, option_copied, slice_get, unwrap_or, is_some, IfSome};
+ghost use Rattle.rule_model.specs.Match.{place_of};
 ghost use Rattle.rule_model.specs.Tab.{elements_of};
+ghost use Rattle.store_sets.specs.Numbers.{AreSetsOf};
 ghost use Rattle.rule_shadow.specs.Flags.{TellOptions};
 ghost use Rattle.rule_shadow.specs.Places.{is_fixed};
 
-use kmn_base::Element;
+use kmn_base::{Element, Item};
 use rule_model::{Group, Tables};
 use std::marker::Model;
+use store_sets::{StoreSets, is_among};
 
-/// Tables, with flags that tell which of their stores are options. Contracts see the tables.
+/// Tables, with flags that tell which of their stores are options, and with the stores' items in sets, but where no memory may
+/// be taken. Contracts see the tables.
 #[derive(Drop)]
 pub struct FlaggedTables<'a> {
     tables: &'a Tables,
     flags: &'a [bool],
+    sets: Option<&'a StoreSets>,
 }
 
 impl<'a> Model for FlaggedTables<'a> {
-    ghost use Rattle.std.specs.Prelude.{◌≡◌};
+    ghost use Rattle.std.specs.Prelude.{IfSome};
     ghost use Rattle.rule_model.specs.declared.tables.Tables.{Tables};
+    ghost use Rattle.store_sets.specs.Numbers.{AreSetsOf};
     ghost use Rattle.rule_shadow.specs.Flags.{TellOptions};
 
     ghost Value = { Tables };
 
     ghost view = { λ flagged. flagged.tables.now };
 
-    ghost invariant = { λ flagged. TellOptions flagged.tables.now flagged.flags.now };
+    ghost invariant = { λ flagged.
+        TellOptions flagged.tables.now flagged.flags.now
+        × IfSome flagged.sets (λ sets. AreSetsOf flagged.tables.now.stores sets.now) };
 }
 
 impl<'a> FlaggedTables<'a> {
-    /// Tables with their flags.
-    pub fn new(tables: &'a Tables, flags: &'a [bool]) -> FlaggedTables<'a>
+    /// Tables with their flags and the sets of their stores.
+    pub fn new(tables: &'a Tables, flags: &'a [bool], sets: &'a StoreSets) -> FlaggedTables<'a>
+        requires flags { TellOptions tables.now flags.now }
+        requires sets { AreSetsOf tables.now.stores sets.now }
+        ensures { result ≡ tables.now }
+    {
+        FlaggedTables {
+            tables,
+            flags,
+            sets: Some(sets),
+        }
+    }
+
+    /// Tables with their flags alone.
+    pub fn without_sets(tables: &'a Tables, flags: &'a [bool]) -> FlaggedTables<'a>
         requires { TellOptions tables.now flags.now }
         ensures { result ≡ tables.now }
     {
-        FlaggedTables { tables, flags }
+        FlaggedTables {
+            tables,
+            flags,
+            sets: None,
+        }
     }
 
     /// The elements of a store, none where there is no such store.
@@ -44,6 +69,16 @@ impl<'a> FlaggedTables<'a> {
         match self.tables.stores.as_slice().get(store as usize) {
             Some(store) => store.elements.as_slice(),
             None => &[],
+        }
+    }
+
+    /// Whether a store has an item: by its set, or element by element where there are no sets.
+    pub fn has_item(&self, store: u32, item: Item) -> bool
+        ensures { result ≡ is_some (place_of item (elements_of self.now.stores store)) }
+    {
+        match self.sets {
+            Some(sets) => sets.has(store, item),
+            None => is_among(item, self.elements(store)),
         }
     }
 

@@ -62,27 +62,56 @@ const READS_ON_DISK: &[ReadRow] = &[
     (b"disk.tmp\0", 9, "the file can't be read"),
 ];
 
+/// What the first read that comes to something else was to come to.
+fn wrong_read<F: Folder>(
+    alloc: Global,
+    folder: &mut F,
+    rows: &'static [ReadRow],
+) -> Result<Option<&'static str>, Fail> {
+    for &row in rows {
+        if !is_read(alloc, folder, row)? {
+            return Ok(Some(row.2));
+        }
+    }
+    Ok(None)
+}
+
+/// What is wrong with the folder in memory.
+fn wrong_in_memory(alloc: Global) -> Result<Option<&'static str>, Fail> {
+    let mut folder = small_folder(alloc)?;
+    let wrong = wrong_read(alloc, &mut folder, READS_IN_MEMORY)?;
+    let is_written = is_written(alloc, &mut folder, b"b", "written")?;
+    Ok(if is_written { wrong } else { Some("written") })
+}
+
+/// Whether the sink in memory takes two bytes whole.
+fn memory_takes_two(alloc: Global) -> bool {
+    takes_two(&mut MemorySink::new(alloc, Seq::new(alloc)))
+}
+
 #[test]
 fn calls_in_memory(rt: HostRuntime) -> Result<(), Fail> {
-    let mut folder = small_folder(rt.alloc())?;
-    for &row in READS_IN_MEMORY {
-        assert!(rt; is_read(rt.alloc(), &mut folder, row)?, "{}", row.2);
-    }
-    assert!(rt; is_written(rt.alloc(), &mut folder, b"b", "written")?);
-    let mut sink = MemorySink::new(rt.alloc(), Seq::new(rt.alloc()));
-    assert!(rt; takes_two(&mut sink));
+    let wrong = wrong_in_memory(rt.alloc())?;
+    assert!(rt; wrong.is_none(), "{}", wrong.unwrap_or(""));
+    assert!(rt; memory_takes_two(rt.alloc()));
     Ok(())
+}
+
+/// Whether a file is written, and none into a folder that isn't there.
+fn are_written<F: Folder>(alloc: Global, folder: &mut F) -> Result<bool, Fail> {
+    let unwritten = "the bytes can't be written";
+    Ok(
+        is_written(alloc, folder, b"disk.tmp", "written")?
+            && is_written(alloc, folder, b"missing/file", unwritten)?,
+    )
 }
 
 #[test]
 fn real_files(rt: HostRuntime) -> Result<(), Fail> {
     let mut folder = DiskFolder::new(&rt);
-    assert!(rt; is_written(rt.alloc(), &mut folder, b"disk.tmp", "written")?);
-    for &row in READS_ON_DISK {
-        assert!(rt; is_read(rt.alloc(), &mut folder, row)?, "{}", row.2);
-    }
-    let unwritten = "the bytes can't be written";
-    assert!(rt; is_written(rt.alloc(), &mut folder, b"missing/file", unwritten)?);
+    assert!(rt; are_written(rt.alloc(), &mut folder)?);
+    let wrong = wrong_read(rt.alloc(), &mut folder, READS_ON_DISK)?;
+    assert!(rt; wrong.is_none(), "{}", wrong.unwrap_or(""));
     assert!(rt; takes_two(&mut StreamSink::new(fs::create(&rt, "disk.tmp")?)));
     fs::remove_file(&rt, "disk.tmp")?;
     Ok(())

@@ -11,16 +11,17 @@ use crate::fixtures::seq;
 use host_rows::HOST_RUNS;
 use keyman_run::{Status, run};
 use kmn_base::{Seq, Text};
-use kmn_outside::{MemoryFolder, MemorySink};
+use kmn_outside::{Folder, MemoryFolder, MemorySink};
 use rows::{FILE, FILE_RUNS, LAYOUT_RUNS, LONG_RUNS, RUNS, SAMPLE, TEXT};
 use shadow_rows::SHADOW_RUNS;
 use std::alloc::{Alloc, AllocError, Global};
 use std::process::Abort;
+use std::str;
 use std::test::Fail;
 use trace_rows::TRACE_RUNS;
 
 /// A run as its row has it.
-#[derive(Drop)]
+#[derive(Clone, Copy)]
 struct Run<'a> {
     words: &'a str,
     source: &'a str,
@@ -29,24 +30,12 @@ struct Run<'a> {
     printed: &'a str,
 }
 
-/// How a run ends: the exit status and the size of the file `out`, and the calls of folder and sink that fail in it.
-#[derive(Drop)]
-struct Ends {
-    status: u32,
-    size: u32,
-    folder_call: u32,
-    sink_call: u32,
-}
-
-fn ends_of(line: &str) -> Ends {
-    let mut numbers = line
-        .split(' ')
-        .map(|number| number.parse::<u32>().unwrap_or(u32::MAX));
-    Ends {
-        status: numbers.next().unwrap_or(0),
-        size: numbers.next().unwrap_or(0),
-        folder_call: numbers.next().unwrap_or(0),
-        sink_call: numbers.next().unwrap_or(0),
+/// The number at a place of a row's line of numbers: the exit status, the size of the file `out`, and the calls of folder and
+/// sink that fail. One that isn't there is 0.
+fn number_at(line: &str, place: usize) -> u32 {
+    match line.split(' ').nth(place) {
+        Some(number) => number.parse::<u32>().unwrap_or(u32::MAX),
+        None => 0,
     }
 }
 
@@ -128,8 +117,45 @@ fn source_of(alloc: Global, text: &str) -> Result<String, Fail> {
     written_out(alloc, text)
 }
 
-/// A folder with a compiled file `a.kmx`, a script `a.keys`, and the source as `a.kmn` beside a picture of four bytes, and as
-/// `d/a.kmn` beside one of eight. The call of this number fails, and none for 0.
+/// A folder without files, whose call of this number behind so many others fails, and none for 0.
+fn empty_folder(alloc: Global, failing: u32, behind: u32) -> Result<MemoryFolder, AllocError> {
+    let call = match failing {
+        0 => 0,
+        _ => failing.saturating_add(behind),
+    };
+    let fails = Vec::from_slice(alloc, &[call])?;
+    Ok(MemoryFolder::new(alloc, Seq::new(alloc), Seq::from_vec(fails)))
+}
+
+/// A sink whose call of this number fails, and none for 0.
+fn sink(alloc: Global, failing: u32) -> Result<MemorySink, AllocError> {
+    let fails = Vec::from_slice(alloc, &[failing])?;
+    Ok(MemorySink::new(alloc, Seq::from_vec(fails)))
+}
+
+/// How many files `write_files` writes.
+const FILES: u32 = 7;
+
+/// Writes a compiled file `a.kmx`, a script `a.keys`, and the source as `a.kmn` beside a picture of four bytes, and as `d/a.kmn`
+/// beside one of eight.
+fn write_files(
+    alloc: Global,
+    folder: &mut MemoryFolder,
+    source: &[u8],
+    file: &[u8],
+    script: &[u8],
+) -> Result<(), Fail> {
+    folder.write(alloc, b"a.kmn", source)?;
+    folder.write(alloc, b"a.kmx", file)?;
+    folder.write(alloc, b"a.keys", script)?;
+    folder.write(alloc, b"p.ico", &[0, 1, 2, 3])?;
+    folder.write(alloc, b"d/a.kmn", source)?;
+    folder.write(alloc, b"d/p.ico", &[0, 1, 2, 3, 4, 5, 6, 7])?;
+    folder.write(alloc, b"sample.ico", &[0, 1, 2, 3])?;
+    Ok(())
+}
+
+/// A folder with these files. Its call of this number behind them fails, and none for 0.
 fn folder(
     alloc: Global,
     source: &str,
@@ -139,25 +165,21 @@ fn folder(
 ) -> Result<MemoryFolder, Fail> {
     let source = source_of(alloc, source)?;
     let script = written_out(alloc, script)?;
-    let mut files = Vec::new(alloc);
-    files.push((seq(alloc, b"a.kmn")?, seq(alloc, source.as_bytes())?))?;
-    files.push((seq(alloc, b"a.kmx")?, seq(alloc, file)?))?;
-    files.push((seq(alloc, b"a.keys")?, seq(alloc, script.as_bytes())?))?;
-    files.push((seq(alloc, b"p.ico")?, seq(alloc, &[0, 1, 2, 3])?))?;
-    files.push((seq(alloc, b"d/a.kmn")?, seq(alloc, source.as_bytes())?))?;
-    files.push((
-        seq(alloc, b"d/p.ico")?,
-        seq(alloc, &[0, 1, 2, 3, 4, 5, 6, 7])?,
-    ))?;
-    files.push((seq(alloc, b"sample.ico")?, seq(alloc, &[0, 1, 2, 3])?))?;
-    let fails = Vec::from_slice(alloc, &[failing])?;
-    Ok(MemoryFolder::new(alloc, Seq::from_vec(files), Seq::from_vec(fails)))
+    let mut folder = empty_folder(alloc, failing, FILES)?;
+    write_files(
+        alloc,
+        &mut folder,
+        source.as_bytes(),
+        file,
+        script.as_bytes(),
+    )?;
+    Ok(folder)
 }
 
 /// The file that a source is compiled to.
 fn compiled(alloc: Global, source: &str) -> Result<Seq<u8>, Fail> {
     let mut folder = folder(alloc, source, b"", "", 0)?;
-    let mut sink = MemorySink::new(alloc, Seq::new(alloc));
+    let mut sink = sink(alloc, 0)?;
     ended(alloc, "compile a.kmn out", &mut folder, &mut sink)?;
     Ok(seq(alloc, folder.file(b"out").unwrap_or(&[]))?)
 }
@@ -179,7 +201,7 @@ fn pieced(alloc: Global, file: &[u8], pieces: &str) -> Result<Seq<u8>, Fail> {
 }
 
 /// The folder in which a run begins.
-fn folder_of(alloc: Global, row: &Run, failing: u32) -> Result<MemoryFolder, Fail> {
+fn folder_of(alloc: Global, row: Run, failing: u32) -> Result<MemoryFolder, Fail> {
     match row.source.split_once(" ⇒ ") {
         Some((source, pieces)) => {
             let file = compiled(alloc, source)?;
@@ -191,33 +213,51 @@ fn folder_of(alloc: Global, row: &Run, failing: u32) -> Result<MemoryFolder, Fai
 }
 
 /// Whether a line is among those of a text.
-fn has_line(text: &[u8], line: &str) -> bool {
-    text.split(|byte| *byte == b'\n')
-        .any(|other| other == line.as_bytes())
+fn has_line(text: &str, line: &str) -> bool {
+    for other in text.split('\n') {
+        if other == line {
+            return true;
+        }
+    }
+    false
 }
 
-/// Whether a text is the one that is wanted or, where that begins with `?`, has each of its lines.
-fn is_printed(text: &[u8], wanted: &str) -> bool {
-    match wanted.strip_prefix('?') {
-        Some(lines) => lines.lines().all(|line| has_line(text, line)),
+/// Whether each of these lines is among those of a text.
+fn has_lines(text: &[u8], lines: &str) -> bool {
+    let text = str::from_utf8(text).unwrap_or("");
+    for line in lines.lines() {
+        if !has_line(text, line) {
+            return false;
+        }
+    }
+    true
+}
+
+/// Whether a text is the one that a row wants or, where that begins with `?`, has each of its lines.
+fn is_printed(alloc: Global, text: &[u8], wanted: &str) -> Result<bool, Fail> {
+    let wanted = written_out(alloc, wanted)?;
+    Ok(match wanted.as_str().strip_prefix('?') {
+        Some(lines) => has_lines(text, lines),
         None => text == wanted.as_bytes(),
+    })
+}
+
+/// How many bytes of the file `out` a folder has.
+fn size_of_out(folder: &MemoryFolder) -> usize {
+    match folder.file(b"out") {
+        Some(bytes) => bytes.len(),
+        None => 0,
     }
 }
 
 /// Whether a run ends and prints as its row says.
-fn is_right(alloc: Global, row: &Run) -> Result<bool, Fail> {
-    let ends = ends_of(row.ends);
-    let printed = written_out(alloc, row.printed)?;
-    let mut folder = folder_of(alloc, row, ends.folder_call)?;
-    let fails = Vec::from_slice(alloc, &[ends.sink_call])?;
-    let mut sink = MemorySink::new(alloc, Seq::from_vec(fails));
+fn is_right(alloc: Global, row: Run) -> Result<bool, Fail> {
+    let mut folder = folder_of(alloc, row, number_at(row.ends, 2))?;
+    let mut sink = sink(alloc, number_at(row.ends, 3))?;
     let status = ended(alloc, row.words, &mut folder, &mut sink)?;
-    let size = folder.file(b"out").map_or(0, |bytes| bytes.len());
-    Ok(
-        u32::from(status.number()) == ends.status
-            && size == ends.size as usize
-            && is_printed(sink.written(), printed.as_str()),
-    )
+    let is_ended = u32::from(status.number()) == number_at(row.ends, 0)
+        && size_of_out(&folder) == number_at(row.ends, 1) as usize;
+    Ok(is_printed(alloc, sink.written(), row.printed)? && is_ended)
 }
 
 /// Fails at the first run of a table that isn't right.
@@ -232,34 +272,17 @@ fn check_runs(rt: &(impl Abort + Alloc<A = Global>), table: &str) -> Result<(), 
             ends: lines.next().unwrap_or(""),
             printed: lines.next().unwrap_or(""),
         };
-        assert!(rt; is_right(rt.alloc(), &row)?, "{words}: {}", row.source);
+        assert!(rt; is_right(rt.alloc(), row)?, "{words}: {}", row.source);
     }
     Ok(())
 }
 
 #[test]
 fn runs(rt: HostRuntime) -> Result<(), Fail> {
-    check_runs(&rt, RUNS)
-}
-
-#[test]
-fn layouts(rt: HostRuntime) -> Result<(), Fail> {
-    check_runs(&rt, LAYOUT_RUNS)
-}
-
-#[test]
-fn traces(rt: HostRuntime) -> Result<(), Fail> {
-    check_runs(&rt, TRACE_RUNS)
-}
-
-#[test]
-fn shadows(rt: HostRuntime) -> Result<(), Fail> {
-    check_runs(&rt, SHADOW_RUNS)
-}
-
-#[test]
-fn hosts(rt: HostRuntime) -> Result<(), Fail> {
-    check_runs(&rt, HOST_RUNS)
+    for table in &[RUNS, LAYOUT_RUNS, TRACE_RUNS, SHADOW_RUNS, HOST_RUNS] {
+        check_runs(&rt, table)?;
+    }
+    Ok(())
 }
 
 #[test]
@@ -287,7 +310,7 @@ fn first_file(rt: HostRuntime) -> Result<(), Fail> {
 fn is_decompiled_to(alloc: Global, text: &[u8]) -> Result<bool, Fail> {
     let file = compiled(alloc, "@+ 'a' > 'b'¶")?;
     let mut folder = folder(alloc, "", file.as_slice(), "", 0)?;
-    let mut sink = MemorySink::new(alloc, Seq::new(alloc));
+    let mut sink = sink(alloc, 0)?;
     ended(alloc, "decompile a.kmx out", &mut folder, &mut sink)?;
     Ok(folder.file(b"out") == Some(text))
 }
@@ -309,7 +332,7 @@ fn is_refused_behind(alloc: Global, count: u32, last: &str, printed: &str) -> Re
     script.push_str(last)?;
     is_right(
         alloc,
-        &Run {
+        Run {
             words: "test a.kmn out a.keys",
             source: "@+ 'a' > 'b'¶",
             script: script.as_str(),
@@ -332,15 +355,11 @@ fn long_texts(rt: HostRuntime) -> Result<(), Fail> {
 /// Whether a picture that passes its limit by one byte is refused, and nothing written.
 fn is_long_picture_refused(alloc: Global) -> Result<bool, Fail> {
     let source = written_out(alloc, "store(&bitmap) 'p.ico'¶@+ 'a' > 'b'¶")?;
-    let mut picture = Vec::new(alloc);
-    for _ in 0..1_048_577 {
-        picture.push(0)?;
-    }
-    let mut files = Vec::new(alloc);
-    files.push((seq(alloc, b"a.kmn")?, seq(alloc, source.as_bytes())?))?;
-    files.push((seq(alloc, b"p.ico")?, Seq::from_vec(picture)))?;
-    let mut folder = MemoryFolder::new(alloc, Seq::from_vec(files), Seq::new(alloc));
-    let mut sink = MemorySink::new(alloc, Seq::new(alloc));
+    let picture = vec![in alloc; 0u8; 1_048_577]?;
+    let mut folder = empty_folder(alloc, 0, 0)?;
+    folder.write(alloc, b"a.kmn", source.as_bytes())?;
+    folder.write(alloc, b"p.ico", picture.as_slice())?;
+    let mut sink = sink(alloc, 0)?;
     let status = ended(alloc, "compile a.kmn out", &mut folder, &mut sink)?;
     Ok(
         status == Status::Refused

@@ -48,12 +48,14 @@ fn store(alloc: Global, line: u32, system: u32, words: &str) -> Result<StoreDef,
 
 fn rule(alloc: Global, line: u32, kind: RuleKind, words: &str) -> Result<RuleDef, Memory> {
     let (context, output) = words.split_once('>').unwrap_or(("", words));
+    let context = items(alloc, context)?;
+    let output = items(alloc, output)?;
     Ok(RuleDef {
         line,
         kind,
-        context: items(alloc, context)?,
+        context,
         key: None,
-        output: items(alloc, output)?,
+        output,
     })
 }
 
@@ -223,10 +225,19 @@ fn has_numbers(names: &Names, row: NumberRow) -> bool {
 }
 
 /// Whether each name has its numbers.
+fn have_numbers(names: &Names) -> bool {
+    for row in NUMBERS {
+        if !has_numbers(names, *row) {
+            return false;
+        }
+    }
+    true
+}
+
+/// Whether each name of a program is numbered.
 fn are_numbered(alloc: Global) -> Result<bool, Fail> {
     let program = program(alloc, NUMBERED)?;
-    let names = number(alloc, &program)?;
-    Ok(NUMBERS.iter().all(|row| has_numbers(&names, *row)))
+    Ok(have_numbers(&number(alloc, &program)?))
 }
 
 #[test]

@@ -3,43 +3,72 @@
 use kmn_base::bytes::hex_digit;
 use kmn_base::names::named_in;
 use kmn_base::slices::{before, behind};
-use kmn_base::{Code, CompileError, Refusal, Seq, Text};
+use kmn_base::{Code, CompileError, Memory, Refusal, Seq, Text};
+use std::alloc::{AllocError, Global};
+use std::fmt::Write;
 use std::test::Fail;
+
+/// What the errors of `printed` print.
+const LINES: &str =
+    "refused L04 line 3\nrefused S10 line 12\nrefused C23 size 67108865\nout of memory\n";
+
+/// Appends what an error prints, as a line.
+fn print(lines: &mut String, error: CompileError) -> Result<(), AllocError> {
+    write!(lines, "{error}\n")
+}
 
 /// The refusal of a line.
 fn refused(line: u32, code: Code) -> CompileError {
     CompileError::Refused(Refusal { line, code })
 }
 
+/// Appends what errors of each kind print.
+fn print_errors(lines: &mut String) -> Result<(), AllocError> {
+    let code = Code::C23;
+    let size = 67_108_865;
+    print(lines, refused(3, Code::L04))?;
+    print(lines, refused(12, Code::S10))?;
+    print(lines, CompileError::TooLarge { code, size })?;
+    print(lines, CompileError::Memory)
+}
+
+/// What errors of each kind print.
+fn printed(alloc: Global) -> Result<String, AllocError> {
+    let mut lines = String::new(alloc);
+    print_errors(&mut lines)?;
+    Ok(lines)
+}
+
+/// Appends lines to a list.
+fn gather(list: &mut Text, lines: &str) -> Result<(), Memory> {
+    for line in lines.lines() {
+        list.extend_from_slice(line.as_bytes())?;
+        list.add(b'\n')?;
+    }
+    Ok(())
+}
+
+/// Whether the list of the lines that are printed has its length, beginning and end.
+fn are_gathered(alloc: Global) -> Result<bool, Fail> {
+    let printed = printed(alloc)?;
+    let mut list: Text = Seq::new(alloc);
+    gather(&mut list, printed.as_str())?;
+    Ok(
+        printed.as_str() == LINES
+            && list.len() == 79
+            && before(list.as_slice(), 7) == b"refused".as_slice()
+            && behind(list.as_slice(), 72) == b"memory\n".as_slice(),
+    )
+}
+
+/// Whether a name and a digit are found.
+fn are_found() -> bool {
+    named_in(&[("Shift", 16), ("Caps", 256)], b"CAPS") == Some(256) && hex_digit(b'f') == Some(15)
+}
+
 #[test]
 fn errors_print_as_lines(rt: HostRuntime) -> Result<(), Fail> {
-    let size = 67_108_865;
-    let rows = [
-        (refused(3, Code::L04), "refused L04 line 3"),
-        (refused(12, Code::S10), "refused S10 line 12"),
-        (
-            CompileError::TooLarge {
-                code: Code::C23,
-                size,
-            },
-            "refused C23 size 67108865",
-        ),
-        (CompileError::Memory, "out of memory"),
-    ];
-    let mut lines: Text = Seq::new(rt.alloc());
-    for (error, line) in rows {
-        let printed = format!(in rt.alloc(); "{error}")?;
-        assert_eq!(rt; printed.as_str(), line);
-        lines.extend_from_slice(printed.as_str().as_bytes())?;
-        lines.add(b'\n')?;
-    }
-    assert_eq!(rt; lines.len(), 79);
-    assert_eq!(rt; before(lines.as_slice(), 7), b"refused".as_slice());
-    assert_eq!(rt; behind(lines.as_slice(), 72), b"memory\n".as_slice());
-    assert_eq!(rt;
-        named_in(&[("Shift", 16), ("Caps", 256)], b"CAPS"),
-        Some(256)
-    );
-    assert_eq!(rt; hex_digit(b'f'), Some(15));
+    assert!(rt; are_gathered(rt.alloc())?);
+    assert!(rt; are_found());
     Ok(())
 }

@@ -782,22 +782,32 @@ const LIMITS: &[LimitRow] = &[
     ("store(k) [T_", 'a', 79, "]", "S11 2"),
 ];
 
-/// Whether the parser answers as a row says of a source that has the row's name.
-fn is_limited(alloc: Global, row: LimitRow) -> Result<bool, Fail> {
-    let (before, c, count, after, wanted) = row;
-    let mut source = String::new(alloc);
-    source.push_str(WITHOUT_KEYS)?;
+/// The source that has a row's name.
+fn source_with(alloc: Global, row: LimitRow) -> Result<String, AllocError> {
+    let (before, c, count, after, _) = row;
+    let mut source = String::from_str(alloc, WITHOUT_KEYS)?;
     source.push_str(before)?;
     for _ in 0..count {
         source.push(c)?;
     }
     source.push_str(after)?;
-    let mut out = String::new(alloc);
-    match parse(alloc, source.as_bytes()) {
-        Ok(program) => write!(out, "{}", program.stores.len())?,
-        Err(error) => write_error(&mut out, &error)?,
+    Ok(source)
+}
+
+/// How many stores a source states, or its refusal.
+fn write_count(alloc: Global, out: &mut String, source: &[u8]) -> Result<(), AllocError> {
+    match parse(alloc, source) {
+        Ok(program) => write!(out, "{}", program.stores.len()),
+        Err(error) => write_error(out, &error),
     }
-    Ok(out.as_str() == wanted)
+}
+
+/// Whether the parser answers as a row says of a source that has the row's name.
+fn is_limited(alloc: Global, row: LimitRow) -> Result<bool, Fail> {
+    let source = source_with(alloc, row)?;
+    let mut out = String::new(alloc);
+    write_count(alloc, &mut out, source.as_bytes())?;
+    Ok(out.as_str() == row.4)
 }
 
 /// Whether bytes are refused in their first line by this code.
@@ -819,13 +829,18 @@ fn worked_rows(rt: HostRuntime) -> Result<(), Fail> {
     Ok(())
 }
 
+/// Whether a source of one byte more than the limit is refused.
+fn is_long_refused(alloc: Global) -> Result<bool, AllocError> {
+    let long = vec![in alloc; 0xFFu8; 4_194_305]?;
+    Ok(is_refused(alloc, &long, Code::L05))
+}
+
 #[test]
 fn limits(rt: HostRuntime) -> Result<(), Fail> {
     for row in LIMITS {
         assert!(rt; is_limited(rt.alloc(), *row)?, "{} {}", row.0, row.2);
     }
     assert!(rt; is_refused(rt.alloc(), &[b'\n', 0xFF, b'\''], Code::L01));
-    let long = vec![in rt.alloc(); 0xFFu8; 4_194_305]?;
-    assert!(rt; is_refused(rt.alloc(), &long, Code::L05));
+    assert!(rt; is_long_refused(rt.alloc())?);
     Ok(())
 }

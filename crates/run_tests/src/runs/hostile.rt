@@ -2,13 +2,13 @@
 //! and of one byte more.
 
 use super::rows::FILE;
-use super::{ended, folder};
+use super::{ended, folder, sink};
 use crate::fixtures::seq;
 use keyman_run::Status;
 use kmn_base::Seq;
 use kmn_base::slices::before;
-use kmn_outside::{MemoryFolder, MemorySink};
-use std::alloc::Global;
+use kmn_outside::MemoryFolder;
+use std::alloc::{AllocError, Global};
 use std::test::Fail;
 
 /// The first run with a fault: what can't be read or written, by the numbers from 1 of the folder's and of the sink's call that
@@ -64,8 +64,7 @@ fn is_fault(
     size: Option<usize>,
 ) -> Result<bool, Fail> {
     let mut folder = folder(alloc, "@+ 'a' > 'b'¶", b"", "[K_A]¶", calls.0)?;
-    let fails = Vec::from_slice(alloc, &[calls.1])?;
-    let mut sink = MemorySink::new(alloc, Seq::from_vec(fails));
+    let mut sink = sink(alloc, calls.1)?;
     let ends = ended(alloc, "test a.kmn out a.keys", &mut folder, &mut sink)?;
     Ok(
         ends == status
@@ -88,8 +87,7 @@ fn wrong_fault(alloc: Global) -> Result<Option<&'static str>, Fail> {
 fn is_begun(alloc: Global, failing: u32, printed: &str) -> Result<bool, Fail> {
     let (source, script) = EACH_KIND;
     let mut folder = folder(alloc, source, b"", script, 0)?;
-    let fails = Vec::from_slice(alloc, &[failing])?;
-    let mut sink = MemorySink::new(alloc, Seq::from_vec(fails));
+    let mut sink = sink(alloc, failing)?;
     ended(alloc, "test a.kmn out a.keys", &mut folder, &mut sink)?;
     Ok(sink.written() == printed.as_bytes())
 }
@@ -118,12 +116,18 @@ fn equal_bytes(alloc: Global, byte: u8, size: usize) -> Result<Seq<u8>, Fail> {
     Ok(Seq::from_vec(bytes))
 }
 
+/// A folder with a file `a` of these bytes.
+fn folder_of_one(alloc: Global, bytes: Seq<u8>) -> Result<MemoryFolder, AllocError> {
+    let name = seq(alloc, b"a")?;
+    let files = vec![in alloc; (name, bytes)]?;
+    Ok(MemoryFolder::new(alloc, Seq::from_vec(files), Seq::new(alloc)))
+}
+
 /// Whether a file of so many equal bytes is refused with this line, and nothing is written.
 fn is_refused(alloc: Global, words: &str, byte: u8, size: usize, line: &str) -> Result<bool, Fail> {
-    let mut files = Vec::new(alloc);
-    files.push((seq(alloc, b"a")?, equal_bytes(alloc, byte, size)?))?;
-    let mut folder = MemoryFolder::new(alloc, Seq::from_vec(files), Seq::new(alloc));
-    let mut sink = MemorySink::new(alloc, Seq::new(alloc));
+    let bytes = equal_bytes(alloc, byte, size)?;
+    let mut folder = folder_of_one(alloc, bytes)?;
+    let mut sink = sink(alloc, 0)?;
     let ends = ended(alloc, words, &mut folder, &mut sink)?;
     Ok(
         ends == Status::Refused

@@ -12,18 +12,18 @@ use Rattle.rule_engine.proofs.engine.pressed.Goals as goal
 
 pub returns-clause-outcome : goal.returns-clause-outcome
 returns-clause-outcome c =
-    let before : List Item = read_again c.args.workspace.cache c.args.left.now in
+    let before : List Item = read_again c.args.workspace.cache.items c.args.left.now in
     let acts = c.press.ensures ∙ ap (λ (e : EventValue). record e { state = after_key (keyboard_of e) c.args.key e.state; lines = lines_of_press (keyboard_of e) c.args.key e.state }) c.begin-event.ensures in
     let lent : characters before ≡ c.press.new.event.lent
-    = reading_again_gives_the_text c.args.workspace.cache c.args.left.now ∙ sym (ap (λ (e : EventValue). e.lent) acts) in
+    = reading_again_gives_the_text c.args.workspace.cache.items c.args.left.now ∙ sym (ap (λ (e : EventValue). e.lent) acts) in
     c.finish.ensures.outcome before lent ∙ ap (λ (e : EventValue). outcome_of before e.state) acts
 
 pub returns-clause-engine : goal.returns-clause-engine
 returns-clause-engine c =
-    let before : List Item = read_again c.args.workspace.cache c.args.left.now in
+    let before : List Item = read_again c.args.workspace.cache.items c.args.left.now in
     let acts = c.press.ensures ∙ ap (λ (e : EventValue). record e { state = after_key (keyboard_of e) c.args.key e.state; lines = lines_of_press (keyboard_of e) c.args.key e.state }) c.begin-event.ensures in
     let lent : characters before ≡ c.press.new.event.lent
-    = reading_again_gives_the_text c.args.workspace.cache c.args.left.now ∙ sym (ap (λ (e : EventValue). e.lent) acts) in
+    = reading_again_gives_the_text c.args.workspace.cache.items c.args.left.now ∙ sym (ap (λ (e : EventValue). e.lent) acts) in
     let tables : c.args.indexed.now ≡ c.press.new.event.tables = sym (ap (λ (e : EventValue). e.tables) acts) in
     let context = c.finish.ensures.cache ∙ ap (λ (e : EventValue). window e.state.left) acts in
     let current = ap (λ (t : Tables). option_values (tab t).stores c.finish.result.workspace.options) tables ∙ (c.finish.ensures.current ∙ ap (λ (e : EventValue). e.state.current) acts) in

@@ -3,5 +3,5 @@ use Rattle.rule_shadow.specs.Flags.{TellOptions}
 use Rattle.rule_shadow.proofs.Flags.{marked_tell}
 use Rattle.rule_shadow.proofs.finder.covers.Goals as goal
 
-pub new-requires : goal.new-requires
-new-requires c = subst (λ (flags : List Bool). TellOptions c.args.tables.now flags) (sym c.mark_options.ensures) (marked_tell c.args.tables.now 20000 c.requires.store_count)
+pub without_sets-requires : goal.without_sets-requires
+without_sets-requires c = subst (λ (flags : List Bool). TellOptions c.args.tables.now flags) (sym c.mark_options.ensures) (marked_tell c.args.tables.now 20000 c.requires.store_count)

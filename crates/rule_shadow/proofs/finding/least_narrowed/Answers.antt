@@ -1,7 +1,6 @@
 use Rattle.std.proofs.Common.{◌≡◌, ◌∙◌, ◌&&◌, List, [], ap, take}
 use Rattle.std.specs.Prelude.{slice_get}
 use Rattle.rule_model.specs.declared.tables.Rule.{Rule}
-use Rattle.rule_shadow.specs.declared.cert.Place.{Place}
 use Rattle.rule_shadow.specs.Places.{Narrowing, places_from}
 use Rattle.rule_shadow.specs.Covers.{covers_if_any, narrowed, nothing_narrowed}
 use Rattle.rule_shadow.specs.Near.{is_at_most, first_near}

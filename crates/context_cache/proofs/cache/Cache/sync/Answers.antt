@@ -3,6 +3,7 @@ use Rattle.std.proofs.lemmas.Grind.{common_steps}
 use Rattle.kmn_base.specs.declared.items.Item.{Item}
 use Rattle.kmn_base.specs.declared.items.Item.TheVariants.{Char}
 use Rattle.kmn_base.specs.Lists.{window, still_stands, read_again}
+use Rattle.context_cache.specs.Cached.{CacheValue}
 use Rattle.context_cache.proofs.Windows.{read_anew}
 use Rattle.context_cache.proofs.cache.Cache.sync.Goals as goal
 
@@ -14,4 +15,5 @@ returns c =
     let lost : still_stands old text ≡ false = ap (λ (xs : List Item). still_stands xs text) (sym c.as_slice.ensures.value) ∙ sym c.still_stands.ensures ∙ c.if-still_stands.false in
     let last : items ≡ map Char (drop (length text - 64) text) = grind (arith, common_steps) in
     let anew : items ≡ window (read_again old text) = read_anew old items text c.self.invariant lost last in
-    cc
+    let same : old ≡ c.args.self.now.items = ap (λ (v : CacheValue). v.items) c.self.view_is in
+    λ i. record { items = (anew ∙ ap (λ (xs : List Item). window (read_again xs text)) same) i; room = (c.loop-c.invariant.room ∙ sym c.requires) i }

@@ -1,4 +1,5 @@
-use Rattle.std.proofs.Common.{ap, arith}
+use Rattle.std.proofs.Common.{◌∙◌, ap, arith}
+use Rattle.context_cache.specs.Cached.{CacheValue}
 use Rattle.event_text.specs.Texts.{StandingValue}
 use Rattle.event_text.proofs.Lefts.{begun_stands}
 use Rattle.event_text.proofs.left.Left.begin.Goals as goal
@@ -6,4 +7,9 @@ use Rattle.event_text.proofs.left.Left.begin.Goals as goal
 pub invariant_of-result : goal.invariant_of-result
 invariant_of-result c =
     let none = ap (λ (t : StandingValue). t.added) c.of.ensures in
-    (omega (arith, none), omega arith, begun_stands c.args.cache c.args.lent.now _ _ c.sync.ensures (ap (λ (t : StandingValue). t.text) c.of.ensures))
+    let items = ap (λ (v : CacheValue). v.items) c.sync.ensures in (
+      omega (arith, none),
+      omega arith,
+      begun_stands c.args.cache.items c.args.lent.now _ _ items (ap (λ (t : StandingValue). t.text) c.of.ensures),
+      ap (λ (v : CacheValue). v.room) c.sync.ensures ∙ c.requires.places,
+    )

@@ -1,4 +1,5 @@
-use Rattle.std.proofs.Common.{ap, arith}
+use Rattle.std.proofs.Common.{◌∙◌, ap, arith}
+use Rattle.context_cache.specs.Cached.{CacheValue}
 use Rattle.event_text.specs.Texts.{LeftValue}
 use Rattle.event_text.proofs.Lefts.{put_stands}
 use Rattle.event_text.proofs.left.Left.put.Goals as goal
@@ -6,4 +7,9 @@ use Rattle.event_text.proofs.left.Left.put.Goals as goal
 pub invariant_of-self : goal.invariant_of-self
 invariant_of-self c =
     let few = ap (λ (v : LeftValue). v.put) c.self.view_is in
-    (omega (arith, few), omega (arith, few), put_stands _ _ c.args.item _ _ c.self.invariant.2 c.put.ensures.text c.put-2.ensures)
+    let items = ap (λ (v : CacheValue). v.items) c.put-2.ensures in (
+      omega (arith, few),
+      omega (arith, few),
+      put_stands _ _ c.args.item _ _ c.self.invariant.2 c.put.ensures.text items,
+      ap (λ (v : CacheValue). v.room) c.put-2.ensures ∙ c.self.invariant.3,
+    )

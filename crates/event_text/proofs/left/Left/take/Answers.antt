@@ -1,5 +1,6 @@
 use Rattle.std.proofs.Common.{◌∙◌, ap, ℕ, length, arith}
 use Rattle.kmn_base.specs.Lists.{without_last}
+use Rattle.context_cache.specs.Cached.{CacheValue}
 use Rattle.event_text.specs.Texts.{LeftValue}
 use Rattle.event_text.proofs.Lefts.{taken_stands}
 use Rattle.event_text.proofs.left.Left.take.Goals as goal
@@ -10,5 +11,6 @@ invariant_of-self c =
       omega arith,
       omega arith,
       taken_stands _ _ c.args.count _ _ c.self.invariant.2 (omega (arith, within))
-          (c.take.ensures.text ∙ ap (λ (n : ℕ). without_last n c.self.inside.text.text) c.last_characters-gone.ensures) c.take-2.ensures,
+          (c.take.ensures.text ∙ ap (λ (n : ℕ). without_last n c.self.inside.text.text) c.last_characters-gone.ensures) (ap (λ (v : CacheValue). v.items) c.take-2.ensures),
+      ap (λ (v : CacheValue). v.room) c.take-2.ensures ∙ c.self.invariant.3,
     )

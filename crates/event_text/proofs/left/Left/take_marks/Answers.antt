@@ -10,7 +10,7 @@ use Rattle.event_text.proofs.left.Left.take_marks.Goals as goal
 pub returns-clause-items : goal.returns-clause-items
 returns-clause-items c =
     let items : List Item = c.args.self.now.items in
-    let same : items ≡ whole c.self.inside.text.text c.self.inside.cache = sym (ap (λ (v : LeftValue). v.items) c.self.view_is) in
+    let same : items ≡ whole c.self.inside.text.text c.self.inside.cache.items = sym (ap (λ (v : LeftValue). v.items) c.self.view_is) in
     let count : c.end_marks-count.result ≡ suffix_len is_mark items
     = c.end_marks-count.ensures.value ∙ (marks_at_hand _ _ c.self.invariant.2 ∙ ap (suffix_len is_mark) (sym same)) in
     ap (λ (v : LeftValue). v.items) c.take.ensures ∙ ap (λ (n : ℕ). without_last n items) count

@@ -21,13 +21,13 @@ returns-clause-engine c =
     let within : c.in-Some.store < length (tab c.self.inside.indexed.value).stores
     = subst (λ (tables : Tables). c.in-Some.store < length (tab tables).stores) c.deref-indexed.ensures found in
     let few : c.in-Some.store < length c.self.inside.workspace.options = omega (arith, within, c.self.invariant.stores) in
-    let engine : Tables → EngineState = λ (tables : Tables). engine_with tables c.self.inside.workspace.cache c.self.inside.workspace.options c.self.inside.workspace.inserted.text c.self.inside.workspace.chosen.items in
+    let engine : Tables → EngineState = λ (tables : Tables). engine_with tables c.self.inside.workspace.cache.items c.self.inside.workspace.options c.self.inside.workspace.inserted.text c.self.inside.workspace.chosen.items in
     let named : option_number (tab c.deref-indexed.result.now).stores (Numbered c.in-Some.store) ≡ option_named c.args.name.now (engine c.deref-indexed.result.now)
     = subst (λ (found : Option ℕ). option_and_then (λ store. option_number (tab c.deref-indexed.result.now).stores (Numbered store)) found
     ≡ position (has_name c.args.name.now) (option_names (tab c.deref-indexed.result.now).stores)) c.in-Some.is c.in_ok-named.ensures.option in
     let here = subst (λ (tables : Tables). option_number (tab tables).stores (Numbered c.in-Some.store) ≡ option_named c.args.name.now (engine tables)) c.deref-indexed.ensures named in
     let option = subst (λ (e : EngineState). option_number (tab e.tables).stores (Numbered c.in-Some.store) ≡ option_named c.args.name.now e) c.self.view_is here in
     let after = c.host_set.new.self in
-    (λ i. engine_with c.self.inside.indexed.value (c.in_ok-host_set.ensures.cache i) after.options (c.in_ok-host_set.ensures.inserted i).text (c.in_ok-host_set.ensures.chosen i).items)
-    ∙ host_sets_engine c.self.inside.indexed.value c.self.inside.workspace.cache c.self.inside.workspace.options after.options c.self.inside.workspace.inserted.text c.self.inside.workspace.chosen.items c.in-Some.store
+    (λ i. engine_with c.self.inside.indexed.value (c.in_ok-host_set.ensures.cache i).items after.options (c.in_ok-host_set.ensures.inserted i).text (c.in_ok-host_set.ensures.chosen i).items)
+    ∙ host_sets_engine c.self.inside.indexed.value c.self.inside.workspace.cache.items c.self.inside.workspace.options after.options c.self.inside.workspace.inserted.text c.self.inside.workspace.chosen.items c.in-Some.store
     c.args.name.now c.args.value.now c.args.self.now few c.in_ok-host_set.ensures.options c.self.view_is option

@@ -1,4 +1,5 @@
 use Rattle.std.proofs.Common.{◌≡◌, sym, ◌∙◌, ap, subst}
+use Rattle.std.specs.Prelude.{vec_capacity}
 use Rattle.std.specs.Arc.{arc_value}
 use Rattle.rule_model.specs.declared.tables.Tables.{Tables}
 use Rattle.option_store.specs.Cells.{first_cells}
@@ -14,6 +15,7 @@ invariant_of-result c =
     let same : arc_value c.in_ok-new.field-0 ≡ c.args.file = c.in_ok-new.ensures.ok ∙ c.in_ok-indexed.ensures in
     let right = c.begin.ensures.truths ∙ ap (λ (tables : Tables). truths_at (moment_with tables begun.options)) c.in_ok-indexed.ensures in
     let cells = c.begin.ensures.options ∙ (c.in_ok-workspace.ensures.options ∙ ap (first_cells 0) c.keyboard_stores.ensures.value) in
-    subst (λ (tables : Tables). IsAtWork tables begun.cache begun.options begun.truths.items begun.inserted) (sym same)
-    (first_is_at_work c.args.file begun.cache begun.options begun.truths.items begun.inserted c.requires (c.begin.ensures.cache ∙ c.in_ok-workspace.ensures.cache)
-    cells right (c.begin.ensures.inserted ∙ c.in_ok-workspace.ensures.inserted))
+    subst (λ (tables : Tables). IsAtWork tables begun.cache begun.options begun.truths.items begun.inserted (vec_capacity begun.chosen)) (sym same)
+    (first_is_at_work c.args.file begun.cache begun.options begun.truths.items begun.inserted (vec_capacity begun.chosen) c.requires (c.begin.ensures.cache ∙ c.in_ok-workspace.ensures.cache)
+    cells right (c.begin.ensures.inserted ∙ c.in_ok-workspace.ensures.inserted)
+    (ap vec_capacity c.begin.ensures.chosen ∙ c.in_ok-workspace.ensures.lines))

@@ -1,5 +1,0 @@
-use Rattle.std.proofs.Common.{length}
-use Rattle.plain_event.proofs.matching.+catches_from.Given as goal
-
-abbrev pub decreases-catches_from : goal.decreases-catches_from
-decreases-catches_from l = length l.patterns.now

@@ -1,0 +1,10 @@
+use Rattle.std.proofs.Common.{rules, ◌≡◌}
+use Rattle.std.specs.Arc.{arc_value}
+use Rattle.rule_engine.proofs.Engines.{copy_is_at_work}
+use Rattle.rule_engine.proofs.engine.Engine.preview.Goals as goal
+
+pub pressed-done-requires-clause-work : goal.pressed-done-requires-clause-work
+pressed-done-requires-clause-work c =
+    let here = c.in_ok-workspace.ensures in
+    let same : c.deref-2.result.now ≡ arc_value c.self.inside.indexed = search rules in
+    copy_is_at_work _ _ _ _ _ _ _ _ _ _ _ _ c.self.invariant same here.cache here.options here.truths here.inserted here.places
