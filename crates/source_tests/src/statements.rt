@@ -394,7 +394,8 @@ K:+ 'a' > switch(x) clearcontext fix set(&x = "v") set(&platform = "v") [K_A] �
 K:baselayout(x) if(&x = "v") if(&x != "v") nul + 'a' > 'b' ⇒ 3 - - - nul + 61 > 62
 K:platform('x') layer('y') if(&platform = "v") if(&platform != "v") + 'a' > 'b' ⇒ 3 if(&31=78) if(&33=79) if(&31=76) if(&31!=76) + 61 > 62
 K:if(&LAYER = "v") if(&Layer != 'a b') PLATFORM("") + 'a' > set(&lAYER = "w") LAYER("") ⇒ 3 if(&33=76) if(&33!=61 20 62) if(&31=) + 61 > set(&33=77) set(&33=)
-K:if(o = "s") if(&layer = "s") platform('s') + 'a' > set(o = 's') layer("s") set(&layer = "t") ⇒ 3 if(o=73) if(&33=73) if(&31=73) + 61 > set(o=73) set(&33=73) set(&33=74)
+K:if(o = "s") if(&layer = "s") platform('s') + 'a' > 'b' ⇒ 3 if(o=73) if(&33=73) if(&31=73) + 61 > 62
+K:if(&layer = "s") + 'a' > set(o = 's') layer("s") set(&layer = "t") ⇒ 3 if(&33=73) + 61 > set(o=73) set(&33=73) set(&33=74)
 K:if(&layer = "s") + 'a' > layer("t") ⇒ 3 if(&33=73) + 61 > set(&33=74)
 K:nul layer("s") 'a' + 'a' > 'b' ⇒ 3 nul if(&33=73) 61 + 61 > 62
 K:match > layer("s")¶nomatch > set(&layer = "t") ⇒ 3 match > set(&33=73); 4 nomatch > set(&33=74)
