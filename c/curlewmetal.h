@@ -41,7 +41,9 @@ typedef struct {
   size_t changes;    /* option values that changed: curlew_change tells which */
 } curlew_edit;
 
-/* What calls answer. Every answer but CURLEW_OK leaves each field as it was, and what it would have written unwritten. */
+/* What calls answer. Every answer but CURLEW_OK leaves each field as it was, and what it would have written unwritten. Each call
+ * names below which it gives beside CURLEW_OK. CLOSED comes exactly where the field isn't open; a call that answers a length or a
+ * code answers 0 then. */
 enum {
   CURLEW_OK = 0,
   CURLEW_REFUSED = 1,   /* not a valid keyboard: see the fault */
@@ -56,19 +58,20 @@ enum {
 /* 1 for the library of this header. */
 uint32_t curlew_version(void);
 
-/* Opens a file with an empty text; what was open in the field is closed. REFUSED writes the fault. */
+/* Opens a file with an empty text; what was open in the field is closed. REFUSED, which alone writes the fault; MEMORY. */
 uint32_t curlew_open(curlew_field *field, const uint8_t *file, size_t size, curlew_fault *fault);
 /* Makes `other` a field over the same file, with the same text and options; what was open there is closed. The file isn't
- * looked at again. */
+ * looked at again. MEMORY, CLOSED. */
 uint32_t curlew_copy(curlew_field *field, curlew_field *other);
 /* Closes a field, also one that isn't open. */
 void curlew_close(curlew_field *field);
 
 /* A key goes down. `code` is a Windows key code, as curlew_key_code tells, or that of a key of the keyboard's own, as
  * curlew_own_key_code tells. `mods` adds up left control 1, right control 2, left alt 4, right alt 8, shift 16 and caps lock 256;
- * other bits are ignored. MEMORY, LENGTH. */
+ * other bits are ignored. LENGTH, MEMORY, CLOSED. */
 uint32_t curlew_key(curlew_field *field, uint16_t code, uint16_t mods, curlew_edit *edit);
-/* What the key would do; nothing happens. What it would insert is written into the room, and `changes` is 0. */
+/* What the key would do; nothing happens. What it would insert is written into the room, and `changes` is 0. LENGTH, MEMORY,
+ * CLOSED. */
 uint32_t curlew_preview(curlew_field *field, uint16_t code, uint16_t mods, curlew_edit *edit,
                         uint32_t *room, size_t count);
 /* What the last call that changed the text inserted, where it was a key: as code points, and as UTF-8. The answer is the
@@ -78,11 +81,11 @@ size_t curlew_inserted_utf8(curlew_field *field, uint8_t *room, size_t size);
 
 /* The text before the caret is this now, and what stands after it stays. Deadkeys stay where the text still stands around
  * them. Give what you know of it, at least 64 characters where there are so many. Nothing at all: a new place, as after a
- * click. CHARACTER, LENGTH, MEMORY. */
+ * click. CHARACTER, LENGTH, MEMORY, CLOSED. */
 uint32_t curlew_before(curlew_field *field, const uint32_t *text, size_t count);
-/* The caret moves to a place. PLACE, MEMORY. */
+/* The caret moves to a place. PLACE, CLOSED; it takes no memory. */
 uint32_t curlew_caret(curlew_field *field, uint32_t place);
-/* The characters from one place to another are replaced by these. PLACE, CHARACTER, LENGTH, MEMORY. */
+/* The characters from one place to another are replaced by these. CHARACTER, PLACE, LENGTH, MEMORY, CLOSED. */
 uint32_t curlew_replace(curlew_field *field, uint32_t from, uint32_t to, const uint32_t *text, size_t count);
 /* The text before the caret, or after it where `after` isn't 0. The answer is its whole length; 0 where the field isn't open. */
 size_t curlew_text(curlew_field *field, uint32_t after, uint32_t *room, size_t count);
@@ -90,15 +93,15 @@ size_t curlew_text(curlew_field *field, uint32_t after, uint32_t *room, size_t c
 size_t curlew_context(curlew_field *field, uint32_t *room, size_t count);
 
 /* Gives the option of a name a value, which is current and saved then. The name is UTF-8, without regard to the case of ASCII
- * letters. NONE, CHARACTER, MEMORY. */
+ * letters. NONE, CHARACTER, MEMORY, CLOSED. */
 uint32_t curlew_set(curlew_field *field, const uint8_t *name, size_t size, const uint32_t *value, size_t count);
 /* The nth option value, from 0, that the last call that changed the text or an option changed: the number of its store, and
- * whether it is the saved value (1) or the current one (0). NONE. */
+ * whether it is the saved value (1) or the current one (0). NONE, CLOSED. */
 uint32_t curlew_change(curlew_field *field, size_t n, uint32_t *store, uint32_t *saved);
-/* The name of a store as UTF-8; empty where it has none. MEMORY. */
+/* The name of a store as UTF-8; empty where it has none. MEMORY, CLOSED. */
 uint32_t curlew_option_name(curlew_field *field, uint32_t store, uint8_t *room, size_t size, size_t *whole);
 /* The value of a store, the saved one where `saved` isn't 0: characters, a deadkey n as 0x80000000 + n, and a virtual key as
- * 0x90000000 and its code. NONE where no value is saved; MEMORY. */
+ * 0x90000000 and its code. NONE where no value is saved; MEMORY, CLOSED. */
 uint32_t curlew_option_value(curlew_field *field, uint32_t store, uint32_t saved, uint32_t *room, size_t count,
                              size_t *whole);
 

@@ -1,10 +1,9 @@
--- The numbers that the names of an accepted program have in its file, and that looking them up finds them.
-use Rattle.std.proofs.Common.{◌≡◌, ℕ, suc, ◌+◌, ◌^◌, ◌<◌, ◌≤◌, Bool, true, false, List, [], ◌∷◌, ◌++◌, length, map, cond, Option, Some, None, is_some, unwrap_or, option_map, refl, sym, ap, ◌∙◌, arith, if◌then◌else◌, length-append, take_all}
-use Rattle.std.specs.Prelude.{nat_eq, flat_map, position}
+-- The numbers that the names of an accepted program have in its file.
+use Rattle.std.proofs.Common.{◌≡◌, ℕ, suc, ◌+◌, ◌^◌, ◌<◌, ◌≤◌, Bool, true, false, List, [], ◌∷◌, ◌++◌, length, map, cond, Option, Some, None, is_some, unwrap_or, option_map, refl, sym, ap, ◌∙◌, arith, length-append}
+use Rattle.std.specs.Prelude.{flat_map, position}
 use Rattle.std.specs.List.{list_all, list_any}
 use Rattle.std.specs.Str.{bytes_eq}
 use Rattle.std.proofs.lemmas.Bool.{and_parts, and_from}
-use Rattle.std.proofs.lemmas.Bool.Decides.{nat_tests}
 use Rattle.std.proofs.lemmas.List.{length-map}
 use Rattle.std.proofs.lemmas.List.Concat.{flat_map-append}
 use Rattle.std.proofs.lemmas.List.Folds.{list_all-append}
@@ -14,25 +13,22 @@ use Rattle.kmn_base.specs.Names.{same_name}
 use Rattle.virtual_keys.specs.Dictionary.{place_in, code_in}
 use Rattle.rule_model.specs.declared.program.SrcItem.{SrcItem}
 use Rattle.rule_model.specs.declared.program.StoreDef.{StoreDef}
-use Rattle.rule_model.specs.declared.program.KeyName.{KeyName}
 use Rattle.rule_model.specs.declared.program.RuleDef.{RuleDef}
 use Rattle.rule_model.specs.declared.program.GroupDef.{GroupDef}
 use Rattle.rule_model.specs.declared.program.Program.{Program}
 use Rattle.rule_model.specs.declared.tables.Store.{Store}
-use Rattle.rule_model.specs.Naming.{names_of, stores_of, rule_items, all_rules, store_items, items_from, source_items, stores_before, stores_after, mark_names, key_names, mark_number, key_number}
+use Rattle.rule_model.specs.Naming.{names_of, stores_of, rule_items, all_rules, store_items, items_from, source_items, stores_before, stores_after, mark_names, key_names, mark_number}
 use Rattle.compile_laws.specs.Numbers.{numbers_of, number_of_store, number_of_group, number_of_value, compiled_stores, dictionary_stores, value_store, values_of}
 use Rattle.compile_laws.specs.WellNamed.{is_store, is_group}
 use Rattle.compile_laws.proofs.Linked.{is_value}
 use Rattle.virtual_keys.proofs.PositionLemmas.{position-map}
 use Rattle.compile_laws.proofs.Values.{list_all-flat_map}
-use Rattle.store_table.specs.Names.{group_names}
-use Rattle.store_table.specs.Numbering.{lists_of, below, number_in, mark_in}
 use Rattle.virtual_keys.proofs.NamePlaces.{position_cons, some_place, same_either_way}
 use Rattle.rule_checker.specs.Refused.{IsRead}
 use Rattle.item_checker.proofs.FoundKeys.{all_seen}
 use Rattle.checker_laws.proofs.Accepted.{IsUnrefused}
 use Rattle.checker_laws.proofs.Sizes.{parted}
-use Rattle.checker_laws.proofs.Within.{few_stores, few_groups, few_marks, few_keys}
+use Rattle.checker_laws.proofs.Within.{few_marks, few_keys}
 
 -- the place of what is found is below the length
 pub place_below : {X : Type 0} (p : X → Bool) (xs : List X) → is_some (position p xs) ≡ true → unwrap_or (position p xs) 0 < length xs
@@ -61,14 +57,6 @@ place_either_way name (known ∷ names) =
     position_cons (same_name name) known names
     ∙ (λ j. cond (same_either_way name known j) (Some 0) (option_map suc (place_either_way name names j)))
     ∙ sym (position_cons (λ k. same_name k name) known names)
-
-small_below : (limit n : ℕ) → n < limit → below limit (Some n) ≡ Some n
-small_below limit n h = grind (arith, nat_tests)
-
--- a number that there is and that has room is found
-found_below : (limit : ℕ) (o : Option ℕ) → is_some o ≡ true → unwrap_or o 0 < limit → below limit o ≡ Some (unwrap_or o 0)
-found_below limit None h small = absurd (cc)
-found_below limit (Some n) h small = small_below limit n small
 
 -- the items of a program's stores and rules are those of its statements in the order of their lines
 module _ (test : SrcItem → Bool) where
@@ -151,59 +139,8 @@ module _ (program : Program) where
         let place = place_at_most (λ known. same_name known name) (names_of program).marks in
         omega arith
 
-    -- looking a name up finds its number
-    pub store_found : (name : List ℕ) → is_store program name ≡ true → number_in (lists_of program).stores name ≡ Some (number_of_store (numbers_of program) name)
-    unfolding lists_of
-    store_found name h =
-        let place : place_in (map (λ (store : Store). store.name) (stores_of program)) name ≡ position (λ (store : Store). same_name store.name name) (stores_of program) =
-        place_either_way name (map (λ (store : Store). store.name) (stores_of program)) ∙ position-map (λ (store : Store). store.name) (λ known. same_name known name) (stores_of program) in
-        let few = few_stores program read whole in
-        let ends = stores_end in
-        let lower = store_number name h in
-        ap (below (2 ^ 32)) place ∙ found_below (2 ^ 32) (position (λ (store : Store). same_name store.name name) (stores_of program)) h (omega arith)
-
-    pub group_found : (name : List ℕ) → is_group program name ≡ true → number_in (lists_of program).groups name ≡ Some (number_of_group (numbers_of program) name)
-    unfolding lists_of
-    group_found name h =
-        let place : place_in (group_names program.groups) name ≡ position (λ (group : GroupDef). same_name group.name name) program.groups =
-        place_either_way name (group_names program.groups) ∙ position-map (λ (group : GroupDef). group.name) (λ known. same_name known name) program.groups in
-        let few = few_groups program whole in
-        let lower = place_below (λ (group : GroupDef). same_name group.name name) program.groups h in
-        ap (below (2 ^ 32)) place ∙ found_below (2 ^ 32) (position (λ (group : GroupDef). same_name group.name name) program.groups) h (omega arith)
-        ∙ ap (λ (n : ℕ). Some n) (sym (group_is_place name))
-
-    one_more_found : (o : Option ℕ) → is_some o ≡ true → 1 + unwrap_or o 0 < 2 ^ 16 → below (2 ^ 16) (option_map (λ place. 1 + place) o) ≡ Some (1 + unwrap_or o 0)
-    one_more_found None h small = absurd (cc)
-    one_more_found (Some n) h small = small_below (2 ^ 16) (1 + n) small
-
-    pub mark_found : (name : List ℕ) → list_any (λ known. same_name known name) (names_of program).marks ≡ true
-        → mark_in (lists_of program).marks name ≡ Some (mark_number (names_of program) name)
-    unfolding lists_of
-    mark_found name h =
-        let some = some_place (λ known. same_name known name) (names_of program).marks ∙ h in
-        let small = mark_small name in
-        ap (λ (o : Option ℕ). below (2 ^ 16) (option_map (λ place. 1 + place) o)) (place_either_way name (names_of program).marks)
-        ∙ one_more_found (position (λ known. same_name known name) (names_of program).marks) some (omega arith)
-
-    -- the keyboard's own keys all have codes
-    pub all_keys : (lists_of program).keys ≡ (names_of program).keys
-    unfolding lists_of
-    all_keys = take_all KEY_NAMES (names_of program).keys (few_keys program read whole)
-
-    code_found : (o : Option ℕ) → is_some o ≡ true → option_map (λ place. 256 + place) o ≡ Some (unwrap_or (option_map (λ place. 256 + place) o) 0)
-    code_found None h = absurd (cc)
-    code_found (Some n) h = refl
-
     key_place : (name : List ℕ) → list_any (λ known. same_name known name) (names_of program).keys ≡ true → is_some (place_in (names_of program).keys name) ≡ true
     key_place name h = ap is_some (place_either_way name (names_of program).keys) ∙ some_place (λ known. same_name known name) (names_of program).keys ∙ h
-
-    pub key_found : (key : KeyName) → nat_eq key.code 0 ≡ true → list_any (λ known. same_name known key.name) (names_of program).keys ≡ true
-        → code_in (lists_of program).keys key.name ≡ Some (key_number (names_of program) key)
-    unfolding code_in
-    key_found key own h =
-        ap (λ (keys : List (List ℕ)). option_map (λ place. 256 + place) (place_in keys key.name)) all_keys
-        ∙ code_found (place_in (names_of program).keys key.name) (key_place key.name h)
-        ∙ ap (λ (b : Bool). Some (if b then unwrap_or (option_map (λ place. 256 + place) (place_in (names_of program).keys key.name)) 0 else key.code)) (sym own)
 
     code_below : (o : Option ℕ) (count : ℕ) → is_some o ≡ true → unwrap_or o 0 < count → count ≤ KEY_NAMES
         → (0 < unwrap_or (option_map (λ place. 256 + place) o) 0) × (unwrap_or (option_map (λ place. 256 + place) o) 0 < 2 ^ 16)

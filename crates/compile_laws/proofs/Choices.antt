@@ -1,6 +1,6 @@
 -- The best rule of a source is the rule of the first record of its tables.
 use Rattle.std.proofs.Common.{◌≡◌, ℕ, Bool, true, false, not, ◌&&◌, ◌||◌, List, [], ◌∷◌, length, map, Option, Some, None, refl, ap, sym, ◌∙◌, subst, arith, is_some, if◌then◌else◌, cond, nat_cmp}
-use Rattle.std.specs.Prelude.{nat_eq, nat_lt, find, flat_map, option_map, option_and_then, unwrap_or}
+use Rattle.std.specs.Prelude.{nat_eq, nat_lt, find, flat_map, option_map, option_and_then}
 use Rattle.std.specs.List.{list_any, AllByRecursion}
 use Rattle.std.specs.Ordering.{is_lt, ordering_then}
 use Rattle.std.specs.Cmp.{IsStrictWeakOrder, nat_cmp_total, on_total, back_total, then_total}

@@ -40,7 +40,8 @@ prefer lt (Some x) (Some y) = if lt y x then Some y else Some x
 none_among : {X : Type 0} (x : X) → Contains [] x → ⊥
 none_among x c = omega arith
 
-among_cons : {X : Type 0} (y : X) (ys : List X) (x : X) → Contains (y ∷ ys) x → (y ≡ x) ⊎ Contains ys x
+-- what is in a list that has a head is the head or in the rest
+pub among_cons : {X : Type 0} (y : X) (ys : List X) (x : X) → Contains (y ∷ ys) x → (y ≡ x) ⊎ Contains ys x
 among_cons y ys x h = go h.0 h.1 h.2
   where
     go : (k : ℕ) → k < suc (length ys) → get_or (y ∷ ys) k x ≡ x → (y ≡ x) ⊎ Contains ys x

@@ -34,7 +34,7 @@ use Rattle.compile_laws.proofs.Known.{KnownRule, KnownStatement, KnownGroup, gro
 use Rattle.compile_laws.proofs.Values.{values_known}
 use Rattle.compile_laws.proofs.Places.{first_place}
 
-any_flat_map : {X Y : Type 0} (q : Y → Bool) (f : X → List Y) (xs : List X) → list_any q (flat_map f xs) ≡ list_any (λ x. list_any q (f x)) xs
+pub any_flat_map : {X Y : Type 0} (q : Y → Bool) (f : X → List Y) (xs : List X) → list_any q (flat_map f xs) ≡ list_any (λ x. list_any q (f x)) xs
 any_flat_map q f [] = refl
 any_flat_map q f (x ∷ xs) = list_any-append q (f x) (flat_map f xs) ∙ ap (λ b. list_any q (f x) || b) (any_flat_map q f xs)
 

@@ -1,5 +1,5 @@
 -- The tables that a program compiles to are in order, and there are no others.
-use Rattle.std.proofs.Common.{◌++◌, ◌*◌, ◌≡◌, ℕ, zero, suc, ◌+◌, ◌<◌, ◌≤◌, Bool, true, false, not, List, [], ◌∷◌, length, map, get_or, Option, Some, None, refl, ap, sym, ◌∙◌, arith, nat_eq, if◌then◌else◌, nat_cmp, ◌⊎◌, inl, inr}
+use Rattle.std.proofs.Common.{◌*◌, ◌≡◌, ℕ, zero, suc, ◌+◌, ◌<◌, ◌≤◌, Bool, true, false, not, List, [], ◌∷◌, length, map, get_or, Option, Some, None, refl, ap, sym, ◌∙◌, arith, nat_eq, if◌then◌else◌, nat_cmp, ◌⊎◌, inl, inr}
 use Rattle.std.specs.Prelude.{All, Contains, filter, flat_map, unwrap_or, slice_index_or}
 use Rattle.std.specs.Cmp.{IsStrictWeakOrder}
 use Rattle.std.specs.List.{list_all, list_any, sum_by}
@@ -34,7 +34,7 @@ use Rattle.compile_laws.specs.Law.{TablesAreOnlyOnes, ProgramCompiles}
 use Rattle.compile_laws.proofs.Choices.{records_order}
 use Rattle.compile_laws.proofs.Groups.{ordered_group as group_of_order}
 use Rattle.compile_laws.proofs.Known.{plain_lines}
-use Rattle.compile_laws.proofs.Least.{Rising, rising}
+use Rattle.compile_laws.proofs.Least.{Rising, among_cons, rising}
 use Rattle.compile_laws.proofs.Options.{ordered_zip}
 
 -- one for each element that stands before this one
@@ -137,15 +137,11 @@ places_from numbers r n m (e ∷ es) low =
     (All-weaker (λ (x : Rule). (2 * m ≤ x.place) × (x.place < 2 * m + 2)) (IsFrom n) (λ x is. omega (arith, low, is.0)) (key_records numbers r (Some m) k) (key_places numbers r (Some m) k))
     (places_from numbers r n (m + 1) es (omega (arith, low)))
 
-cons_cases : {X : Type 0} (x : X) (xs : List X) (a : X) → Contains (x ∷ xs) a → (x ≡ a) ⊎ Contains xs a
-cons_cases x xs a (zero, less, is) = inl is
-cons_cases x xs a (suc k, less, is) = inr (k, omega (arith, less), is)
-
 none_in : {X : Type 0} {R : Type 0} (a : X) → Contains [] a → R
 none_in a c = absurd (omega (arith, c.1))
 
 one_apart : (x a b : Rule) → Contains (x ∷ []) a → Contains (x ∷ []) b → a ≡ b
-one_apart x a b in_a in_b = by_cases (cons_cases x [] a in_a) (cons_cases x [] b in_b)
+one_apart x a b in_a in_b = by_cases (among_cons x [] a in_a) (among_cons x [] b in_b)
   where
     by_cases : (x ≡ a) ⊎ Contains [] a → (x ≡ b) ⊎ Contains [] b → a ≡ b
     by_cases (inl at_a) (inl at_b) = sym at_a ∙ at_b
@@ -154,7 +150,7 @@ one_apart x a b in_a in_b = by_cases (cons_cases x [] a in_a) (cons_cases x [] b
 
 -- of two records with different places the one at a place
 two_apart : (x y a b : Rule) → x.place < y.place → Contains (x ∷ y ∷ []) a → Contains (x ∷ y ∷ []) b → a.place ≡ b.place → a ≡ b
-two_apart x y a b less in_a in_b same = by_cases (cons_cases x (y ∷ []) a in_a) (cons_cases x (y ∷ []) b in_b)
+two_apart x y a b less in_a in_b same = by_cases (among_cons x (y ∷ []) a in_a) (among_cons x (y ∷ []) b in_b)
   where
     at_y : (c : Rule) → Contains (y ∷ []) c → y ≡ c
     at_y c is = one_apart y y c (0, omega arith, refl) is

@@ -24,18 +24,18 @@ use Rattle.rule_model.specs.Trace.{options_of, none_saved, first_state}
 use Rattle.rule_model.proofs.PlainOptions.{length-with_options}
 use Rattle.rule_model.specs.System.{system_options, system_ref}
 use Rattle.rule_model.specs.Plain.{option_names}
-use Rattle.rule_model.proofs.SystemOptions.{names_behind, system_option_is, content_by_option}
+use Rattle.rule_model.proofs.SystemOptions.{names_behind, system_option_is, content_by_option, at_behind}
 use Rattle.compile_laws.proofs.Keyboards.{src_stores, tab_stores}
 use Rattle.compile_laws.proofs.Linked.{Linked, is_value}
 use Rattle.compile_laws.proofs.Options.{options-same, options-within}
-use Rattle.compile_laws.proofs.Places.{FirstPlace, first_place, at_place, slice_get-append_left, slice_get-append_right}
+use Rattle.compile_laws.proofs.Places.{FirstPlace, first_place, at_place, slice_get-append_left}
 use Rattle.virtual_keys.proofs.NamePlaces.{position_cons}
 
 with_options-same : (a b : List ℕ) → ((n : ℕ) → list_any (nat_eq n) a ≡ list_any (nat_eq n) b) → (n : ℕ) (xs : List Store) → with_options a n xs ≡ with_options b n xs
 with_options-same a b same n [] = refl
 with_options-same a b same n (x ∷ xs) = λ i. record { name = x.name; elements = x.elements; is_option = same n i; is_system = false } ∷ with_options-same a b same (n + 1) xs i
 
-with_options-append : (options : List ℕ) (n : ℕ) (xs ys : List Store) → with_options options n (xs ++ ys) ≡ with_options options n xs ++ with_options options (n + length xs) ys
+pub with_options-append : (options : List ℕ) (n : ℕ) (xs ys : List Store) → with_options options n (xs ++ ys) ≡ with_options options n xs ++ with_options options (n + length xs) ys
 with_options-append options n [] ys =
     let e : n ≡ n + 0 = omega arith in
     ap (λ m. with_options options m ys) e
@@ -190,8 +190,8 @@ value-stands p t c v k at_k here =
     let number : number_of_value (numbers_of p) v ≡ length (stores_of p) + (length dictionary + k) = ap (λ o. length (stores_of p) + length dictionary + unwrap_or o 0) at_k ∙ omega arith in
     (λ i. elements_of (c.stores i) (number i))
     ∙ (ap store_elements
-    (slice_get-append_right (stores_of p) (dictionary ++ values) (length dictionary + k)
-    ∙ (slice_get-append_right dictionary values k
+    (at_behind (stores_of p) (dictionary ++ values) (length dictionary + k)
+    ∙ (at_behind dictionary values k
     ∙ (slice_get-map value_store (values_of p) k ∙ ap (option_map value_store) here.reads)))
     ∙ ap value_elements ((bytes_decides here.item v).0 here.passes))
 

@@ -1,6 +1,6 @@
 -- Each value of an item is one of the program's.
-use Rattle.std.proofs.Common.{◌≡◌, ℕ, suc, Bool, true, false, ◌&&◌, ◌||◌, List, [], ◌∷◌, ◌++◌, Option, Some, None, refl, ap, sym, ◌∙◌, is_some, if◌then◌else◌}
-use Rattle.std.specs.Prelude.{flat_map, position, option_map, cond}
+use Rattle.std.proofs.Common.{◌≡◌, ℕ, Bool, true, false, ◌&&◌, ◌||◌, List, [], ◌∷◌, ◌++◌, refl, ap, sym, ◌∙◌, if◌then◌else◌}
+use Rattle.std.specs.Prelude.{flat_map}
 use Rattle.std.specs.List.{list_all, list_any}
 use Rattle.std.specs.Str.{bytes_eq}
 use Rattle.std.specs.Cmp.Lexicographic.{bytes_decides}
@@ -13,16 +13,7 @@ use Rattle.rule_model.specs.Tab.{distinct_onto}
 use Rattle.compile_laws.specs.Numbers.{item_values, values_of}
 use Rattle.compile_laws.proofs.Linked.{is_value}
 use Rattle.compile_laws.proofs.Known.{has_values}
-use Rattle.virtual_keys.proofs.NamePlaces.{position_cons}
-
-pub any_position : {X : Type 0} (p : X → Bool) (xs : List X) → is_some (position p xs) ≡ list_any p xs
-any_position p [] = refl
-any_position p (x ∷ xs) = ap is_some (position_cons p x xs) ∙ (go (p x) (position p xs) ∙ ap (λ b. p x || b) (any_position p xs))
-  where
-    go : (b : Bool) (o : Option ℕ) → is_some (cond b (Some 0) (option_map suc o)) ≡ (b || is_some o)
-    go true o = refl
-    go false None = refl
-    go false (Some n) = refl
+use Rattle.virtual_keys.proofs.NamePlaces.{some_place}
 
 pub list_all-flat_map : {X Y : Type 0} (q : Y → Bool) (f : X → List Y) (xs : List X) → list_all q (flat_map f xs) ≡ list_all (λ x. list_all q (f x)) xs
 list_all-flat_map q f [] = refl
@@ -56,7 +47,7 @@ bytes_same v = (bytes_decides v v).1 refl
 all_values : (p : Program) → list_all (is_value p) (flat_map item_values (flat_map rule_items (all_rules p))) ≡ true
 unfolding values_of
 all_values p =
-    all_same (is_value p) (λ v. list_any (λ known. bytes_eq known v) (values_of p)) (λ v. any_position (λ known. bytes_eq known v) (values_of p)) _
+    all_same (is_value p) (λ v. list_any (λ known. bytes_eq known v) (values_of p)) (λ v. some_place (λ known. bytes_eq known v) (values_of p)) _
     ∙ among_distinct bytes_eq bytes_same [] (flat_map item_values (flat_map rule_items (all_rules p)))
 
 -- the items of each rule of each group have the program's values

@@ -14,7 +14,7 @@ use Rattle.rule_model.specs.Match.{same_value}
 use Rattle.rule_model.specs.Tab.{distinct_onto}
 use Rattle.rule_model.specs.Naming.{SourceNames, names_of, stores_of, rule_items, all_rules}
 use Rattle.rule_model.specs.Src.{value_elements, cased_keys}
-use Rattle.rule_model.specs.declared.system.TheConstants.{KEY_DICTIONARY, VERSION}
+use Rattle.rule_model.specs.declared.system.TheConstants.{KEY_DICTIONARY, VERSION, NO_GROUP}
 
 -- the value that an item compares with or sets
 abbrev pub item_values : SrcItem → List (List ℕ)
@@ -83,11 +83,15 @@ file_versions =
     (codes "6.0", 0x0600) ∷ (codes "7.0", 0x0700) ∷ (codes "8.0", 0x0800) ∷ (codes "9.0", 0x0900) ∷ (codes "10.0", 0x0A00) ∷
     (codes "14.0", 0x0E00) ∷ (codes "15.0", 0x0F00) ∷ (codes "16.0", 0x1000) ∷ (codes "17.0", 0x1100) ∷ []
 
--- the version that a store of `&version` states, or 10.0 without one
+-- the version of a file whose program states none: 10.0
+abbrev pub own_version : ℕ
+own_version = 0x0A00
+
+-- the version that a store of `&version` states, or that of a program that states none
 abbrev pub stated_version : Option Store → ℕ
-stated_version None = 0x0A00
+stated_version None = own_version
 stated_version (Some store) =
-    unwrap_or (option_map (λ row. row.1) (find (λ row. same_value (value_elements row.0) store.elements) file_versions)) 0x0A00
+    unwrap_or (option_map (λ row. row.1) (find (λ row. same_value (value_elements row.0) store.elements) file_versions)) own_version
 
 -- whether a store is `&version`
 abbrev pub is_version : Store → Bool
@@ -99,5 +103,5 @@ version_of program = stated_version (find is_version (stores_of program))
 
 -- the number of the start group that a statement names, or what a file has for none
 abbrev pub number_of_start : Numbers → Option BeginDef → ℕ
-number_of_start numbers None = 0xFFFF_FFFF
+number_of_start numbers None = NO_GROUP
 number_of_start numbers (Some start) = number_of_group numbers start.group

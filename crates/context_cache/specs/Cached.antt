@@ -1,5 +1,6 @@
 -- The list before the caret, by its text and its last items.
 use Rattle.std.specs.Prelude.{◌≡◌, ℕ, List, ◌++◌, ◌≤◌, length, map}
+use Rattle.kmn_base.specs.declared.limits.TheConstants.{WINDOW_ITEMS}
 use Rattle.kmn_base.specs.declared.items.Item.{Item}
 use Rattle.kmn_base.specs.declared.items.Item.TheVariants.{Char}
 use Rattle.kmn_base.specs.Lists.{characters, without_last, window}
@@ -19,5 +20,5 @@ filled text items = window (whole text items)
 
 -- at most 64 items, whose characters stand at the end of a text
 pub record StandsAtEnd (items : List Item) (text : List ℕ) : Type 0 where
-  pub few : length items ≤ 64
+  pub few : length items ≤ WINDOW_ITEMS
   pub is : without_last (length (characters items)) text ++ characters items ≡ text

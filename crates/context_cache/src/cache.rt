@@ -19,13 +19,14 @@ pub struct Cache {
 
 impl Model for Cache {
     ghost use Rattle.std.specs.Prelude.{◌≤◌, length, vec_capacity};
+    ghost use Rattle.kmn_base.specs.declared.limits.TheConstants.{WINDOW_ITEMS};
     ghost use Rattle.context_cache.specs.Cached.{CacheValue};
 
     ghost Value = { CacheValue };
 
     ghost view = { λ cache. record { items = cache.items.items; room = vec_capacity cache.items } };
 
-    ghost invariant = { λ cache. length cache.items.items ≤ 64 };
+    ghost invariant = { λ cache. length cache.items.items ≤ WINDOW_ITEMS };
 }
 
 impl Cache {
@@ -50,7 +51,7 @@ impl Cache {
     /// The items, the last before the caret at the end.
     pub fn items(&self) -> &[Item]
         ensures value { result.now ≡ self.now.items }
-        ensures few { length result.now ≤ 64 }
+        ensures few { length result.now ≤ WINDOW_ITEMS }
     {
         self.items.as_slice()
     }
@@ -95,7 +96,7 @@ impl Cache {
     /// How many more characters of a text of this length there is room for before the items, whose characters are its last ones.
     fn missing(&self, text_len: usize) -> usize
         requires { length (characters self.now.items) ≤ text_len }
-        ensures { result ≡ min (text_len - length (characters self.now.items)) (64 - length self.now.items) }
+        ensures { result ≡ min (text_len - length (characters self.now.items)) (WINDOW_ITEMS - length self.now.items) }
     {
         if self.items.len() == WINDOW_ITEMS {
             return 0;

@@ -2,8 +2,9 @@
 //!
 //! It stands on `kmn_base`, whose `specs/Lists` say what the window, a put and reading again are. Contracts see a `Cache` as its
 //! items and its room, which `with_room` and `copy` take: no other call takes memory or refuses anything. The layer above uses its
-//! calls, each of which is the window of what the call would make of the whole list (`specs/Cached`), and the laws in `laws`: a
-//! list before the caret is its text and the items of the cache, and puts, takes and refills of the cache are those of that list.
+//! calls: a put leaves the window of the list with the item, a take the items without the last ones, until a refill puts those before
+//! them there again (`specs/Cached`); and the laws in `laws`: a list before the caret is its text and the items of the cache, and puts,
+//! takes and refills of the cache are those of that list.
 #![tactic(auto)]
 
 mod cache;

@@ -12,7 +12,7 @@ use Rattle.rule_model.specs.declared.tables.Tables.{Tables}
 use Rattle.core_differences.specs.declared.construct.Construct.{Construct}
 use Rattle.core_differences.specs.Constructs.{constructs}
 use Rattle.core_differences.specs.declared.construct.Difference.{Difference}
-use Rattle.core_differences.specs.declared.differing.Found.{Found}
+use Rattle.core_differences.specs.declared.differing.ConstructLines.{ConstructLines}
 use Rattle.core_differences.specs.Differences.{rising, is_among, lines_with, difference_at, differences}
 use Rattle.core_differences.specs.Saves.{group_saving_lines}
 use Rattle.core_differences.specs.Found.{found_of, found_lines, found_construct, found_at, told_at}
@@ -56,14 +56,14 @@ told_is tables line = λ i. record { line = line; constructs = found_is tables l
 pub told_differences : (tables : Tables) → map (told_at (map (found_of tables) constructs)) (rising (flat_map found_lines (map (found_of tables) constructs))) ≡ map (difference_at tables) (rising (flat_map (lines_with tables) constructs))
 told_differences tables = λ i. map (λ line. told_is tables line i) (rising (lines_are tables constructs i))
 
-pub told_so : (tables : Tables) (all some others : List Found) (lines listed told_of : List ℕ) (told : List Difference)
+pub told_so : (tables : Tables) (all some others : List ConstructLines) (lines listed told_of : List ℕ) (told : List Difference)
     → all ≡ map (found_of tables) constructs → some ≡ all → lines ≡ rising (flat_map found_lines some) → listed ≡ lines → others ≡ all → told_of ≡ listed
     → told ≡ map (told_at others) told_of → told ≡ differences tables
 unfolding differences
 told_so tables all some others lines listed told_of told is_all is_some are_lines are_listed is_others are_told_of is_told =
-    let same : List Found = map (found_of tables) constructs in
-    let at : told_of ≡ rising (flat_map found_lines same) = are_told_of ∙ are_listed ∙ are_lines ∙ ap (λ (xs : List Found). rising (flat_map found_lines xs)) (is_some ∙ is_all) in
-    is_told ∙ ap (λ (xs : List Found). map (told_at xs) told_of) (is_others ∙ is_all) ∙ ap (λ (xs : List ℕ). map (told_at same) xs) at ∙ told_differences tables
+    let same : List ConstructLines = map (found_of tables) constructs in
+    let at : told_of ≡ rising (flat_map found_lines same) = are_told_of ∙ are_listed ∙ are_lines ∙ ap (λ (xs : List ConstructLines). rising (flat_map found_lines xs)) (is_some ∙ is_all) in
+    is_told ∙ ap (λ (xs : List ConstructLines). map (told_at xs) told_of) (is_others ∙ is_all) ∙ ap (λ (xs : List ℕ). map (told_at same) xs) at ∙ told_differences tables
 
 -- the lines of one group more
 pub lines_more : (saving used : List Bool) (groups : List Group) (i : ℕ) (d group : Group) (before after : List ℕ) → i < length groups → group ≡ get_or groups i d → used ≡ saving

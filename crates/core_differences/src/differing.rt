@@ -16,7 +16,7 @@ use std::alloc::Global;
 
 /// A construct, and the lines of the records that have it.
 #[derive(Drop)]
-struct Found {
+struct ConstructLines {
     construct: Construct,
     lines: LineSet,
 }
@@ -48,13 +48,17 @@ fn lines_with(alloc: Global, tables: &Tables, construct: Construct) -> Result<Li
 }
 
 /// Of each construct the lines of the records that have it.
-fn found_of(alloc: Global, tables: &Tables, constructs: &[Construct]) -> Result<Seq<Found>, Memory>
+fn found_of(
+    alloc: Global,
+    tables: &Tables,
+    constructs: &[Construct],
+) -> Result<Seq<ConstructLines>, Memory>
     ensures { IfOk result (λ all. all ≡ map (found_of tables.now) constructs.now) }
 {
     let mut all = Seq::new(alloc);
     for construct in constructs {
         let lines = lines_with(alloc, tables, *construct)?;
-        all.add(Found {
+        all.add(ConstructLines {
             construct: *construct,
             lines,
         })?;
@@ -64,7 +68,7 @@ fn found_of(alloc: Global, tables: &Tables, constructs: &[Construct]) -> Result<
 
 /// The lines of all that was found.
 #[tactic(auto, using(crate::proofs::Sets::folds))]
-fn all_lines(alloc: Global, all: &[Found]) -> Result<LineSet, Memory>
+fn all_lines(alloc: Global, all: &[ConstructLines]) -> Result<LineSet, Memory>
     ensures { IfOk result (λ lines. lines ≡ rising (flat_map found_lines all.now)) }
 {
     let mut lines = LineSet::new(alloc);
@@ -75,7 +79,7 @@ fn all_lines(alloc: Global, all: &[Found]) -> Result<LineSet, Memory>
 }
 
 /// The constructs that were found at a line.
-fn constructs_at(alloc: Global, all: &[Found], line: u32) -> Result<Seq<Construct>, Memory>
+fn constructs_at(alloc: Global, all: &[ConstructLines], line: u32) -> Result<Seq<Construct>, Memory>
     ensures { IfOk result (λ constructs. constructs ≡ found_at all.now line) }
 {
     let mut constructs = Seq::new(alloc);
@@ -88,7 +92,7 @@ fn constructs_at(alloc: Global, all: &[Found], line: u32) -> Result<Seq<Construc
 }
 
 /// Of each line what was found there.
-fn told(alloc: Global, all: &[Found], lines: &[u32]) -> Result<Seq<Difference>, Memory>
+fn told(alloc: Global, all: &[ConstructLines], lines: &[u32]) -> Result<Seq<Difference>, Memory>
     ensures { IfOk result (λ told. told ≡ map (told_at all.now) lines.now) }
 {
     let mut told = Seq::new(alloc);

@@ -1,4 +1,5 @@
 pub mod Again
+pub mod Elsewhere
 pub mod Equal
 pub mod Filed
 pub mod FromSource

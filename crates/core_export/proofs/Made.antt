@@ -7,8 +7,9 @@ use Rattle.kmx_verifier.specs.FaultOf.{size_fault, fault_of, IsValid}
 use Rattle.kmx_verifier.proofs.Sound.{or_else-none, broken-none}
 use Rattle.core_export.specs.Checksum.{checksum}
 use Rattle.core_export.specs.Words.{with_word}
-use Rattle.core_export.specs.Export.{zero_unit, pointed_stores, pointed_groups, played_version, replaced, exported, SaysTheSame, IsExport}
+use Rattle.core_export.specs.Export.{zero_unit, pointed_stores, pointed_groups, played_version, replaced, exported, SaysTheSame, OnlyReplaced, IsExport}
 use Rattle.core_export.proofs.Replaced.{version_stands}
+use Rattle.core_export.proofs.Elsewhere.{only_replaced}
 
 -- a valid file has a header
 pub has_header : (bytes : List ℕ) → IsValid bytes → 64 ≤ length bytes
@@ -31,7 +32,7 @@ version_made bytes out unit is long =
 -- the answer of the exporter
 pub is_made : (file bytes out written : List ℕ) (unit : ℕ) → bytes ≡ file → Some unit ≡ zero_unit bytes → out ≡ exported bytes unit
     → (12 ≤ length out → word_at out CHECKSUM_AT ≡ checksum (with_word CHECKSUM_AT 0 out)) → written ≡ out → SaysTheSame file written
-    → (u : ℕ) × (zero_unit file ≡ Some u) × (out ≡ exported file u) × IsExport file out
+    → (u : ℕ) × (zero_unit file ≡ Some u) × (out ≡ exported file u) × OnlyReplaced file out × IsExport file out
 is_made file bytes out written unit is found made right same_bytes same =
     let of_file : out ≡ exported file unit = made ∙ ap (λ (xs : List ℕ). exported xs unit) is in
     let says : SaysTheSame file out = subst (SaysTheSame file) same_bytes same in
@@ -39,5 +40,6 @@ is_made file bytes out written unit is found made right same_bytes same =
       unit,
       sym (found ∙ ap zero_unit is),
       of_file,
+      subst (OnlyReplaced file) (sym of_file) (only_replaced file unit),
       record { same = says; version = version_made file out unit of_file long; checksum = right long },
     )

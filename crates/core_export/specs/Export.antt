@@ -1,5 +1,5 @@
 -- The file that Keyman's own engine plays, and what holds of it.
-use Rattle.std.specs.Prelude.{◌≡◌, ℕ, zero, suc, ◌+◌, ◌*◌, min, Bool, true, not, nat_eq, ◌&&◌, if◌then◌else◌, List, length, Option, Some, None, Result, Ok, Err}
+use Rattle.std.specs.Prelude.{◌≡◌, ℕ, zero, suc, ◌+◌, ◌*◌, ◌<◌, ◌≤◌, min, Bool, true, not, nat_eq, ◌&&◌, if◌then◌else◌, List, length, slice_get, Option, Some, None, Result, Ok, Err}
 use Rattle.std.specs.Option.{option_or}
 use Rattle.rule_model.specs.declared.tables.Tables.{Tables}
 use Rattle.kmx_format.specs.declared.places.TheConstants.{CHECKSUM_AT, GROUPS_AT, STORES_AT, VERSION_AT}
@@ -88,6 +88,47 @@ replaced bytes unit out =
 abbrev pub exported : List ℕ → ℕ → List ℕ
 exported bytes unit = replaced bytes unit bytes
 
+-- ---- the bytes of these words
+
+-- a byte is one of the word at a place, and of one that is an offset 0
+pub record IsInWord (place at : ℕ) : Type 0 where
+  pub from : place ≤ at
+  pub below : at < place + 4
+
+pub record IsInZero (bytes : List ℕ) (place at : ℕ) : Type 0 where
+  pub blank : word_at bytes place ≡ 0
+  pub inside : IsInWord place at
+
+-- it is one of the offset 0 of a content of so many stores
+pub record IsInContents (bytes : List ℕ) (place count at : ℕ) : Type 0 where
+  pub index : ℕ
+  pub less : index < count
+  pub inside : IsInZero bytes (place + STORE_BYTES * index + 8) at
+
+-- of a context of so many key records
+pub record IsInContexts (bytes : List ℕ) (place count at : ℕ) : Type 0 where
+  pub index : ℕ
+  pub less : index < count
+  pub inside : IsInZero bytes (place + RULE_BYTES * index + 16) at
+
+-- of a context of the key records of so many groups
+pub record IsInGroups (bytes : List ℕ) (place count at : ℕ) : Type 0 where
+  pub index : ℕ
+  pub less : index < count
+  pub inside : IsInContexts bytes (word_at bytes (place + GROUP_BYTES * index + 4)) (word_at bytes (place + GROUP_BYTES * index + 16)) at
+
+-- a byte of the file is one of the four kinds of words
+pub data IsReplaced (bytes : List ℕ) (at : ℕ) : Type 0 where
+  InChecksum : IsInWord CHECKSUM_AT at → IsReplaced bytes at
+  InVersion : IsInWord VERSION_AT at → IsReplaced bytes at
+  InContent : IsInContents bytes (word_at bytes STORES_AT) (store_count bytes) at → IsReplaced bytes at
+  InContext : IsInGroups bytes (word_at bytes GROUPS_AT) (group_count bytes) at → IsReplaced bytes at
+
+-- there are as many bytes, and each other one is that of the file
+pub record OnlyReplaced (bytes out : List ℕ) : Type 0 where
+  pub size : length out ≡ length bytes
+  pub rest : (at : ℕ) → (IsReplaced bytes at → ⊥) → slice_get out at ≡ slice_get bytes at
+
 -- ---- what holds of it
 
 -- no content of so many stores has the offset 0
@@ -110,7 +151,7 @@ are_groups_pointed bytes place (suc count) =
 abbrev pub with_played_version : Tables → Tables
 with_played_version tables = record tables { version = played_version tables.version }
 
--- a file with no fault that says what another says, and whose offsets can be followed
+-- a file with no fault that says what another says, in which no content of a store and no context has the offset 0
 pub record SaysTheSame (bytes out : List ℕ) : Type 0 where
   pub valid : IsValid out
   pub tables : tables_of out ≡ with_played_version (tables_of bytes)
@@ -133,7 +174,7 @@ IsWordsError bytes Memory = Unit {0}
 
 -- what comes of the words
 abbrev pub Replaces : List ℕ → Result (List ℕ) ExportError → Type 0
-Replaces bytes (Ok out) = (unit : ℕ) × (zero_unit bytes ≡ Some unit) × (out ≡ exported bytes unit) × IsExport bytes out
+Replaces bytes (Ok out) = (unit : ℕ) × (zero_unit bytes ≡ Some unit) × (out ≡ exported bytes unit) × OnlyReplaced bytes out × IsExport bytes out
 Replaces bytes (Err error) = IsWordsError bytes error
 
 -- no event may save twice, at which the engine crashes

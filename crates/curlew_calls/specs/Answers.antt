@@ -23,6 +23,14 @@ IsCause numbers refusal Length = (all_scalars numbers ≡ true) × (refusal ≡ 
 IsCause numbers refusal Character = all_scalars numbers ≡ false
 IsCause numbers refusal NoOption = ⊥
 
+-- why a caret was not moved: the place is past the text; no memory is taken for it
+abbrev pub IsCaretCause : (refusal : Option Code) → CallError → Type 0
+IsCaretCause refusal Memory = ⊥
+IsCaretCause refusal Place = refusal ≡ Some E1
+IsCaretCause refusal Length = ⊥
+IsCaretCause refusal Character = ⊥
+IsCaretCause refusal NoOption = ⊥
+
 -- why an option was not set: there is none of the name, or a number of the value is no character
 abbrev pub IsSettingCause : (known : Bool) → (numbers : List ℕ) → CallError → Type 0
 IsSettingCause known numbers Memory = Unit {0}

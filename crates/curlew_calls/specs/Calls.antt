@@ -1,5 +1,5 @@
 -- What the calls tell, and what they make of a session.
-use Rattle.std.specs.Prelude.{ℕ, Bool, true, false, nat_eq, if◌then◌else◌, ◌&&◌, List, length, Option, is_some, unwrap_or}
+use Rattle.std.specs.Prelude.{◌≡◌, ℕ, Bool, true, false, nat_eq, if◌then◌else◌, ◌&&◌, List, length, Option, None, is_some, unwrap_or}
 use Rattle.std.specs.List.{list_any}
 use Rattle.std.specs.Option.{option_or}
 use Rattle.kmn_base.specs.declared.events.Event.{Event}
@@ -8,7 +8,7 @@ use Rattle.kmn_base.specs.Lists.{characters}
 use Rattle.virtual_keys.specs.Dictionary.{code_in}
 use Rattle.virtual_keys.specs.Keys.{key_code}
 use Rattle.rule_model.specs.declared.tables.Tables.{Tables}
-use Rattle.rule_model.specs.Event.{State, Happening, has_name}
+use Rattle.rule_model.specs.Event.{State, Happening, event_refusal, has_name}
 use Rattle.rule_model.specs.Tab.{tab}
 use Rattle.rule_engine.specs.Engine.{name_of}
 use Rattle.play_session.specs.Changes.{option_stores}
@@ -19,6 +19,10 @@ use Rattle.call_numbers.specs.Numbers.{bit}
 -- a key that goes down
 abbrev pub key : ℕ → ℕ → Event
 key code mods = event.Key (record { code = code; mods = mods })
+
+-- an event happens to a session, since its meaning doesn't refuse it
+abbrev pub Happens : SessionState → Event → Type 0
+Happens session event = event_refusal session.state event ≡ None
 
 -- what a press told: its edit of the text before the caret, what is left to the application, and how many option values changed
 abbrev pub edit_of : Happening → (changes : ℕ) → Edit

@@ -13,8 +13,8 @@ ghost use Rattle.rule_model.specs.Tab.{tab};
 ghost use Rattle.rule_engine.specs.Engine.{name_of};
 ghost use Rattle.play_session.specs.Printed.{value_of};
 ghost use Rattle.play_session.specs.Session.{first_session, happened, after_step};
-ghost use Rattle.curlew_calls.specs.Answers.{IsCause, IsSettingCause};
-ghost use Rattle.curlew_calls.specs.Calls.{key, edit_of, text_at, edit_before, told_before, knows_option, is_option_named, own_key_code};
+ghost use Rattle.curlew_calls.specs.Answers.{IsCause, IsCaretCause, IsSettingCause};
+ghost use Rattle.curlew_calls.specs.Calls.{key, Happens, edit_of, text_at, edit_before, told_before, knows_option, is_option_named, own_key_code};
 ghost use Rattle.call_numbers.specs.Numbers.{written, item_numbers, element_numbers};
 
 use crate::errors::CallError;
@@ -80,8 +80,9 @@ impl OpenField {
     }
 
     /// Presses a key. `code` and `mods` are those of a `KeyPress`. `Length` comes exactly where the press is refused so.
-    #[tactic(auto, using(crate::proofs::Causes::step_cause), unfolding(rule_model::specs::Event::happening))]
+    #[tactic(auto, using(crate::proofs::Causes::step_cause, crate::proofs::Causes::key_happens), unfolding(rule_model::specs::Event::happening))]
     pub fn key(&mut self, alloc: Global, code: u16, mods: u16) -> Result<Edit, CallError>
+        ensures happens { IfOk result (λ _. Happens self.old (key code mods)) }
         ensures edit { IfOk result (λ edit. edit ≡ edit_of (happened self.old (key code mods)) (length self.new.changes)) }
         ensures leaves { IfOk result (λ _. self.new ≡ after_step self.old (key code mods)) }
         ensures refused { IfErr result (λ error. IsCause [] (event_refusal self.old.state (key code mods)) error) }
@@ -100,7 +101,7 @@ impl OpenField {
 
     /// What a press would tell, and the text that it would insert, written into the room. Nothing changes, and how many option
     /// values would change isn't told.
-    #[tactic(auto, using(crate::proofs::Causes::step_cause))]
+    #[tactic(auto, using(crate::proofs::Causes::step_cause, crate::proofs::Causes::key_happens))]
     pub fn preview(
         &self,
         alloc: Global,
@@ -108,6 +109,7 @@ impl OpenField {
         mods: u16,
         room: &mut [u32],
     ) -> Result<Edit, CallError>
+        ensures happens { IfOk result (λ _. Happens self.now (key code mods)) }
         ensures edit { IfOk result (λ edit. edit ≡ edit_of (happened self.now (key code mods)) 0) }
         ensures room { IfOk result (λ _. room.new ≡ written (happened self.now (key code mods)).inserted room.old) }
         ensures refused { IfErr result (λ error. IsCause [] (event_refusal self.now.state (key code mods)) error) }
@@ -142,6 +144,7 @@ impl OpenField {
     /// The text before the caret is this now; what stands after it stays. Marks keep their places where the text still stands
     /// around them. `Length` comes exactly where the whole text would be too long.
     pub fn before(&mut self, alloc: Global, text: &[u32]) -> Result<(), CallError>
+        ensures happens { IfOk result (λ _. Happens self.old (edit_before text.now self.old.state)) }
         ensures leaves { IfOk result (λ _. self.new ≡ told_before text.now self.old) }
         ensures characters { IfOk result (λ _. all_scalars text.now ≡ true) }
         ensures refused { IfErr result (λ error. IsCause text.now (event_refusal self.old.state (edit_before text.now self.old.state)) error) }
@@ -155,28 +158,29 @@ impl OpenField {
         Ok(())
     }
 
-    /// What a field with nothing before the caret is when this text stands there. The place behind it is there, so only want of
-    /// memory can keep the caret from it.
+    /// What a field with nothing before the caret is when this text stands there. The place behind it is there, so the caret's
+    /// move to it is never refused.
+    #[tactic(auto, using(crate::proofs::Begun::never_kept_from))]
     fn begun_before(&self, alloc: Global, text: &[u32]) -> Result<OpenField, CallError>
         requires { characters self.now.state.left ≡ [] }
+        ensures happens { IfOk result (λ _. Happens self.now (event.Edit 0 0 text.now)) }
         ensures begins { IfOk result (λ field. field ≡ after_step (after_step self.now (event.Edit 0 0 text.now)) (event.Caret (length text.now))) }
         ensures characters { IfOk result (λ _. all_scalars text.now ≡ true) }
         ensures refused { IfErr result (λ error. IsCause text.now (event_refusal self.now.state (event.Edit 0 0 text.now)) error) }
     {
         let mut field = self.copy(alloc)?;
         field.replace(alloc, 0, 0, text)?;
-        match field.caret(alloc, text.len() as u32) {
-            Ok(()) => Ok(field),
-            Err(_) => Err(CallError::Memory),
-        }
+        field.caret(alloc, text.len() as u32)?;
+        Ok(field)
     }
 
     /// The caret moves to a place of the whole text, counted in characters from its start. `Place` comes exactly where it is past
-    /// the text.
-    #[tactic(auto, using(crate::proofs::Causes::step_cause))]
+    /// the text, and no other error: a caret move takes no memory.
+    #[tactic(auto, using(crate::proofs::Causes::caret_cause, crate::proofs::Causes::caret_happens))]
     pub fn caret(&mut self, alloc: Global, place: u32) -> Result<(), CallError>
+        ensures happens { IfOk result (λ _. Happens self.old (event.Caret place)) }
         ensures leaves { IfOk result (λ _. self.new ≡ after_step self.old (event.Caret place)) }
-        ensures refused { IfErr result (λ error. IsCause [] (event_refusal self.old.state (event.Caret place)) error) }
+        ensures refused { IfErr result (λ error. IsCaretCause (event_refusal self.old.state (event.Caret place)) error) }
         ensures unchanged { IfErr result (λ _. self.new ≡ self.old) }
     {
         self.session.step(alloc, &Event::Caret(place))?;
@@ -184,7 +188,7 @@ impl OpenField {
     }
 
     /// The characters from one place of the whole text to another are replaced by these.
-    #[tactic(auto, using(crate::proofs::Causes::step_text_cause, crate::proofs::Causes::not_characters, crate::proofs::Causes::few_characters))]
+    #[tactic(auto, using(crate::proofs::Causes::step_text_cause, crate::proofs::Causes::not_characters, crate::proofs::Causes::few_characters, crate::proofs::Causes::edit_happens))]
     pub fn replace(
         &mut self,
         alloc: Global,
@@ -192,6 +196,7 @@ impl OpenField {
         to: u32,
         text: &[u32],
     ) -> Result<(), CallError>
+        ensures happens { IfOk result (λ _. Happens self.old (event.Edit from to text.now)) }
         ensures leaves { IfOk result (λ _. self.new ≡ after_step self.old (event.Edit from to text.now)) }
         ensures few { IfOk result (λ _. length text.now ≤ TEXT_CHARS) }
         ensures characters { IfOk result (λ _. all_scalars text.now ≡ true) }

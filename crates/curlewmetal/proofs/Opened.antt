@@ -1,18 +1,21 @@
 -- What an export says of its handle, from what the call says of the field that was taken out.
-use Rattle.std.proofs.Common.{◌≡◌, ℕ, Option, Some, None, refl, sym, subst}
-use Rattle.std.specs.Prelude.{MatchOption}
+use Rattle.std.proofs.Common.{◌≡◌, ℕ, List, [], length, Option, Some, None, refl, sym, subst}
+use Rattle.std.proofs.lemmas.Option.{none-some, same_Some}
+use Rattle.std.specs.Prelude.{MatchOption, option_map, unwrap_or}
+use Rattle.kmn_base.specs.declared.items.Element.{Element}
+use Rattle.call_numbers.specs.Numbers.{written, element_numbers}
 use Rattle.play_session.specs.Session.{SessionState}
 use Rattle.curlew_calls.specs.declared.errors.CallError.{CallError}
 use Rattle.curlew_calls.specs.declared.errors.CallError.TheVariants.{Memory, Place, Length, Character, NoOption}
 use Rattle.curlewmetal.specs.Answers.{error_number, Told, Because, Answers}
-use Rattle.curlewmetal.specs.declared.answers.TheConstants.{CLOSED}
+use Rattle.curlewmetal.specs.declared.answers.TheConstants.{OK, CLOSED, NONE}
 
-pub closed : (before after : Option SessionState) (answer : ℕ) (done : SessionState → Type 0) (cause : SessionState → CallError → Type 0) → None ≡ before → answer ≡ CLOSED → after ≡ None → Answers before after answer done cause
-closed before after answer done cause is answered stays = subst (λ (b : Option SessionState). Answers b after answer done cause) is (answered, stays)
+pub closed : (held : Option SessionState) (answer : ℕ) (done : SessionState → Type 0) (stays : Type 0) (cause : SessionState → CallError → Type 0) → None ≡ held → answer ≡ CLOSED → stays → Answers held answer done stays cause
+closed held answer done stays cause is answered so = subst (λ (h : Option SessionState). Answers h answer done stays cause) is (answered, so)
 
-pub opened : (session : SessionState) (before after : Option SessionState) (answer : ℕ) (done : SessionState → Type 0) (cause : SessionState → CallError → Type 0) → Some session ≡ before
-    → Told answer (done session) ((after ≡ Some session) × Because answer (cause session)) → Answers before after answer done cause
-opened session before after answer done cause is told = subst (λ (b : Option SessionState). Answers b after answer done cause) is told
+pub opened : (session : SessionState) (held : Option SessionState) (answer : ℕ) (done : SessionState → Type 0) (stays : Type 0) (cause : SessionState → CallError → Type 0) → Some session ≡ held
+    → Told answer (done session) (stays × Because answer (cause session)) → Answers held answer done stays cause
+opened session held answer done stays cause is told = subst (λ (h : Option SessionState). Answers h answer done stays cause) is told
 
 told_other : (error : CallError) (done otherwise : Type 0) → otherwise → Told (error_number error) done otherwise
 told_other Memory done otherwise so = so
@@ -29,3 +32,21 @@ told_of_closed before shut open_one is so = subst (λ b. MatchOption b shut open
 
 pub told_of_opened : {S : Type 0} (session : S) (before : Option S) (shut : Type 0) (open_one : S → Type 0) → Some session ≡ before → open_one session → MatchOption before shut open_one
 told_of_opened session before shut open_one is so = subst (λ b. MatchOption b shut open_one) is so
+
+pub told_of_none : {S : Type 0} (before : Option S) (shut : Type 0) (open_one : S → Type 0) → before ≡ None → shut → MatchOption before shut open_one
+told_of_none before shut open_one is so = told_of_closed before shut open_one (sym is) so
+
+pub told_of_some : {S : Type 0} (found : S) (before : Option S) (shut : Type 0) (open_one : S → Type 0) → before ≡ Some found → open_one found → MatchOption before shut open_one
+told_of_some found before shut open_one is so = told_of_opened found before shut open_one (sym is) so
+
+-- a value that was told, and one that there is none of
+pub value_told : (value : Option (List Element)) (answer count : ℕ) (room old : List ℕ) (shut : Type 0) → Some count ≡ option_map length value
+    → room ≡ written (element_numbers (unwrap_or value [])) old → answer ≡ OK
+    → MatchOption value shut (λ elements. (answer ≡ OK) × (count ≡ length elements) × (room ≡ written (element_numbers elements) old))
+value_told None answer count room old shut is wrote so = absurd (none-some count (sym is))
+value_told (Some elements) answer count room old shut is wrote so = (so, same_Some count (length elements) is, wrote)
+
+pub no_value_told : (value : Option (List Element)) (answer count : ℕ) (room old : List ℕ) (open_one : List Element → Type 0) → None ≡ option_map length value
+    → room ≡ written (element_numbers (unwrap_or value [])) old → answer ≡ NONE → MatchOption value ((answer ≡ NONE) × (count ≡ count) × (room ≡ old)) open_one
+no_value_told None answer count room old open_one is wrote so = (so, refl, wrote)
+no_value_told (Some elements) answer count room old open_one is wrote so = absurd (none-some (length elements) is)

@@ -1,5 +1,5 @@
 -- The numbers that calls answer.
-use Rattle.std.specs.Prelude.{◌≡◌, ℕ, zero, suc, Bool, not, nat_eq, Option, Some, None}
+use Rattle.std.specs.Prelude.{◌≡◌, ℕ, zero, suc, Bool, not, nat_eq, Option, Some, None, MatchBool}
 use Rattle.play_session.specs.Session.{SessionState}
 use Rattle.kmx_verifier.specs.declared.faults.Fault as file
 use Rattle.call_numbers.specs.Numbers.{rule_number}
@@ -32,8 +32,12 @@ Told (suc n) done otherwise = otherwise
 abbrev pub Because : (answer : ℕ) → (cause : CallError → Type 0) → Type 0
 Because answer cause = (error : CallError) × (answer ≡ error_number error) × cause error
 
--- a call of a field: one that isn't open answers so and stays closed; an open one is another session where the answer says that
--- the call was done, and else stays the same, for a cause
-abbrev pub Answers : (before after : Option SessionState) → (answer : ℕ) → (done : SessionState → Type 0) → (cause : SessionState → CallError → Type 0) → Type 0
-Answers None after answer done cause = (answer ≡ CLOSED) × (after ≡ None)
-Answers (Some session) after answer done cause = Told answer (done session) ((after ≡ Some session) × Because answer (cause session))
+-- a call of a field: where none is open the answer says so; an open one is done with where the answer says that the call was
+-- done, and any other answer has a cause. What stays stays after each other answer
+abbrev pub Answers : (held : Option SessionState) → (answer : ℕ) → (done : SessionState → Type 0) → (stays : Type 0) → (cause : SessionState → CallError → Type 0) → Type 0
+Answers None answer done stays cause = (answer ≡ CLOSED) × stays
+Answers (Some session) answer done stays cause = Told answer (done session) (stays × Because answer (cause session))
+
+-- an answer tells want of memory, and then this stays; else it is the one that it has to be
+abbrev pub UnlessMemory : (answer : ℕ) → (stays otherwise : Type 0) → Type 0
+UnlessMemory answer stays otherwise = MatchBool (nat_eq answer MEMORY) stays otherwise

@@ -8,7 +8,7 @@ use crate::parts::BoxParts;
 use curlew_calls::OpenField;
 use std::alloc::Global;
 use std::marker::Model;
-use std::ptr;
+use std::{mem, ptr};
 
 /// What a handle points to. Nobody reads it.
 #[repr(C)]
@@ -46,6 +46,14 @@ impl Field {
         ensures { result.held ≡ Some held.value }
     {
         Field::of_parts(BoxParts::of(held))
+    }
+
+    /// Takes the field out of a handle, None where it has none. An export puts it back by `of` when its call is made.
+    pub(crate) fn take(&mut self, alloc: Global) -> Option<Box<OpenField>>
+        ensures taken { option_map (λ held. held.value) result ≡ self.old.held }
+        ensures leaves { self.new.held ≡ None }
+    {
+        mem::replace(self, Field::none(alloc)).into_box()
     }
 
     /// The field of a handle, None where it has none.

@@ -23,8 +23,8 @@ use Rattle.kmx_format.specs.Playable.{IsPlayable, IsPlayableStore}
 use Rattle.compile_laws.specs.Numbers.{dictionary_stores}
 use Rattle.checker_laws.proofs.Sizes.{joined_size}
 use Rattle.kmn_text.proofs.Values.{all-scalars}
+use Rattle.decompile_laws.proofs.Characters.{characters-few}
 use Rattle.decompile_causes.proofs.SpelledItems.{value-characters}
-use Rattle.decompile_causes.proofs.ShortValues.{filtered}
 use Rattle.decompile_causes.proofs.ShortTexts.{IsShortStore}
 
 -- the characters of texts, and one for each text
@@ -117,7 +117,7 @@ dictionary-total tables can =
     let cs : List ℕ = filter_map element_char elements in
     let text : List ℕ = encode_utf8_all cs in
     let few = dictionary-few tables.stores can.stores in
-    let shorter = filtered elements in
+    let shorter = characters-few elements in
     let count = text-count cs few.1 in
     let parts = split-total text in
     let kept : total (words text) ≤ total (slice_split (nat_eq 32) text) = filtered-total _ (slice_split (nat_eq 32) text) in

@@ -5,7 +5,6 @@ use Rattle.std.specs.List.{AllByRecursion}
 use Rattle.std.specs.Str.{bytes_eq}
 use Rattle.std.proofs.lemmas.List.Elements.{All-head, All-tail, All-nil, recursion_from_All}
 use Rattle.kmn_base.specs.declared.items.Element.{Element}
-use Rattle.kmn_base.specs.declared.items.Element.TheVariants as element
 use Rattle.kmn_base.specs.declared.keys.RuleKey.{RuleKey}
 use Rattle.kmn_base.specs.declared.keys.RuleKey.TheVariants as key
 use Rattle.kmn_base.specs.declared.limits.TheConstants.{STORE_ELEMENTS}
@@ -29,23 +28,12 @@ use Rattle.kmx_format.specs.Playable.{IsPlayable, IsPlayableStore}
 use Rattle.checker_laws.proofs.Lists.{All-distinct, all_of}
 use Rattle.decompile_laws.specs.Items.{Names, value_called, back_pattern, back_output, back_key, some_items}
 use Rattle.decompile_laws.specs.Back.{back_rule, back_rules, back_statement, match_line, nomatch_line, back_group, back_groups, names_for, written_stores, written_begins, back}
+use Rattle.decompile_laws.proofs.Characters.{characters-few}
 use Rattle.decompile_laws.proofs.Choosing.{all_join, all_parts}
 use Rattle.decompile_causes.proofs.GroupRules.{rules_of}
 
 abbrev pub IsShortValue : List ℕ → Type 0
 IsShortValue value = length value ≤ STORE_ELEMENTS
-
-next-both : (a b : ℕ) → a ≤ b → suc a ≤ suc b
-next-both a b h = omega arith
-
-next-right : (a b : ℕ) → a ≤ b → a ≤ suc b
-next-right a b h = omega arith
-
-pub filtered : (es : List Element) → length (filter_map element_char es) ≤ length es
-filtered [] = omega arith
-filtered (element.Char c ∷ es) = next-both (length (filter_map element_char es)) (length es) (filtered es)
-filtered (element.Mark m ∷ es) = next-right (length (filter_map element_char es)) (length es) (filtered es)
-filtered (element.Key flags code ∷ es) = next-right (length (filter_map element_char es)) (length es) (filtered es)
 
 none-over : 0 ≤ STORE_ELEMENTS
 none-over = omega arith
@@ -126,7 +114,7 @@ pub values_short : (tables : Tables) → IsPlayable tables → AllByRecursion Is
 unfolding values_of back
 values_short tables can =
     let items = groups-short (names_for tables)
-    (λ n. within (length (value_called (names_for tables) n)) (length (elements_of tables.stores n)) STORE_ELEMENTS (filtered (elements_of tables.stores n)) (elements-few tables.stores n can.stores))
+    (λ n. within (length (value_called (names_for tables) n)) (length (elements_of tables.stores n)) STORE_ELEMENTS (characters-few (elements_of tables.stores n)) (elements-few tables.stores n can.stores))
     (1 + length (written_stores tables) + length (written_begins tables)) (names_for tables).groups tables.groups in
     let values = gathered (flat_map rule_items (flat_map rules_of (back_groups (names_for tables) (1 + length (written_stores tables) + length (written_begins tables)) (names_for tables).groups tables.groups))) items in
     recursion_from_All IsShortValue _ (All-distinct IsShortValue bytes_eq [] _ (All-nil IsShortValue) (all_of IsShortValue _ values))

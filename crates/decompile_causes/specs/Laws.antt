@@ -35,7 +35,7 @@ pub record HasTextNames (tables : Tables) : Type 0 where
   pub stores : All (λ (store : Store). is_utf8 store.name ≡ true) tables.stores
   pub groups : All (λ (group : Group). is_utf8 group.name ≡ true) tables.groups
 
--- a valid file that has a text: its tables can be played, and there is nothing against its text
+-- bytes that have a text: the tables that they have can be played, and there is nothing against their text
 pub record HasText (bytes : List ℕ) : Type 0 where
   pub small : All (λ byte. byte < 256) bytes
   pub playable : IsPlayable (tables_of bytes)
@@ -45,7 +45,8 @@ pub record HasText (bytes : List ℕ) : Type 0 where
 abbrev pub NamesAreText : Type 0
 NamesAreText = (bytes : List ℕ) → All (λ byte. byte < 256) bytes → HasTextNames (tables_of bytes)
 
--- where there is nothing against a valid file's text, its tables can be written out as a program that means the same
+-- where the tables of bytes can be played and there is nothing against their text, they can be written out as a program that
+-- means the same
 abbrev pub SpelledCanBeWrittenOut : Type 0
 SpelledCanBeWrittenOut = (bytes : List ℕ) → IsPlayable (tables_of bytes) → unspelled bytes ≡ None → CanBeWrittenOut (tables_of bytes)
 
@@ -57,7 +58,7 @@ SpelledIsSpelled = (bytes : List ℕ) → HasText bytes → IsSpelled (back (tab
 abbrev pub SpelledNamesStand : Type 0
 SpelledNamesStand = (bytes : List ℕ) → HasText bytes → names_refusal (back (tables_of bytes)) ≡ None
 
--- no rule of the program that a valid file is written out as is refused for an item
+-- no rule of the program that tables which can be played are written out as is refused for an item
 abbrev pub SpelledRulesStand : Type 0
 SpelledRulesStand = (bytes : List ℕ) → IsPlayable (tables_of bytes) → first_of (rules_refusal (known (back (tables_of bytes)))) [] (back (tables_of bytes)).groups ≡ None
 

@@ -1,6 +1,7 @@
 pub mod Alike
 pub mod Apart
 pub mod Calls
+pub mod Characters
 pub mod Choosing
 pub mod Distinct
 pub mod Free

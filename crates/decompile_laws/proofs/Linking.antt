@@ -157,13 +157,6 @@ found-behind (x ∷ front) n calls stores f name (apart, other) first along =
     ∙ (cond-false (same_name x.name name) _ _ apart ∙ (ap (option_map suc) (found-behind front n calls stores f name other first along)
     ∙ (let e : suc (length front + written_before n calls) ≡ suc (length front) + written_before n calls = omega arith in ap (λ (k : ℕ). Some k) e)))
 
--- options of stores one after the other
-pub options-append : (opts : List ℕ) (n : ℕ) (xs ys : List Store) → with_options opts n (xs ++ ys) ≡ with_options opts n xs ++ with_options opts (n + length xs) ys
-options-append opts n [] ys = let e : n ≡ n + 0 = omega arith in ap (λ k. with_options opts k ys) e
-options-append opts n (x ∷ xs) ys =
-    let e : n + 1 + length xs ≡ n + suc (length xs) = omega arith in
-    λ i. record { name = x.name; elements = x.elements; is_option = list_any (nat_eq n) opts; is_system = false } ∷ (options-append opts (n + 1) xs ys ∙ ap (λ k. with_options opts (n + 1) xs ++ with_options opts k ys) e) i
-
 none-below : (n front : ℕ) (calls : List (Option (List ℕ))) (opts : List ℕ) → n < front → list_any (nat_eq n) (map (λ k. front + written_before k calls) opts) ≡ false
 none-below n front calls [] less = refl
 none-below n front calls (m ∷ opts) less =

@@ -26,7 +26,8 @@ use Rattle.decompile_laws.specs.WrittenOut.{is_ordinary, has_characters, KeepsNa
 use Rattle.decompile_laws.proofs.Apart.{StandsFirst, AreFree, own_name, later, each-at, free-differs, names_apart, stands_first, same-turned}
 use Rattle.decompile_laws.proofs.Good.{IsNamed, IsOption, GoodElement, members, stores_good}
 use Rattle.decompile_laws.proofs.Thin.{thin, KeepsOptions, Stands, stands, behind}
-use Rattle.decompile_laws.proofs.Linking.{thin_stores, IsSimple, stores-mapped, GoesBack, stores-back, written_before, Written, first-written, meanings-thin, options-placed, flags_agree, found-behind, options-append, front-fixed, front-other}
+use Rattle.compile_laws.proofs.Stores.{with_options-append}
+use Rattle.decompile_laws.proofs.Linking.{thin_stores, IsSimple, stores-mapped, GoesBack, stores-back, written_before, Written, first-written, meanings-thin, options-placed, flags_agree, found-behind, front-fixed, front-other}
 use Rattle.decompile_laws.proofs.Calls.{AreCalls, are_calls, calls-along, called-at, keeps_options, back-simple}
 use Rattle.decompile_laws.proofs.Numbering.{mark-number, key-number}
 use Rattle.decompile_laws.proofs.Renamed.{same_flags}
@@ -187,7 +188,7 @@ module _ (t : Tables) (p : IsPlayable t) (c : CanBeWrittenOut t) where
       src_stores (back t)
       ∙ (ap (λ (ss : List StoreMeaning). ss ++ system_options)
       ((λ i. with_options (options-are i) 0 (stores-are i))
-      ∙ (options-append (map place (tab_options t)) 0 front_file (thin_stores spelled calls t.stores)
+      ∙ (with_options-append (map place (tab_options t)) 0 front_file (thin_stores spelled calls t.stores)
       ∙ ((let e : 0 + length front_file ≡ length front_file = omega arith in ap (λ (k : ℕ). front_meanings ++ with_options (map place (tab_options t)) k (thin_stores spelled calls t.stores)) e)
       ∙ (ap (λ (ss : List StoreMeaning). front_meanings ++ ss)
       (meanings-thin spelled (map place (tab_options t)) (tab_options t) (length front_file) 0 calls t.stores

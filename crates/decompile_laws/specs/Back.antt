@@ -2,6 +2,7 @@
 use Rattle.std.specs.Prelude.{ℕ, ◌+◌, true, false, nat_eq, if◌then◌else◌, List, [], ◌∷◌, ◌++◌, length, drop, map, find, codes, Option, Some, None, unwrap_or, option_map, slice_get}
 use Rattle.std.specs.List.{range_with_len}
 use Rattle.std.specs.Fmt.{decimal}
+use Rattle.rule_model.specs.declared.system.TheConstants.{NO_GROUP}
 use Rattle.rule_model.specs.declared.program.SrcItem.{SrcItem}
 use Rattle.rule_model.specs.declared.program.SrcItem.TheVariants as source
 use Rattle.rule_model.specs.declared.program.StoreDef.{StoreDef}
@@ -107,7 +108,7 @@ version_store version line = record { line = line; system = VERSION; name = []; 
 abbrev pub back_begins : Names → ℕ → Tables → List BeginDef
 back_begins names line tables =
     record { line = line; unicode = true; group = group_called names tables.start_unicode }
-    ∷ (if nat_eq tables.start_ansi 0xFFFF_FFFF then [] else record { line = line + 1; unicode = false; group = group_called names tables.start_ansi } ∷ [])
+    ∷ (if nat_eq tables.start_ansi NO_GROUP then [] else record { line = line + 1; unicode = false; group = group_called names tables.start_ansi } ∷ [])
 
 -- the free names of stores, of which the first are those of the stores of deadkeys and keys
 abbrev pub free_stores : Tables → List (List ℕ)

@@ -4,6 +4,7 @@ use Rattle.std.specs.List.{list_any, range_with_len}
 use Rattle.std.specs.Fmt.{decimal}
 use Rattle.kmn_base.specs.Names.{same_name}
 use Rattle.kmn_items.specs.Words.{is_system_name}
+use Rattle.rule_model.specs.declared.system.TheConstants.{BITMAP, MNEMONIC_LAYOUT}
 use Rattle.rule_model.specs.declared.tables.Pat.{Pat}
 use Rattle.rule_model.specs.declared.tables.Pat.TheVariants as pattern
 use Rattle.rule_model.specs.declared.tables.Out.{Out}
@@ -43,7 +44,7 @@ named_stores tables = flat_map named_by_group tables.groups
 
 -- the system stores that are written: all that a source can state but `&version`
 abbrev pub written_ids : List ℕ
-written_ids = 1 ∷ 2 ∷ 3 ∷ 6 ∷ 7 ∷ 17 ∷ 24 ∷ 35 ∷ 36 ∷ 38 ∷ []
+written_ids = BITMAP ∷ 2 ∷ 3 ∷ 6 ∷ 7 ∷ MNEMONIC_LAYOUT ∷ 24 ∷ 35 ∷ 36 ∷ 38 ∷ []
 
 -- whether the store of a number is written: an ordinary one that is named, or one of those system stores
 abbrev pub is_written : List ℕ → ℕ → Store → Bool

@@ -8,13 +8,13 @@ use Rattle.std.proofs.lemmas.List.Elements.{All-head, All-tail}
 use Rattle.std.proofs.lemmas.List.Splits.{slice_split-cons_yes, slice_split-cons_no}
 use Rattle.std.proofs.lemmas.Str.{encode_ascii}
 use Rattle.kmn_base.specs.declared.items.Element.{Element}
-use Rattle.kmn_base.specs.declared.items.Element.TheVariants as element
 use Rattle.kmn_base.specs.declared.limits.TheConstants.{STORE_ELEMENTS, KEY_NAMES}
 use Rattle.kmn_base.specs.Names.{same_name}
 use Rattle.virtual_keys.proofs.WordBytes.{HasNoSpace, bytes_of}
 use Rattle.rule_model.specs.declared.tables.Store.{Store}
 use Rattle.rule_model.proofs.Dictionary.{dictionary_has}
 use Rattle.rule_model.specs.Tab.{distinct_onto, element_char, is_dictionary, store_elements, tab_dictionary, words}
+use Rattle.decompile_laws.proofs.Characters.{characters-few}
 
 -- 1 for a part that is a word
 abbrev one_if_word : List ℕ → ℕ
@@ -110,18 +110,6 @@ distinct-few seen (text ∷ texts) =
     let here = seen-few test seen text in
     let rest = distinct-few (if test then seen else seen ++ text ∷ []) texts in
     omega (arith, here, rest)
-
-next-both : (a b : ℕ) → a ≤ b → suc a ≤ suc b
-next-both a b h = omega arith
-
-next-right : (a b : ℕ) → a ≤ b → a ≤ suc b
-next-right a b h = omega arith
-
-characters-few : (es : List Element) → length (filter_map element_char es) ≤ length es
-characters-few [] = omega arith
-characters-few (element.Char c ∷ es) = next-both (length (filter_map element_char es)) (length es) (characters-few es)
-characters-few (element.Mark m ∷ es) = next-right (length (filter_map element_char es)) (length es) (characters-few es)
-characters-few (element.Key flags code ∷ es) = next-right (length (filter_map element_char es)) (length es) (characters-few es)
 
 -- a store has no more elements than a store may have
 abbrev pub HasFewElements : Store → Type 0

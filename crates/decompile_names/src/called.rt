@@ -1,6 +1,7 @@
 //! What a text calls the stores, groups and keys of tables.
 
 ghost use Rattle.std.specs.Prelude.{◌≡◌, [], None, option_copied, nat_lt, if◌then◌else◌, slice_get, unwrap_or};
+ghost use Rattle.virtual_keys.specs.declared.dictionary.TheConstants.{FIRST_OWN_CODE};
 ghost use Rattle.virtual_keys.specs.Dictionary.{name_in};
 ghost use Rattle.virtual_keys.specs.Keys.{key_name};
 ghost use Rattle.rule_model.specs.Tab.{elements_of};
@@ -93,7 +94,7 @@ impl<'a> Called<'a> {
 
     /// The name of a key by its code, empty where it has none.
     pub fn key_name(&self, code: u16) -> &[u8]
-        ensures { result.now ≡ unwrap_or (if nat_lt code 256 then key_name code else name_in self.now.keys code) [] }
+        ensures { result.now ≡ unwrap_or (if nat_lt code FIRST_OWN_CODE then key_name code else name_in self.now.keys code) [] }
     {
         match self.key(code) {
             Some(name) => name,
@@ -104,7 +105,7 @@ impl<'a> Called<'a> {
     /// The name of a key by its code, a key of every keyboard or one of the keyboard's own.
     #[tactic(auto, unfolding(rule_model::specs::Tab::tab))]
     pub fn key(&self, code: u16) -> Option<&[u8]>
-        ensures { option_copied result ≡ (if nat_lt code 256 then key_name code else name_in self.now.keys code) }
+        ensures { option_copied result ≡ (if nat_lt code FIRST_OWN_CODE then key_name code else name_in self.now.keys code) }
     {
         if code < FIRST_OWN_CODE {
             name_of(code)

@@ -10,6 +10,7 @@ ghost use Rattle.indexed_tables.specs.OptionFlags.{with_flags};
 use crate::source_names::is_source_name;
 use crate::used::named_flags;
 use kmn_base::{Memory, Text};
+use rule_model::system::{BITMAP, MNEMONIC_LAYOUT};
 use rule_model::{Group, Store, Tables};
 use std::alloc::Global;
 use store_table::NameTable;
@@ -136,7 +137,10 @@ pub(crate) fn group_names(
 fn is_written_system(system: u32) -> bool
     ensures { result ≡ list_any (nat_eq system) written_ids }
 {
-    matches!(system, 1 | 2 | 3 | 6 | 7 | 17 | 24 | 35 | 36 | 38)
+    matches!(
+        system,
+        BITMAP | 2 | 3 | 6 | 7 | MNEMONIC_LAYOUT | 24 | 35 | 36 | 38
+    )
 }
 
 /// The flag of a number, false where there is none.

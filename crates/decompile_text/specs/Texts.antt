@@ -4,6 +4,7 @@ use Rattle.std.specs.List.{filter_map, range_with_len}
 use Rattle.std.specs.Fmt.{decimal}
 use Rattle.kmn_base.specs.declared.items.Element.{Element}
 use Rattle.kmn_base.specs.declared.keys.RuleKey.{RuleKey}
+use Rattle.rule_model.specs.declared.system.TheConstants.{NO_GROUP}
 use Rattle.rule_model.specs.declared.tables.Pat.{Pat}
 use Rattle.rule_model.specs.declared.tables.Out.{Out}
 use Rattle.rule_model.specs.declared.tables.Rule.{Rule}
@@ -123,7 +124,7 @@ begin_text kind name = codes "begin " ++ (kind ++ (codes " > " ++ (call_text (co
 abbrev pub begins_text : Names → (unicode ansi : ℕ) → List ℕ
 begins_text names unicode ansi =
     begin_text (codes "Unicode") (group_called names unicode)
-    ++ (if nat_eq ansi 0xFFFF_FFFF then [] else begin_text (codes "ANSI") (group_called names ansi))
+    ++ (if nat_eq ansi NO_GROUP then [] else begin_text (codes "ANSI") (group_called names ansi))
 
 -- the line of a version
 abbrev pub version_line : ℕ → List ℕ

@@ -1,6 +1,7 @@
 //! The lines of a text: stores, begin statements, groups and their records.
 
 ghost use Rattle.std.specs.Prelude.{◌≡◌, ◌++◌, ◌∷◌, [], None, unwrap_or, codes, nat_eq, slice_get, OnOk, if◌then◌else◌};
+ghost use Rattle.rule_model.specs.declared.system.TheConstants.{NO_GROUP};
 ghost use Rattle.kmn_text.specs.Statements.{system_name};
 ghost use Rattle.decompile_text.specs.Pages.{with_text};
 ghost use Rattle.decompile_text.specs.OneByOne.{with_elements, with_context, with_outputs, with_rules, with_groups, with_stores};
@@ -210,7 +211,7 @@ fn put_begin(page: &mut Page, kind: &[u8], name: &[u8]) -> Result<(), Memory>
 
 /// Whether the number of a start group says that there is none.
 fn is_no_group(group: u32) -> bool
-    ensures { result ≡ nat_eq group 0xFFFF_FFFF }
+    ensures { result ≡ nat_eq group NO_GROUP }
 {
     group == NO_GROUP
 }

@@ -5,7 +5,9 @@ ghost use Rattle.kmn_text.specs.Items.{option_name};
 ghost use Rattle.kmn_text.specs.Statements.{system_name};
 ghost use Rattle.decompile_laws.specs.Back.{version_text};
 
-use rule_model::system::{CASED_KEYS, DROPPED, LEFT_OUT, PLATFORM};
+use rule_model::system::{
+    BITMAP, CASED_KEYS, DROPPED, LEFT_OUT, MNEMONIC_LAYOUT, PLATFORM, VERSION,
+};
 
 /// The name of a system store by its id: the first that a source can state for it.
 #[tactic(auto, unfolding(kmn_parser::specs::Line::system_stores))]
@@ -13,13 +15,13 @@ pub(crate) fn system_name(system: u32) -> &'static [u8]
     ensures { result.now ≡ system_name system }
 {
     match system {
-        1 => b"&bitmap",
+        BITMAP => b"&bitmap",
         2 => b"&copyright",
         3 => b"&hotkey",
         6 => b"&message",
         7 => b"&name",
-        8 => b"&version",
-        17 => b"&mnemoniclayout",
+        VERSION => b"&version",
+        MNEMONIC_LAYOUT => b"&mnemoniclayout",
         24 => b"&visualkeyboard",
         35 => b"&layoutfile",
         36 => b"&keyboardversion",

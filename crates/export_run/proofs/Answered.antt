@@ -4,10 +4,10 @@ use Rattle.kmx_verifier.specs.FaultOf.{IsValid}
 use Rattle.core_export.specs.Export.{IsExportError}
 use Rattle.core_export.specs.declared.errors.ExportError.{ExportError}
 use Rattle.core_export.specs.declared.errors.ExportError.TheVariants as error
-use Rattle.export_run.specs.declared.reading.Cause.TheVariants.{File, SavesTwice, NoZeroUnit, Entangled}
+use Rattle.export_run.specs.declared.reading.ExportReason.TheVariants.{File, SavesTwice, NoZeroUnit, Entangled}
 use Rattle.export_run.specs.declared.reading.Export.{Export}
-use Rattle.export_run.specs.declared.reading.Stop.{Stop}
-use Rattle.export_run.specs.declared.reading.Stop.TheVariants as stop
+use Rattle.export_run.specs.declared.reading.ExportStop.{ExportStop}
+use Rattle.export_run.specs.declared.reading.ExportStop.TheVariants as stop
 use Rattle.export_run.specs.Reads.{Answers, States, export_stop}
 
 -- why a file isn't exported
@@ -18,7 +18,7 @@ stop_answered bytes error.Entangled h = h
 stop_answered bytes error.Memory h = h
 
 -- the answer for a valid file is that for its bytes
-pub states_answered : (bytes : List ℕ) (result : Result Export Stop) → IsValid bytes → Answers bytes result → States bytes result
+pub states_answered : (bytes : List ℕ) (result : Result Export ExportStop) → IsValid bytes → Answers bytes result → States bytes result
 states_answered bytes (Ok out) valid h = (valid, h)
 states_answered bytes (Err (stop.Refused (File fault))) valid h = absurd h
 states_answered bytes (Err (stop.Refused (SavesTwice line))) valid h = (valid, h)

@@ -1,5 +1,4 @@
 pub mod Lines
 pub mod Reads
 pub mod Runs
-pub mod Status
 pub mod Tells

@@ -7,8 +7,8 @@ use Rattle.keyman_lines.specs.Reasons.{fault_line}
 use Rattle.core_differences.specs.declared.construct.Construct.{Construct}
 use Rattle.core_differences.specs.declared.construct.Construct.TheVariants as construct
 use Rattle.core_differences.specs.declared.construct.Difference.{Difference}
-use Rattle.export_run.specs.declared.reading.Cause.{Cause}
-use Rattle.export_run.specs.declared.reading.Cause.TheVariants.{File, SavesTwice, NoZeroUnit, Entangled}
+use Rattle.export_run.specs.declared.reading.ExportReason.{ExportReason}
+use Rattle.export_run.specs.declared.reading.ExportReason.TheVariants.{File, SavesTwice, NoZeroUnit, Entangled}
 use Rattle.export_run.specs.declared.reading.Export.{Export}
 
 -- the size of an export
@@ -36,8 +36,8 @@ abbrev pub exported_text : Export → List ℕ
 exported_text export = exported_line (length export.bytes) ++ flat_map differs_line export.differences
 
 -- why a file isn't exported
-abbrev pub cause_line : Cause → List ℕ
-cause_line (File fault) = fault_line fault
-cause_line (SavesTwice line) = concat (codes "refused K01 line " ∷ decimal line ∷ codes "\n" ∷ [])
-cause_line NoZeroUnit = codes "refused K02\n"
-cause_line Entangled = codes "refused K03\n"
+abbrev pub unexported_line : ExportReason → List ℕ
+unexported_line (File fault) = fault_line fault
+unexported_line (SavesTwice line) = concat (codes "refused K01 line " ∷ decimal line ∷ codes "\n" ∷ [])
+unexported_line NoZeroUnit = codes "refused K02\n"
+unexported_line Entangled = codes "refused K03\n"

@@ -2,13 +2,13 @@
 use Rattle.std.specs.Prelude.{◌≡◌, ◌⊎◌, ℕ, true, false, IsTrue, List, [], ◌∷◌, ◌++◌, Some}
 use Rattle.kmn_outside.specs.Outside.{Rose, SameOthers, call_of}
 use Rattle.play_transcript.specs.Printing.{IsBegun}
-use Rattle.export_run.specs.declared.reading.Cause.{Cause}
+use Rattle.export_run.specs.declared.reading.ExportReason.{ExportReason}
 use Rattle.export_run.specs.declared.reading.Export.{Export}
-use Rattle.export_run.specs.declared.status.Status.{Status}
-use Rattle.export_run.specs.declared.status.Status.TheVariants as status
-use Rattle.export_run.specs.Lines.{cause_line, exported_text}
-use Rattle.export_run.specs.Reads.{FolderView, FolderState, seen_folder, HasExport, HasCause, HasRead, HasFailedToRead, HasMaybeRead}
-use Rattle.export_run.specs.Tells.{SinkView, SinkState, seen_sink}
+use Rattle.keyman_status.specs.declared.status.Status.{Status}
+use Rattle.keyman_status.specs.declared.status.Status.TheVariants as status
+use Rattle.export_run.specs.Lines.{unexported_line, exported_text}
+use Rattle.keyman_status.specs.Seen.{FolderView, FolderState, SinkView, SinkState, seen_folder, seen_sink}
+use Rattle.export_run.specs.Reads.{HasExport, HasReason, HasRead, HasFailedToRead, HasMaybeRead}
 
 -- nothing was printed
 abbrev pub IsSilent : SinkState → SinkState → Type 0
@@ -28,23 +28,24 @@ pub record HasFailedToWrite (file target : List ℕ) (out : Export) (before afte
   pub others : SameOthers target before.files after.files
 
 -- the file was read, and isn't exported: no file differs
-pub record IsRefused (file : List ℕ) (why : Cause) (before after : FolderState) : Type 0 where
-  pub cause : HasCause before.files file why
+pub record IsRefused (file : List ℕ) (why : ExportReason) (before after : FolderState) : Type 0 where
+  pub reason : HasReason before.files file why
   pub read : HasRead file before after
 
 -- all was done but that the printing broke off: a first part of the text was printed
 abbrev pub IsCutOff : (file target : List ℕ) → FolderState → FolderState → SinkState → SinkState → Type 0
 IsCutOff file target before after sink sink_after =
     ((out : Export) × HasExported file target out before after × (IsTrue sink.told → IsBegun sink.written sink_after.written (exported_text out)))
-    ⊎ ((why : Cause) × IsRefused file why before after × (IsTrue sink.told → IsBegun sink.written sink_after.written (cause_line why)))
+    ⊎ ((why : ExportReason) × IsRefused file why before after × (IsTrue sink.told → IsBegun sink.written sink_after.written (unexported_line why)))
 
 -- what a run leaves, by its status
 abbrev pub LeavesBy : (file target : List ℕ) → FolderState → FolderState → SinkState → SinkState → Status → Type 0
 LeavesBy file target before after sink sink_after status.Done =
     (out : Export) × HasExported file target out before after × (IsTrue sink.told → sink_after.written ≡ sink.written ++ exported_text out)
 LeavesBy file target before after sink sink_after status.Refused =
-    (why : Cause) × IsRefused file why before after × (IsTrue sink.told → sink_after.written ≡ sink.written ++ cause_line why)
+    (why : ExportReason) × IsRefused file why before after × (IsTrue sink.told → sink_after.written ≡ sink.written ++ unexported_line why)
 LeavesBy file target before after sink sink_after status.Words = ⊥
+LeavesBy file target before after sink sink_after status.ExpectFailed = ⊥
 LeavesBy file target before after sink sink_after status.ReadFault = HasFailedToRead file before after × IsSilent sink sink_after
 LeavesBy file target before after sink sink_after status.WriteFault =
     ((out : Export) × HasFailedToWrite file target out before after × IsSilent sink sink_after) ⊎ IsCutOff file target before after sink sink_after

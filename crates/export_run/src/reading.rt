@@ -14,7 +14,7 @@ use std::alloc::Global;
 
 /// Why a file isn't exported.
 #[derive(Clone, Copy, Debug, PartialEq, Eq)]
-pub enum Cause {
+pub enum ExportReason {
     /// It isn't valid.
     File(Fault),
     /// An event may save twice, first at this line of the source.
@@ -34,14 +34,14 @@ pub struct Export {
 
 /// Why a run stops before it writes.
 #[derive(Clone, Copy, Debug, PartialEq, Eq)]
-pub enum Stop {
-    Refused(Cause),
+pub enum ExportStop {
+    Refused(ExportReason),
     ReadFault,
     Memory,
 }
 
 /// Why a file that passes its limit is refused.
-const LONG_FILE: Cause = Cause::File(Fault {
+const LONG_FILE: ExportReason = ExportReason::File(Fault {
     code: Code::V15,
     at: 0,
     unit: 0,
@@ -52,32 +52,32 @@ pub fn read_export<F: Folder>(
     alloc: Global,
     file: &FileName<'_>,
     folder: &mut F,
-) -> Result<Export, Stop>
+) -> Result<Export, ExportStop>
     ensures { Gives file.now F.Folder folder.old folder.new result }
 {
     match read(alloc, file, FILE_BYTES, folder) {
         Ok(bytes) => export_bytes(alloc, bytes.as_slice()),
-        Err(ReadError::Failed) => Err(Stop::ReadFault),
-        Err(ReadError::Over(_)) => Err(Stop::Refused(LONG_FILE)),
-        Err(ReadError::Memory) => Err(Stop::Memory),
+        Err(ReadError::Failed) => Err(ExportStop::ReadFault),
+        Err(ReadError::Over(_)) => Err(ExportStop::Refused(LONG_FILE)),
+        Err(ReadError::Memory) => Err(ExportStop::Memory),
     }
 }
 
 /// Verifies the bytes of a file, and exports it.
 #[tactic(auto, using(crate::proofs::Answered::states_answered))]
-fn export_bytes(alloc: Global, bytes: &[u8]) -> Result<Export, Stop>
+fn export_bytes(alloc: Global, bytes: &[u8]) -> Result<Export, ExportStop>
     ensures { States bytes.now result }
 {
     match verify(alloc, bytes) {
         Ok(file) => export_file(alloc, &file),
-        Err(VerifyError::Refused(fault)) => Err(Stop::Refused(Cause::File(fault))),
-        Err(VerifyError::Memory) => Err(Stop::Memory),
+        Err(VerifyError::Refused(fault)) => Err(ExportStop::Refused(ExportReason::File(fault))),
+        Err(VerifyError::Memory) => Err(ExportStop::Memory),
     }
 }
 
 /// Exports a file.
 #[tactic(auto, using(crate::proofs::Answered::stop_answered))]
-fn export_file(alloc: Global, file: &Verified<'_>) -> Result<Export, Stop>
+fn export_file(alloc: Global, file: &Verified<'_>) -> Result<Export, ExportStop>
     ensures { Answers file.now result }
 {
     let bytes = match export(alloc, file) {
@@ -86,18 +86,18 @@ fn export_file(alloc: Global, file: &Verified<'_>) -> Result<Export, Stop>
     };
     match differences(alloc, file) {
         Ok(differences) => Ok(Export { bytes, differences }),
-        Err(Memory) => Err(Stop::Memory),
+        Err(Memory) => Err(ExportStop::Memory),
     }
 }
 
 /// Why a run stops where a valid file isn't exported.
-fn export_stop(error: ExportError) -> Stop
+fn export_stop(error: ExportError) -> ExportStop
     ensures { result ≡ export_stop error }
 {
     match error {
-        ExportError::SavesTwice(line) => Stop::Refused(Cause::SavesTwice(line)),
-        ExportError::NoZeroUnit => Stop::Refused(Cause::NoZeroUnit),
-        ExportError::Entangled => Stop::Refused(Cause::Entangled),
-        ExportError::Memory => Stop::Memory,
+        ExportError::SavesTwice(line) => ExportStop::Refused(ExportReason::SavesTwice(line)),
+        ExportError::NoZeroUnit => ExportStop::Refused(ExportReason::NoZeroUnit),
+        ExportError::Entangled => ExportStop::Refused(ExportReason::Entangled),
+        ExportError::Memory => ExportStop::Memory,
     }
 }

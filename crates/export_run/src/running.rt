@@ -1,9 +1,9 @@
 ghost use Rattle.std.specs.Prelude.{◌≡◌};
 ghost use Rattle.export_run.specs.Runs.{Exports, Runs};
 
-use crate::printing::{tell_exported, tell_stop, write_status};
+use crate::printing::{tell_exported, tell_stop};
 use crate::reading::read_export;
-use crate::status::Status;
+use keyman_status::{Status, write_status};
 use keyman_words::{FileName, write};
 use kmn_base::Text;
 use kmn_outside::{Folder, Sink};

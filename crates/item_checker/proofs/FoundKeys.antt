@@ -21,11 +21,12 @@ use Rattle.rule_model.specs.declared.program.Program.{Program}
 use Rattle.rule_model.specs.Tab.{distinct_onto}
 use Rattle.rule_model.specs.Naming.{SourceNames, names_of, rule_items, all_rules, store_items, items_from, source_items, stores_before, stores_after, key_names, key_number}
 use Rattle.virtual_keys.proofs.NamePlaces.{some_place, same_either_way, same_name-self}
+use Rattle.compile_laws.proofs.Values.{list_all-flat_map}
 use Rattle.item_checker.specs.Items.{is_no_plain_key}
 use Rattle.item_checker.specs.Summaries.{are_found_keys, is_found_key, is_other_key}
 
 -- one of items that pass
-passes_at : {X : Type 0} (p : X → Bool) (xs : List X) (i : ℕ) (x : X) → list_all p xs ≡ true → i < length xs → x ≡ get_or xs i x → p x ≡ true
+pub passes_at : {X : Type 0} (p : X → Bool) (xs : List X) (i : ℕ) (x : X) → list_all p xs ≡ true → i < length xs → x ≡ get_or xs i x → p x ≡ true
 passes_at p xs i x all h e = ap p e ∙ by (p (get_or xs i x)) refl
   where
     by : (b : Bool) → p (get_or xs i x) ≡ b → p (get_or xs i x) ≡ true
@@ -117,10 +118,6 @@ list_each p q each [] h = refl
 list_each p q each (x ∷ xs) h =
     let parts = and_parts (p x) (list_all p xs) h in and_from (q x) (list_all q xs) (each x parts.0) (list_each p q each xs parts.1)
 
-all_flat : {X Y : Type 0} (p : Y → Bool) (f : X → List Y) (xs : List X) → list_all p (flat_map f xs) ≡ list_all (λ x. list_all p (f x)) xs
-all_flat p f [] = refl
-all_flat p f (x ∷ xs) = list_all-append p (f x) (flat_map f xs) ∙ ap (λ rest. list_all p (f x) && rest) (all_flat p f xs)
-
 of_stores : (test : SrcItem → Bool) (stores : List StoreDef) (rules : List RuleDef) → list_all test (items_from stores rules) ≡ true → list_all test (store_items stores) ≡ true
 of_stores test stores [] h = h
 of_stores test stores (rule ∷ rules) h =
@@ -141,5 +138,5 @@ unfolding names_of
 stores_found program =
     let items : list_all (is_found_key (names_of program)) (source_items program) ≡ true =
     list_each (λ item. list_all (is_among (names_of program).keys) (key_names item)) (is_found_key (names_of program)) (key_found (names_of program)) (source_items program)
-    (sym (all_flat (is_among (names_of program).keys) key_names (source_items program)) ∙ all_seen [] (flat_map key_names (source_items program))) in
-    sym (all_flat (is_found_key (names_of program)) (λ (store : StoreDef). store.items) program.stores) ∙ of_stores (is_found_key (names_of program)) program.stores (all_rules program) items
+    (sym (list_all-flat_map (is_among (names_of program).keys) key_names (source_items program)) ∙ all_seen [] (flat_map key_names (source_items program))) in
+    sym (list_all-flat_map (is_found_key (names_of program)) (λ (store : StoreDef). store.items) program.stores) ∙ of_stores (is_found_key (names_of program)) program.stores (all_rules program) items

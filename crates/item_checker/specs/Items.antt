@@ -22,7 +22,7 @@ use Rattle.compile_laws.specs.Numbers.{file_versions}
 use Rattle.store_table.specs.First.{or_else, broken, first_code, at_line, earlier, first_of}
 use Rattle.store_table.specs.Known.{Known, known, brought, statement_elements}
 use Rattle.store_table.specs.Names.{is_named}
-use Rattle.rule_model.specs.declared.system.TheConstants.{CASED_KEYS, MNEMONIC_LAYOUT, VERSION}
+use Rattle.rule_model.specs.declared.system.TheConstants.{CASED_KEYS, MNEMONIC_LAYOUT, VERSION, BITMAP, LEFT_OUT}
 use Rattle.virtual_keys.specs.declared.dictionary.TheConstants.{FIRST_OWN_CODE}
 
 -- some rule uses the store of a name as an option
@@ -103,7 +103,7 @@ puts_key known store = list_any is_key_element (elements_named known.stores stor
 
 -- C12: a system store that is left out
 abbrev pub is_left_out : StoreDef → Bool
-is_left_out store = nat_eq store.system 0xFFFE
+is_left_out store = nat_eq store.system LEFT_OUT
 
 -- C12: another text of `&version` or `&mnemoniclayout`, where all elements are characters
 abbrev pub is_version_text : List Element → Bool
@@ -131,7 +131,7 @@ puts_option known item = false
 abbrev pub wants_characters : Known → StoreDef → Bool
 wants_characters known store =
     if nat_eq store.system 0 then is_option known store.name
-    else list_any (nat_eq store.system) (1 ∷ 8 ∷ 17 ∷ [])
+    else list_any (nat_eq store.system) (BITMAP ∷ VERSION ∷ MNEMONIC_LAYOUT ∷ [])
 
 abbrev pub brings_no_character : Known → SrcItem → Bool
 brings_no_character known item = list_any is_no_character (brought known item)

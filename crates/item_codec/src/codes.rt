@@ -5,6 +5,7 @@ ghost use Rattle.item_codec.specs.declared.units.TheConstants.{SENTINEL};
 ghost use Rattle.kmn_base.specs.Spelling.{spelling, IsOperand, IsSpellable, unit_bytes, is_high_surrogate, operand_count, operand_fault, end_fault, operands_fault, without_code, code_fault, sentinel_fault, pair_fault, unit_fault, fault_at};
 ghost use Rattle.item_codec.specs.Walk.{StandsFirst};
 
+use crate::item_codes::{self, EQUAL, UNEQUAL};
 use crate::units::{KEY_END, SENTINEL, first_two_units, first_unit};
 use kmn_base::{BadKind, UnitItem};
 
@@ -42,10 +43,16 @@ fn operand_count(code: u16) -> Option<usize>
     ensures { result ≡ operand_count code }
 {
     match code {
-        0x03 | 0x04 | 0x06 | 0x07 => Some(0),
-        0x01 | 0x05 | 0x08 | 0x11 | 0x12 | 0x15 | 0x16 => Some(1),
-        0x02 | 0x13 | 0x18 => Some(2),
-        0x0A | 0x14 | 0x17 => Some(3),
+        item_codes::CONTEXT | item_codes::NUL | item_codes::STOP | item_codes::BEEP => Some(0),
+        item_codes::ANY
+        | item_codes::ENTER
+        | item_codes::DEAD
+        | item_codes::CONTEXT_AT
+        | item_codes::NOT_ANY
+        | item_codes::SAVE
+        | item_codes::RESET => Some(1),
+        item_codes::INDEX | item_codes::SET | item_codes::SET_SYSTEM => Some(2),
+        item_codes::KEY | item_codes::TEST | item_codes::SYSTEM_TEST => Some(3),
         _ => None,
     }
 }
@@ -57,10 +64,10 @@ fn bare_item(code: u16) -> UnitItem
     ensures spelled { spelling result ≡ SENTINEL ∷ code ∷ [] }
 {
     match code {
-        0x03 => UnitItem::Context,
-        0x04 => UnitItem::Nul,
-        0x06 => UnitItem::Stop,
-        0x07 => UnitItem::Beep,
+        item_codes::CONTEXT => UnitItem::Context,
+        item_codes::NUL => UnitItem::Nul,
+        item_codes::STOP => UnitItem::Stop,
+        item_codes::BEEP => UnitItem::Beep,
         _ => unreachable!(),
     }
 }
@@ -73,13 +80,13 @@ fn item_of_one(code: u16, operand: u16) -> UnitItem
     ensures spelled { spelling result ≡ SENTINEL ∷ code ∷ operand ∷ [] }
 {
     match code {
-        0x01 => UnitItem::Any(operand),
-        0x05 => UnitItem::Enter(operand),
-        0x08 => UnitItem::Dead(operand),
-        0x11 => UnitItem::ContextAt(operand),
-        0x12 => UnitItem::NotAny(operand),
-        0x15 => UnitItem::Save(operand),
-        0x16 => UnitItem::Reset(operand),
+        item_codes::ANY => UnitItem::Any(operand),
+        item_codes::ENTER => UnitItem::Enter(operand),
+        item_codes::DEAD => UnitItem::Dead(operand),
+        item_codes::CONTEXT_AT => UnitItem::ContextAt(operand),
+        item_codes::NOT_ANY => UnitItem::NotAny(operand),
+        item_codes::SAVE => UnitItem::Save(operand),
+        item_codes::RESET => UnitItem::Reset(operand),
         _ => unreachable!(),
     }
 }
@@ -93,9 +100,9 @@ fn item_of_two(code: u16, first: u16, second: u16) -> UnitItem
     ensures spelled { spelling result ≡ SENTINEL ∷ code ∷ first ∷ second ∷ [] }
 {
     match code {
-        0x02 => UnitItem::Index(first, second),
-        0x13 => UnitItem::Set(first, second),
-        0x18 => UnitItem::SetSystem(first, second),
+        item_codes::INDEX => UnitItem::Index(first, second),
+        item_codes::SET => UnitItem::Set(first, second),
+        item_codes::SET_SYSTEM => UnitItem::SetSystem(first, second),
         _ => unreachable!(),
     }
 }
@@ -111,12 +118,16 @@ fn item_of_three(code: u16, first: u16, second: u16, third: u16) -> Result<UnitI
         (λ bad. without_code (operand_fault code (first ∷ second ∷ third ∷ [])) ≡ Some (bad.kind, bad.code)) }
 {
     match code {
-        0x0A if third == KEY_END => Ok(UnitItem::Key(first, second)),
-        0x0A => Err(BadItem::of(BadKind::U4)),
-        0x14 if second == 1 || second == 2 => Ok(UnitItem::Test(first, second, third)),
-        0x14 => Err(BadItem::of(BadKind::U5)),
-        0x17 if second == 1 || second == 2 => Ok(UnitItem::SystemTest(first, second, third)),
-        0x17 => Err(BadItem::of(BadKind::U5)),
+        item_codes::KEY if third == KEY_END => Ok(UnitItem::Key(first, second)),
+        item_codes::KEY => Err(BadItem::of(BadKind::U4)),
+        item_codes::TEST if second == UNEQUAL || second == EQUAL => Ok(UnitItem::Test(
+            first, second, third,
+        )),
+        item_codes::TEST => Err(BadItem::of(BadKind::U5)),
+        item_codes::SYSTEM_TEST if second == UNEQUAL || second == EQUAL => Ok(UnitItem::SystemTest(
+            first, second, third,
+        )),
+        item_codes::SYSTEM_TEST => Err(BadItem::of(BadKind::U5)),
         _ => unreachable!(),
     }
 }

@@ -11,7 +11,7 @@ pub(crate) const SENTINEL: u16 = 0xFFFF;
 pub(crate) const KEY_END: u16 = 0x10;
 
 /// The most units that an item has.
-const MOST_UNITS: usize = 5;
+pub(crate) const MOST_UNITS: usize = 5;
 
 /// The first unit, and the bytes behind it; None where there are fewer than two bytes.
 #[tactic(auto, using(kmn_base::proofs::UnitBytes::unit_bytes_joined))]

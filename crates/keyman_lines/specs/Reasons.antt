@@ -30,10 +30,10 @@ fault_line fault = concat (codes "refused " ∷ code_text fault.code ∷ codes "
 unfoldable pub place_line : LayoutFault → List ℕ
 place_line fault = concat (
     codes "refused " ∷ code_text fault.code
-    ∷ codes " platform " ∷ decimal fault.platform
-    ∷ codes " layer " ∷ decimal fault.layer
-    ∷ codes " row " ∷ decimal fault.row
-    ∷ codes " key " ∷ decimal fault.key
+    ∷ codes " platform " ∷ decimal fault.place.platform
+    ∷ codes " layer " ∷ decimal fault.place.layer
+    ∷ codes " row " ∷ decimal fault.place.row
+    ∷ codes " key " ∷ decimal fault.place.key
     ∷ codes "\n" ∷ [])
 
 -- why a file has no text

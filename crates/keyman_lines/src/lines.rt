@@ -11,7 +11,7 @@ use kmn_base::{Code, Memory, Refusal, Seq, Text};
 use kmx_verifier::Fault;
 use play_script::refused_event_line;
 use std::alloc::{AllocError, Global};
-use touch_layout::LayoutFault;
+use touch_layout::{LayoutFault, LayoutPlace};
 
 /// The line of a reason why work is refused.
 pub fn reason_line(alloc: Global, why: Reason) -> Result<Text, Memory>
@@ -86,13 +86,12 @@ fn place_line(alloc: Global, fault: LayoutFault) -> Result<Text, Memory>
 {
     let mut line = Seq::from_slice(alloc, b"refused ")?;
     line.extend_from_slice(fault.code.text())?;
-    let LayoutFault {
+    let LayoutPlace {
         platform,
         layer,
         row,
         key,
-        ..
-    } = fault;
+    } = fault.place;
     let rest = format!(in alloc; " platform {platform} layer {layer} row {row} key {key}\n")?;
     line.extend_from_slice(rest.as_bytes())?;
     Ok(line)

@@ -25,7 +25,7 @@ use Rattle.keyman_run.specs.Asked.{Ask, read_of, answered}
 use Rattle.keyman_run.specs.Inputs.{by_line, file_from, pictured_within, unless_large}
 use Rattle.keyman_run.specs.Orders.{file_work, picture_work}
 use Rattle.keyman_run.specs.Run.{HasRead}
-use Rattle.keyman_run.specs.Seen.{FolderView, FolderState, seen_folder}
+use Rattle.keyman_status.specs.Seen.{FolderView, FolderState, seen_folder}
 use Rattle.keyman_run.specs.Steps.{StopCounts, GivesBy, Gives, States, read_stop, compile_stop, script_stop, itself}
 use Rattle.keyman_run.specs.Work.{Reading, Work, given, and_then, reads, comes_to}
 use Rattle.keyman_run.specs.Work.Reading.{Bytes, Over}

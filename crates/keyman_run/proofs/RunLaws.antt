@@ -8,13 +8,14 @@ use Rattle.kmn_outside.specs.declared.traits.WriteError.TheVariants as write
 use Rattle.keyman_run.specs.declared.preparing.Stop.{Stop}
 use Rattle.keyman_run.specs.declared.preparing.Stop.TheVariants as stop
 use Rattle.keyman_lines.specs.declared.reason.Reason.{Reason}
-use Rattle.keyman_run.specs.declared.status.Status.{Status}
-use Rattle.keyman_run.specs.declared.status.Status.TheVariants as status
+use Rattle.keyman_status.specs.declared.status.Status.{Status}
+use Rattle.keyman_status.specs.declared.status.Status.TheVariants as status
 use Rattle.keyman_run.specs.Asked.{Ask, write_of, answered, failed}
 use Rattle.keyman_run.specs.Endings.{Ending, conclusion, refused_ending, ends, file_asks}
 use Rattle.keyman_run.specs.Run.{Written, HasRead, HasBegunToRead, HasFailedToRead, HasWorked, IsEnded, IsSpoilt, IsCutOff, LeavesBy, FaultCounts, Does}
-use Rattle.keyman_run.specs.Seen.{FolderView, SinkView, FolderState, SinkState, seen_folder, seen_sink}
-use Rattle.keyman_run.specs.Steps.{StopCounts, GivesBy, Gives, SinkCounts, PrintsBy, Tells, TellsStop, write_status}
+use Rattle.keyman_status.specs.Seen.{FolderView, SinkView, FolderState, SinkState, seen_folder, seen_sink}
+use Rattle.keyman_status.specs.Tells.{SinkCounts, PrintsBy, Tells, write_status}
+use Rattle.keyman_run.specs.Steps.{StopCounts, GivesBy, Gives, TellsStop}
 use Rattle.keyman_run.specs.Work.{Work, and_then, reads, comes_to}
 use Rattle.keyman_run.specs.Work.Work.{Give, Refuse}
 use Rattle.keyman_run.proofs.AskedLaws.{first_front, until_front, joined, first_behind, until_behind, all_behind, first_none}
@@ -225,14 +226,6 @@ does_told work ending folders folder after sinks out out_after how faults told w
       leaves_told (reads (folders.files folder) work) (ends (folders.files folder) work) ending (worked told_folder).0 (seen_folder folders folder) (seen_folder folders after) (seen_sink sinks out) (seen_sink sinks out_after) how
       (worked told_folder).1 tells.counts tells.prints;
 }
-
--- a line that was printed whole, before a run that ends well or with a refusal
-pub tells_line : {S : Type 0} (good : Status) (bytes : List ℕ) (sinks : SinkView S) (out out_after : S) → (good ≡ status.Done) ⊎ (good ≡ status.Refused)
-    → sinks.faults out_after ≡ sinks.faults out → sinks.told out_after ≡ sinks.told out → (IsTrue (sinks.told out) → sinks.written out_after ≡ sinks.written out ++ bytes) → Tells good bytes sinks out out_after good
-tells_line good bytes sinks out out_after (inl is) faults told prints =
-    subst (λ (s : Status). Tells s bytes sinks out out_after s) (sym is) (record { counts = (refl, faults); told = told; prints = prints })
-tells_line good bytes sinks out out_after (inr is) faults told prints =
-    subst (λ (s : Status). Tells s bytes sinks out out_after s) (sym is) (record { counts = (refl, faults); told = told; prints = prints })
 
 -- a write that was answered
 pub does_written : {F S : Type 0} (good : Status) (printed name bytes written : List ℕ) (folders : FolderView F) (folder after : F) (sinks : SinkView S) (out out_after : S) (how : Status) (x : Unit {0})

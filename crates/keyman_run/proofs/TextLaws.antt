@@ -20,7 +20,7 @@ use Rattle.keyman_lines.specs.declared.reason.Reason.{Reason}
 use Rattle.keyman_run.specs.Inputs.{IsTextOf, bytes_of, tables_of_file, unless_faulty}
 use Rattle.keyman_run.specs.Orders.{bytes_work}
 use Rattle.keyman_run.specs.Run.{TextMeans}
-use Rattle.keyman_run.specs.Seen.{FolderView}
+use Rattle.keyman_status.specs.Seen.{FolderView}
 use Rattle.keyman_run.specs.Steps.{Gives, States, verify_stop}
 use Rattle.keyman_run.specs.Work.{given, reading_of, comes_to}
 use Rattle.keyman_run.specs.Work.Reading.{Bytes, Over}

@@ -10,8 +10,8 @@ use Rattle.kmn_compiler.specs.declared.compiling.Compiled.{Compiled}
 use Rattle.keyman_lines.specs.declared.reason.Reason.{Reason}
 use Rattle.keyman_lines.specs.Lines.{compiled_line, decompiled_line, sound_line, valid_line}
 use Rattle.keyman_lines.specs.Reasons.{reason_line}
-use Rattle.keyman_run.specs.declared.status.Status.{Status}
-use Rattle.keyman_run.specs.declared.status.Status.TheVariants as status
+use Rattle.keyman_status.specs.declared.status.Status.{Status}
+use Rattle.keyman_status.specs.declared.status.Status.TheVariants as status
 use Rattle.keyman_run.specs.Asked.{Ask, write_of}
 use Rattle.play_transcript.specs.Ends.{play_end}
 use Rattle.play_transcript.specs.declared.playing.PlayEnd.{PlayEnd}

@@ -5,7 +5,5 @@ pub mod Loads
 pub mod Orders
 pub mod Run
 pub mod Runs
-pub mod Seen
-pub mod Status
 pub mod Steps
 pub mod Work

@@ -1,11 +1,9 @@
 -- What the steps of a run answer.
-use Rattle.std.specs.Prelude.{◌≡◌, IsTrue, ℕ, List, ◌++◌, Option, Some, Result, Ok, Err}
+use Rattle.std.specs.Prelude.{◌≡◌, IsTrue, ℕ, List, Option, Some, Result, Ok, Err}
 use Rattle.kmn_base.specs.declared.refusals.CompileError.{CompileError}
 use Rattle.kmn_base.specs.declared.refusals.CompileError.TheVariants as compile
 use Rattle.kmn_base.specs.declared.codes.Code.{Code}
 use Rattle.kmn_outside.specs.Outside.{Rose}
-use Rattle.kmn_outside.specs.declared.traits.WriteError.{WriteError}
-use Rattle.kmn_outside.specs.declared.traits.WriteError.TheVariants as write
 use Rattle.kmn_outside.specs.declared.traits.ReadError.{ReadError}
 use Rattle.kmn_outside.specs.declared.traits.ReadError.TheVariants as read
 use Rattle.rule_model.specs.Tab.{tab}
@@ -28,16 +26,16 @@ use Rattle.keyman_run.specs.declared.preparing.Stop.{Stop}
 use Rattle.keyman_run.specs.declared.preparing.Stop.TheVariants as stop
 use Rattle.keyman_lines.specs.declared.reason.Reason.{Reason}
 use Rattle.keyman_lines.specs.declared.reason.Reason.TheVariants as reason
-use Rattle.keyman_run.specs.declared.status.Status.{Status}
-use Rattle.keyman_run.specs.declared.status.Status.TheVariants as status
+use Rattle.keyman_status.specs.declared.status.Status.{Status}
+use Rattle.keyman_status.specs.declared.status.Status.TheVariants as status
 use Rattle.shadow_text.specs.DeadLines.{dead_text}
 use Rattle.keyman_run.specs.Asked.{Ask}
 use Rattle.keyman_run.specs.Endings.{Job}
 use Rattle.keyman_lines.specs.Lines.{valid_line}
-use Rattle.play_transcript.specs.Printing.{IsBegun}
 use Rattle.keyman_lines.specs.Reasons.{reason_line}
 use Rattle.keyman_run.specs.Run.{HasRead, HasBegunToRead, HasFailedToRead}
-use Rattle.keyman_run.specs.Seen.{FolderView, SinkView, FolderState, seen_folder}
+use Rattle.keyman_status.specs.Seen.{FolderView, SinkView, FolderState, seen_folder}
+use Rattle.keyman_status.specs.Tells.{Tells}
 use Rattle.keyman_run.specs.Work.{Work, reads, comes_to}
 
 -- why a run stops where a source was not compiled
@@ -120,26 +118,6 @@ itself value = value
 abbrev pub prepared_job : Prepared → Job
 prepared_job prepared = record { compiled = prepared.compiled; entries = prepared.entries }
 
--- the count of faults of a sink that something is printed to before a run ends well with a status
-abbrev pub SinkCounts : Status → ℕ → ℕ → Status → Type 0
-SinkCounts good before after status.WriteFault = Rose before after
-SinkCounts good before after status.Memory = after ≡ before
-SinkCounts good before after status.Words = ⊥
-SinkCounts good before after status.ReadFault = ⊥
-SinkCounts good before after other = (other ≡ good) × (after ≡ before)
-
--- what was printed before a run ends well with a status: all bytes, or where printing broke off a first part
-abbrev pub PrintsBy : List ℕ → List ℕ → List ℕ → Status → Type 0
-PrintsBy bytes before after status.WriteFault = IsBegun before after bytes
-PrintsBy bytes before after status.Memory = IsBegun before after bytes
-PrintsBy bytes before after other = after ≡ before ++ bytes
-
--- bytes are printed, and then the run ends with a good status, unless the printing breaks off
-pub record Tells {S : Type 0} (good : Status) (bytes : List ℕ) (sinks : SinkView S) (out out_after : S) (how : Status) : Type 0 where
-  pub counts : SinkCounts good (sinks.faults out) (sinks.faults out_after) how
-  pub told : sinks.told out_after ≡ sinks.told out
-  pub prints : IsTrue (sinks.told out) → PrintsBy bytes (sinks.written out) (sinks.written out_after) how
-
 -- a run that stops before it writes prints the line of a reason, or nothing
 abbrev pub TellsStop : {S : Type 0} → Stop → SinkView S → S → S → Status → Type 0
 TellsStop (stop.Refused why) sinks out out_after s = Tells status.Refused (reason_line why) sinks out out_after s
@@ -160,8 +138,3 @@ TellsLoad (Err why) sinks out out_after s = Tells status.Refused (reason_line wh
 abbrev pub TellsDead : {S : Type 0} → Result Tables Reason → SinkView S → S → S → Status → Type 0
 TellsDead (Ok tables) sinks out out_after s = Tells status.Done (dead_text tables) sinks out out_after s
 TellsDead (Err why) sinks out out_after s = Tells status.Refused (reason_line why) sinks out out_after s
-
--- the status of a run that ends with a write or a put that didn't succeed
-abbrev pub write_status : WriteError → Status
-write_status write.Failed = status.WriteFault
-write_status write.Memory = status.Memory

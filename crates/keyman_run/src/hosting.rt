@@ -7,12 +7,13 @@ ghost use Rattle.play_host.specs.HostText.{host_end, host_text};
 ghost use Rattle.keyman_run.specs.Endings.{end_status};
 ghost use Rattle.keyman_run.specs.Orders.{bytes_host_work, host_script_work, host_work, tables_host_work};
 ghost use Rattle.keyman_run.specs.Run.{Does};
-ghost use Rattle.keyman_run.specs.Steps.{Gives, Tells, itself};
+ghost use Rattle.keyman_status.specs.Tells.{Tells};
+ghost use Rattle.keyman_run.specs.Steps.{Gives, itself};
 
 use crate::preparing::{Stop, first_line, own_names, read_file, read_stop};
-use crate::running::{end_status, tell_stop, write_status};
-use crate::status::Status;
+use crate::running::{end_status, tell_stop};
 use host_script::{HostEntry, read_host};
+use keyman_status::{Status, write_status};
 use keyman_words::{FileName, read};
 use kmn_base::limits::TEXT_BYTES;
 use kmn_base::{Code, Seq};

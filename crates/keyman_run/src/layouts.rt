@@ -12,15 +12,17 @@ use kmn_base::limits::TEXT_BYTES;
 use kmn_outside::Folder;
 use rule_model::Tables;
 use std::alloc::Global;
-use touch_layout::{LayoutError, LayoutFault, check_layout};
+use touch_layout::{LayoutError, LayoutFault, LayoutPlace, check_layout};
 
 /// Why a layout that passes its limit is refused: no place of it is meant.
 const LONG_LAYOUT: Reason = Reason::Layout(LayoutFault {
     code: Code::T7,
-    platform: 0,
-    layer: 0,
-    row: 0,
-    key: 0,
+    place: LayoutPlace {
+        platform: 0,
+        layer: 0,
+        row: 0,
+        key: 0,
+    },
 });
 
 /// Reads the touch layout of a name, checks it against the keyboard of the tables, and counts its keys.

@@ -13,24 +13,25 @@ ghost use Rattle.keyman_run.specs.Loads.{load_text};
 ghost use Rattle.keyman_lines.specs.Reasons.{reason_line};
 ghost use Rattle.keyman_run.specs.Run.{Does, TextMeans};
 ghost use Rattle.keyman_run.specs.Runs.{Runs};
-ghost use Rattle.keyman_run.specs.Steps.{IsCompiled, Tells, TellsFile, TellsLoad, TellsStop, write_status};
+ghost use Rattle.keyman_status.specs.Tells.{Tells, write_status};
+ghost use Rattle.keyman_run.specs.Steps.{IsCompiled, TellsFile, TellsLoad, TellsStop};
 
 use crate::hosting::host_on_file;
 use crate::layouts::read_keys;
 use crate::loading::played_load;
 use crate::preparing::{Prepared, Stop, prepare, read_and_compile, read_file, read_own_entries};
 use crate::shadowing::shadow_rules;
-use crate::status::Status;
 use crate::texts::read_text;
 use crate::tracing::trace_rules;
 use keyman_lines::{Reason, compiled_line, decompiled_line, reason_line, sound_line, valid_line};
+use keyman_status::{Status, tell_line, write_status};
 use keyman_words::{Command, FileName, command_of, write};
 use kmn_base::{Memory, Text};
 use kmn_compiler::Compiled;
-use kmn_outside::{Folder, Sink, WriteError};
+use kmn_outside::{Folder, Sink};
 use kmx_verifier::{Verified, verify};
 use play_session::Session;
-use play_transcript::{PlayEnd, play, put_all};
+use play_transcript::{PlayEnd, play};
 use rule_model::{Entry, Tables};
 use std::alloc::Global;
 
@@ -285,17 +286,6 @@ fn load<S: Sink>(alloc: Global, number: u32, out: &mut S) -> Status
     }
 }
 
-/// Prints a line, or several, and ends with this status.
-pub fn tell_line<S: Sink>(line: &[u8], status: Status, out: &mut S) -> Status
-    requires { (status ≡ Status.Done) ⊎ (status ≡ Status.Refused) }
-    ensures { Tells status line.now S.Sink out.old out.new result }
-{
-    match put_all(out, line) {
-        Ok(()) => status,
-        Err(error) => write_status(error),
-    }
-}
-
 /// Prints what the keyboard of a valid file does with a script.
 #[tactic(auto, using(play_transcript::proofs::PrintingLaws::none_begun))]
 fn tell_played<'a, S: Sink>(
@@ -386,15 +376,5 @@ pub fn end_status(end: PlayEnd) -> Status
         PlayEnd::Done => Status::Done,
         PlayEnd::Refused => Status::Refused,
         PlayEnd::ExpectFailed => Status::ExpectFailed,
-    }
-}
-
-/// The status of a run that ends with a write or a put that didn't succeed.
-pub fn write_status(error: WriteError) -> Status
-    ensures { result ≡ write_status error }
-{
-    match error {
-        WriteError::Failed => Status::WriteFault,
-        WriteError::Memory => Status::Memory,
     }
 }

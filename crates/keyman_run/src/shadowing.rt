@@ -7,9 +7,9 @@ ghost use Rattle.keyman_run.specs.Run.{Does};
 ghost use Rattle.keyman_run.specs.Steps.{IsCompiled, TellsDead};
 
 use crate::preparing::{Stop, read_and_compile};
-use crate::running::{tell_line, tell_stop};
-use crate::status::Status;
+use crate::running::tell_stop;
 use keyman_lines::Reason;
+use keyman_status::{Status, tell_line};
 use keyman_words::FileName;
 use kmn_compiler::Compiled;
 use kmn_outside::{Folder, Sink};

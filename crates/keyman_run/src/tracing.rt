@@ -12,11 +12,12 @@ ghost use Rattle.play_trace.specs.TraceText.{trace_text};
 ghost use Rattle.keyman_run.specs.Endings.{end_of_trace, trace_status};
 ghost use Rattle.keyman_run.specs.Orders.{trace_work};
 ghost use Rattle.keyman_run.specs.Run.{Does};
-ghost use Rattle.keyman_run.specs.Steps.{IsCompiled, Tells};
+ghost use Rattle.keyman_status.specs.Tells.{Tells};
+ghost use Rattle.keyman_run.specs.Steps.{IsCompiled};
 
 use crate::preparing::{Prepared, Stop, prepare};
-use crate::running::{tell_stop, write_status};
-use crate::status::Status;
+use crate::running::tell_stop;
+use keyman_status::{Status, write_status};
 use keyman_words::FileName;
 use kmn_outside::{Folder, Sink};
 use kmx_verifier::{Verified, verify};

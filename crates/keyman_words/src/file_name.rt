@@ -1,7 +1,7 @@
 //! Names of files. They have a type of their own, so that a name and the contents of a file can't take each other's place.
 
 ghost use Rattle.std.specs.Prelude.{◌≡◌, IfOk, IsTrue};
-ghost use Rattle.kmn_outside.specs.Outside.{ReadCounts, Reads, WriteCounts, Writes};
+ghost use Rattle.kmn_outside.specs.Outside.{IsLimited, ReadCounts, Reads, WriteCounts, Writes};
 ghost use Rattle.keyman_words.specs.Beside.{beside, folder_part};
 
 use kmn_base::slices::before;
@@ -43,6 +43,7 @@ pub fn read<F: Folder>(
     folder: &mut F,
 ) -> Result<Seq<u8>, ReadError>
     ensures counts { ReadCounts (F.faults folder.old) (F.faults folder.new) result }
+    ensures limited { IsLimited limit result }
     ensures told { F.told folder.new ≡ F.told folder.old }
     ensures reads { IsTrue (F.told folder.old) → Reads (F.files folder.old) (F.files folder.new) (F.calls folder.old) (F.calls folder.new) name.now limit result }
 {

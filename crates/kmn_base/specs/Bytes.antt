@@ -9,10 +9,6 @@ is_blank byte = (byte == 32) || (byte == 9)
 abbrev pub is_quote : ℕ → Bool
 is_quote byte = (byte == 34) || (byte == 39)
 
--- the value of a decimal digit
-abbrev pub decimal_digit : ℕ → Option ℕ
-decimal_digit byte = if nat_le 48 byte && nat_le byte 57 then Some (byte - 48) else None
-
 -- the value of a hexadecimal digit
 abbrev pub hex_digit : ℕ → Option ℕ
 hex_digit byte =

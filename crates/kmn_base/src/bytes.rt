@@ -1,7 +1,7 @@
 //! The kinds of bytes that sources and scripts are made of.
 
 ghost use Rattle.std.specs.Prelude.{◌≡◌, ◌<◌, IfSome};
-ghost use Rattle.kmn_base.specs.Bytes.{is_blank, is_quote, decimal_digit, hex_digit};
+ghost use Rattle.kmn_base.specs.Bytes.{is_blank, is_quote, hex_digit};
 
 /// Whether a byte is a space or a tab.
 pub fn is_blank(byte: u8) -> bool
@@ -15,17 +15,6 @@ pub fn is_quote(byte: u8) -> bool
     ensures { result ≡ is_quote byte }
 {
     byte == b'"' || byte == b'\''
-}
-
-/// The value of a decimal digit.
-pub fn decimal_digit(byte: u8) -> Option<u32>
-    ensures value { result ≡ decimal_digit byte }
-    ensures below { IfSome result (λ value. value < 10) }
-{
-    match byte {
-        b'0'..=b'9' => Some(u32::from(byte) - 48),
-        _ => None,
-    }
 }
 
 /// The value of a hexadecimal digit, in either case.

@@ -4,7 +4,8 @@ ghost use Rattle.kmn_base.specs.CodeTexts.{code_text};
 use std::fmt;
 
 /// The named rules. L and S are faults of a source's form, C of its meaning, V of a compiled file, P of a script, X of
-/// a file that can't be decompiled, T of a touch layout, G of a made load, E of an event.
+/// a file that can't be decompiled, T of a touch layout, G of what a made load and a search for dead rules take, H of a script
+/// for many fields, E of an event.
 #[derive(Clone, Copy, Debug, PartialEq, Eq)]
 pub enum Code {
     L01,

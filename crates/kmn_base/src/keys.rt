@@ -2,6 +2,27 @@
 /// that it is a virtual key.
 pub const SHIFT_FLAGS: u16 = 0x437F;
 
+// The shift flags one by one. A press has the sides, shift and caps lock at the same bits.
+pub const LEFT_CONTROL: u16 = 0x0001;
+
+pub const RIGHT_CONTROL: u16 = 0x0002;
+
+pub const LEFT_ALT: u16 = 0x0004;
+
+pub const RIGHT_ALT: u16 = 0x0008;
+
+pub const SHIFT: u16 = 0x0010;
+
+pub const EITHER_CONTROL: u16 = 0x0020;
+
+pub const EITHER_ALT: u16 = 0x0040;
+
+pub const CAPS: u16 = 0x0100;
+
+pub const NO_CAPS: u16 = 0x0200;
+/// The flag that a virtual key has.
+pub const VIRTUAL_KEY: u16 = 0x4000;
+
 /// The key of a compiled rule.
 #[derive(Clone, Copy, Debug, PartialEq, Eq)]
 pub enum RuleKey {

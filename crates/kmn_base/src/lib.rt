@@ -5,7 +5,7 @@
 //! `laws` says what holds of both. `specs/Names`, `specs/Bytes`, `specs/Digits`, `specs/Texts` and `specs/Rising` have
 //! the words for names, bytes, numbers in words, texts and rising lists, and `specs/Answers` says what code answers that
 //! may refuse or want for memory. The layer above uses `Seq`, which contracts see as its list, `slices`, `names`,
-//! `bytes`, `digits`, `texts`, and plain data.
+//! `bytes`, `digits`, `texts`, the flags of `keys`, `limits`, and plain data.
 #![tactic(auto)]
 
 pub mod bytes;
@@ -13,7 +13,7 @@ mod codes;
 pub mod digits;
 mod events;
 mod items;
-mod keys;
+pub mod keys;
 pub mod laws;
 pub mod limits;
 mod memory;

@@ -1,7 +1,11 @@
 //! Names and words, which compare without ASCII case, and tables of them.
 
-ghost use Rattle.std.specs.Prelude.{◌≡◌, map};
+ghost use Rattle.std.specs.Prelude.{◌≡◌, map, IfOk};
+ghost use Rattle.std.specs.Str.{str_to_ascii_lowercase};
 ghost use Rattle.kmn_base.specs.Names.{same_name, named_in};
+
+use crate::memory::Memory;
+use std::alloc::Global;
 
 /// Whether two names are the same, without ASCII case. Other letters are compared as they stand.
 #[tactic(auto, unfolding(crate::specs::Names::same_name))]
@@ -9,6 +13,15 @@ pub fn same_name(known: &[u8], name: &[u8]) -> bool
     ensures { result ≡ same_name known.now name.now }
 {
     known.eq_ignore_ascii_case(name)
+}
+
+/// A name in lower case.
+pub fn in_lower_case(alloc: Global, name: &[u8]) -> Result<Vec<u8>, Memory>
+    ensures { IfOk result (λ copy. copy.items ≡ str_to_ascii_lowercase name.now) }
+{
+    let mut copy = Vec::from_slice(alloc, name)?;
+    copy.make_ascii_lowercase();
+    Ok(copy)
 }
 
 /// What a table has for a name: the value of its first row with that name.

@@ -7,6 +7,9 @@ use crate::memory::Memory;
 use crate::sequence::Seq;
 use std::alloc::Global;
 
+/// More than any character's code.
+pub const NO_CHARACTER: u32 = 0x11_0000;
+
 /// How many characters a text has.
 pub fn character_count(text: &[u8]) -> usize
     ensures { result ≡ character_count text.now }

@@ -1,6 +1,7 @@
 -- Virtual keys in brackets.
 use Rattle.std.specs.Prelude.{ℕ, Bool, ◌&&◌, List, [], fold, bit_or, Some, None, unwrap_or}
 use Rattle.std.specs.List.{prefix_len}
+use Rattle.kmn_base.specs.declared.keys.TheConstants.{VIRTUAL_KEY}
 use Rattle.virtual_keys.specs.Keys.{key_code, shift_flag}
 use Rattle.rule_model.specs.declared.program.SrcItem.{SrcItem}
 use Rattle.rule_model.specs.declared.program.SrcItem.TheVariants as source
@@ -20,7 +21,7 @@ with_flag flags token = bit_or flags (flag_of token.text)
 
 -- the shift flags of words, above the flag of a virtual key
 abbrev pub flags_of : List LineToken → ℕ
-flags_of tokens = fold with_flag 0x4000 tokens
+flags_of tokens = fold with_flag VIRTUAL_KEY tokens
 
 -- a virtual key by its name: the name is kept where the key has no code of its own
 abbrev pub named_key : ℕ → List ℕ → KeyName

@@ -46,7 +46,7 @@ equal_at place tokens = unwrap_or (option_map (λ (token : LineToken). is_equal 
 
 -- the system options that an item can name, behind `&`, each with its id
 unfoldable pub option_ids : List (List ℕ × ℕ)
-option_ids = (codes "platform", 31) ∷ (codes "layer", 33) ∷ []
+option_ids = (codes "platform", PLATFORM) ∷ (codes "layer", LAYER) ∷ []
 
 -- the id of the system option of a name; None for another system store
 abbrev pub option_id : List ℕ → Option ℕ
@@ -78,8 +78,8 @@ setting name value = if is_system_name name then system_setting (option_id name)
 
 -- `layer` sets the layer in an output, and asks for it elsewhere
 abbrev pub layer_item : Where → List ℕ → SrcItem
-layer_item section.Output value = source.SetSystem 33 value
-layer_item place value = source.SystemEqual 33 value
+layer_item section.Output value = source.SetSystem LAYER value
+layer_item place value = source.SystemEqual LAYER value
 
 -- the item of a word in a section, of tokens in its form; the word has the place 0
 abbrev pub word_item : Where → ItemWord → List LineToken → SrcItem
@@ -101,5 +101,5 @@ word_item place word.Beep tokens = source.Beep
 word_item place word.Return tokens = source.Stop
 word_item place word.Call tokens = source.Call (text_at 2 tokens)
 word_item place word.Layer tokens = layer_item place (quoted (text_at 2 tokens))
-word_item place word.Platform tokens = source.SystemEqual 31 (quoted (text_at 2 tokens))
+word_item place word.Platform tokens = source.SystemEqual PLATFORM (quoted (text_at 2 tokens))
 word_item place other tokens = source.OutOfProfile

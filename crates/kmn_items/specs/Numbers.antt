@@ -5,6 +5,7 @@ use Rattle.std.specs.Str.{byte}
 use lib.Utf8.{scalar}
 use Rattle.kmn_base.specs.Digits.{are_digits, bounded_value}
 use Rattle.kmn_base.specs.declared.codes.Code.TheVariants.{L02, L04}
+use Rattle.kmn_base.specs.declared.texts.TheConstants.{NO_CHARACTER}
 use Rattle.kmn_items.specs.declared.syntax.Lead.{Lead}
 use Rattle.kmn_items.specs.declared.syntax.Lead.TheVariants as lead
 
@@ -43,7 +44,7 @@ character_lead c =
 -- what digits of a base are as an item
 abbrev pub digits_lead : ℕ → List ℕ → Lead
 digits_lead base digits =
-    if are_digits base digits then character_lead (bounded_value 0x110000 base digits)
+    if are_digits base digits then character_lead (bounded_value NO_CHARACTER base digits)
     else lead.Wrong L04
 
 -- whether a text is an offset: 1 to 9 decimal digits

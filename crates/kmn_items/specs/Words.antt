@@ -3,6 +3,7 @@ use Rattle.std.specs.Prelude.{ℕ, Bool, false, ◌&&◌, ◌||◌, nat_le, nat_
 use Rattle.std.specs.Str.{byte}
 use Rattle.kmn_base.specs.Names.{same_name, named_in}
 use Rattle.kmn_base.specs.Texts.{character_count}
+use Rattle.kmn_base.specs.declared.limits.TheConstants.{SOURCE_NAME_CHARS}
 use Rattle.virtual_keys.specs.Dictionary.{name_chars}
 use Rattle.virtual_keys.specs.Keys.{key_code, shift_flag}
 use Rattle.kmn_items.specs.declared.syntax.ItemWord.{ItemWord}
@@ -39,11 +40,11 @@ bare_name text = if is_system_name text then drop 1 text else text
 
 -- whether a name has 1 to 80 characters
 abbrev pub is_name : List ℕ → Bool
-is_name text = nat_lt 0 (character_count text) && nat_le (character_count text) 80
+is_name text = nat_lt 0 (character_count text) && nat_le (character_count text) SOURCE_NAME_CHARS
 
 -- whether a word is `T_` and at least one more character, of at most 80 characters
 abbrev pub is_touch_name : List ℕ → Bool
-is_touch_name text = same_name (take 2 text) (codes "T_") && nat_lt 2 (length text) && nat_le (character_count text) 80
+is_touch_name text = same_name (take 2 text) (codes "T_") && nat_lt 2 (length text) && nat_le (character_count text) SOURCE_NAME_CHARS
 
 -- whether a word names a key of the keyboard's own dictionary
 abbrev pub is_own_key : List ℕ → Bool

@@ -7,14 +7,12 @@ use crate::slots::broken;
 use crate::syntax::{Slot, TokenRefusal, Where};
 use crate::text::{LineTokens, text_in};
 use crate::words::is_modifier;
+use kmn_base::keys::VIRTUAL_KEY;
 use kmn_base::{Memory, Seq};
 use kmn_lines::{Token, TokenKind};
 use rule_model::{KeyName, SrcItem};
 use std::alloc::Global;
 use virtual_keys::{key_named, modifier_named};
-
-/// The bit that marks a virtual key in shift flags.
-const VIRTUAL_KEY: u16 = 0x4000;
 
 /// What stands behind the modifiers of a virtual key.
 const KEY_AND_END: [Slot; 2] = [Slot::KeyName, Slot::KeyEnd];

@@ -5,9 +5,7 @@ use crate::syntax::Lead;
 use kmn_base::Code;
 use kmn_base::digits::{are_digits, bounded_value, is_digit};
 use kmn_base::slices::behind;
-
-/// More than any character's code.
-const NO_CHARACTER: u32 = 0x11_0000;
+use kmn_base::texts::NO_CHARACTER;
 
 /// The largest number of nine digits.
 const LARGEST_OFFSET: u32 = 999_999_999;

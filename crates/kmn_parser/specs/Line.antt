@@ -16,6 +16,7 @@ use Rattle.rule_model.specs.declared.program.StoreDef.{StoreDef}
 use Rattle.rule_model.specs.declared.program.RuleDef.{RuleDef}
 use Rattle.rule_model.specs.declared.program.RuleKind.{RuleKind}
 use Rattle.rule_model.specs.declared.program.RuleKind.TheVariants.{Plain, OnMatch, OnNoMatch}
+use Rattle.rule_model.specs.declared.system.TheConstants.{BITMAP, VERSION, MNEMONIC_LAYOUT, CASED_KEYS, LEFT_OUT, DROPPED}
 use Rattle.kmn_items.specs.declared.syntax.TokenRefusal.{TokenRefusal}
 use Rattle.kmn_items.specs.declared.syntax.Slot.TheVariants as slot
 use Rattle.kmn_items.specs.declared.syntax.Where.TheVariants as section
@@ -64,17 +65,17 @@ first_of None later = later
 abbrev pub behind_close : List LineToken → List LineToken
 behind_close tokens = drop (place_of sign.Close tokens + 1) tokens
 
--- the id in a file of each system store of a source; 0xFFFF is read and dropped, 0xFFFE is left out by the checker
+-- the id in a file of each system store of a source; DROPPED is read and dropped, LEFT_OUT is left out by the checker
 unfoldable pub system_stores : List (List ℕ × ℕ)
 system_stores =
-    (codes "bitmap", 1) ∷ (codes "copyright", 2) ∷ (codes "hotkey", 3) ∷ (codes "message", 6) ∷ (codes "name", 7) ∷
-    (codes "version", 8) ∷ (codes "mnemoniclayout", 17) ∷ (codes "visualkeyboard", 24) ∷ (codes "layoutfile", 35) ∷
-    (codes "keyboardversion", 36) ∷ (codes "targets", 38) ∷ (codes "casedkeys", 39) ∷ (codes "includecodes", 0xFFFE) ∷
-    (codes "capsalwaysoff", 0xFFFE) ∷ (codes "capsononly", 0xFFFE) ∷ (codes "shiftfreescaps", 0xFFFE) ∷
-    (codes "ethnologuecode", 0xFFFF) ∷ (codes "windowslanguages", 0xFFFF) ∷ (codes "language", 0xFFFF) ∷
-    (codes "layout", 0xFFFF) ∷ (codes "languagename", 0xFFFF) ∷ (codes "displaymap", 0xFFFF) ∷ (codes "kmw_rtl", 0xFFFF) ∷
-    (codes "kmw_helpfile", 0xFFFF) ∷ (codes "kmw_helptext", 0xFFFF) ∷ (codes "kmw_embedjs", 0xFFFF) ∷
-    (codes "kmw_embedcss", 0xFFFF) ∷ []
+    (codes "bitmap", BITMAP) ∷ (codes "copyright", 2) ∷ (codes "hotkey", 3) ∷ (codes "message", 6) ∷ (codes "name", 7) ∷
+    (codes "version", VERSION) ∷ (codes "mnemoniclayout", MNEMONIC_LAYOUT) ∷ (codes "visualkeyboard", 24) ∷
+    (codes "layoutfile", 35) ∷ (codes "keyboardversion", 36) ∷ (codes "targets", 38) ∷ (codes "casedkeys", CASED_KEYS) ∷
+    (codes "includecodes", LEFT_OUT) ∷ (codes "capsalwaysoff", LEFT_OUT) ∷ (codes "capsononly", LEFT_OUT) ∷
+    (codes "shiftfreescaps", LEFT_OUT) ∷ (codes "ethnologuecode", DROPPED) ∷ (codes "windowslanguages", DROPPED) ∷
+    (codes "language", DROPPED) ∷ (codes "layout", DROPPED) ∷ (codes "languagename", DROPPED) ∷ (codes "displaymap", DROPPED) ∷
+    (codes "kmw_rtl", DROPPED) ∷ (codes "kmw_helpfile", DROPPED) ∷ (codes "kmw_helptext", DROPPED) ∷
+    (codes "kmw_embedjs", DROPPED) ∷ (codes "kmw_embedcss", DROPPED) ∷ []
 
 -- the id of a store by its name: 0 for one without &, None for a system store that there isn't
 abbrev pub store_system : List ℕ → Option ℕ

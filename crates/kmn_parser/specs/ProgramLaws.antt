@@ -16,7 +16,7 @@ use Rattle.rule_model.specs.declared.program.Program.{Program}
 use Rattle.kmn_items.specs.Words.{is_own_key}
 use Rattle.kmn_items.specs.Forms.{is_option_id}
 use Rattle.kmn_parser.specs.Source.{parsed}
-use Rattle.rule_model.specs.declared.system.TheConstants.{LAYER}
+use Rattle.rule_model.specs.declared.system.TheConstants.{LAYER, KEY_DICTIONARY}
 
 -- a character of a keyboard: a scalar value other than U+0000 and U+FFFF
 pub record IsCharacter (c : ℕ) : Type 0 where
@@ -75,7 +75,7 @@ pub record IsLine (line : ℕ) : Type 0 where
 pub record IsReadStore (store : StoreDef) : Type 0 where
   pub line : IsLine store.line
   pub system : store.system < 2 ^ 32
-  pub no_dictionary : store.system ≢ 34
+  pub no_dictionary : store.system ≢ KEY_DICTIONARY
   pub named : store.system ≡ 0 → IsName store.name
   pub unnamed : store.system ≢ 0 → store.name ≡ []
   pub items : All IsReadItem store.items

@@ -12,19 +12,19 @@ use kmn_items::{
     LineError, LineTokens, Slot, TokenRefusal, Where, bare_name, begins_open, broken,
     is_system_name, read_items,
 };
-use rule_model::system::{CASED_KEYS, DROPPED, LEFT_OUT};
+use rule_model::system::{BITMAP, CASED_KEYS, DROPPED, LEFT_OUT, MNEMONIC_LAYOUT, VERSION};
 use rule_model::{SrcItem, StoreDef};
 use std::alloc::Global;
 
 /// The id of each system store that a source can state.
 static SYSTEM_STORES: [(&str, u32); 27] = [
-    ("bitmap", 1),
+    ("bitmap", BITMAP),
     ("copyright", 2),
     ("hotkey", 3),
     ("message", 6),
     ("name", 7),
-    ("version", 8),
-    ("mnemoniclayout", 17),
+    ("version", VERSION),
+    ("mnemoniclayout", MNEMONIC_LAYOUT),
     ("visualkeyboard", 24),
     ("layoutfile", 35),
     ("keyboardversion", 36),

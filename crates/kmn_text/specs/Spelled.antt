@@ -29,7 +29,7 @@ use Rattle.kmn_parser.specs.Line.{system_stores}
 use Rattle.kmn_parser.specs.ProgramLaws.{IsCharacter}
 use Rattle.kmn_text.specs.Names.{is_inner, is_source_name}
 use Rattle.kmn_text.specs.Programs.{program_text}
-use Rattle.rule_model.specs.declared.system.TheConstants.{LAYER}
+use Rattle.rule_model.specs.declared.system.TheConstants.{LAYER, VERSION}
 
 -- a name: UTF-8, which a source reads as it is
 pub record IsSpelledName (name : List ℕ) : Type 0 where
@@ -134,8 +134,8 @@ IsSpelledVersion items = (value : List ℕ) × (items ≡ map source.Char value)
 pub record IsSpelledStore (store : StoreDef) : Type 0 where
   pub ordinary : store.system ≡ 0 → IsStoreName store.name
   pub system : store.system ≢ 0 → (is_system_id store.system ≡ true) × (store.name ≡ [])
-  pub version : store.system ≡ 8 → IsSpelledVersion store.items
-  pub content : store.system ≢ 8 → AreSpelled section.Store unseen store.items
+  pub version : store.system ≡ VERSION → IsSpelledVersion store.items
+  pub content : store.system ≢ VERSION → AreSpelled section.Store unseen store.items
 
 -- a rule has a key in a group with keys, and there alone
 abbrev pub IsSpelledAsKey : Bool → Option SrcItem → Type 0

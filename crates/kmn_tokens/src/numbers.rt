@@ -1,20 +1,22 @@
 //! Numbers as `U+` and hexadecimal digits.
 
 ghost use Rattle.std.specs.Prelude.{◌≡◌, ◌≤◌};
+ghost use Rattle.kmn_base.specs.declared.texts.TheConstants.{NO_CHARACTER};
 ghost use Rattle.kmn_lines.specs.Tokens.{hex_value, all_digits, value_fault, digits_fault};
 ghost use Rattle.kmn_tokens.specs.Scanning.{Gives};
 
 use kmn_base::Code;
 use kmn_base::bytes::hex_digit;
+use kmn_base::texts::NO_CHARACTER;
 
 /// The number that digits write, capped past all characters.
 fn hex_value(digits: &[u8]) -> u32
     ensures is { result ≡ hex_value 0 digits.now }
-    ensures within { result ≤ 0x11_0000 }
+    ensures within { result ≤ NO_CHARACTER }
 {
     let mut value = 0;
     for digit in digits {
-        value = (value * 16 + hex_digit(*digit).unwrap_or(0)).min(0x11_0000);
+        value = (value * 16 + hex_digit(*digit).unwrap_or(0)).min(NO_CHARACTER);
     }
     value
 }

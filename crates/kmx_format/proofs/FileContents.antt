@@ -121,7 +121,7 @@ utf16_lossy_chars-units (c ∷ cs) h =
     ap (map (λ o. unwrap_or o 0xFFFD)) (utf16_chars-char c (flat_map char_units cs) parts.0)
     ∙ ap (λ (read : List ℕ). c ∷ read) (utf16_lossy_chars-units cs parts.1)
 
-units-nonzero : (cs : List ℕ) → All (λ c. (c ≢ 0) × (c ≢ 0xFFFF)) cs → All (λ unit. unit ≢ 0) (flat_map char_units cs)
+pub units-nonzero : (cs : List ℕ) → All (λ c. (c ≢ 0) × (c ≢ 0xFFFF)) cs → All (λ unit. unit ≢ 0) (flat_map char_units cs)
 units-nonzero [] h = All-nil (λ unit. unit ≢ 0)
 units-nonzero (c ∷ cs) h =
     All-append (λ unit. unit ≢ 0) (char_units c) (flat_map char_units cs) (char_units-nonzero c (All-head (λ d. (d ≢ 0) × (d ≢ 0xFFFF)) c cs h).0)

@@ -13,11 +13,11 @@ use Rattle.kmx_format.proofs.FileStands.{StandsAt, end_within, front, back, same
 use Rattle.kmx_format.proofs.FileContents.{outputs_at-stands, name_at-stands}
 use Rattle.kmx_format.proofs.FileRecords.{offset_of-le, length-rule_records, rule_records-append, rules_from-stands}
 
-flag-small : (b : Bool) → flag b < 2 ^ 32
+pub flag-small : (b : Bool) → flag b < 2 ^ 32
 flag-small false = lit< tt
 flag-small true = lit< tt
 
-flag-read : (b : Bool) → not (nat_eq (flag b) 0) ≡ b
+pub flag-read : (b : Bool) → not (nat_eq (flag b) 0) ≡ b
 flag-read false = refl
 flag-read true = refl
 

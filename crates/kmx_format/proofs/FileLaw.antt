@@ -150,7 +150,7 @@ parts tables picture =
       last = same_place bytes (0 + length (a ++ b ++ c ++ d ++ e ++ f ++ g)) (picture_place tables) picture (omega (arith, ends.to_picture)) (back bytes 0 (a ++ b ++ c ++ d ++ e ++ f ++ g) picture (whole bytes));
     }
 
-start-small : (tables : Tables) → IsWritable tables → tables.start_ansi < 2 ^ 32
+pub start-small : (tables : Tables) → IsWritable tables → tables.start_ansi < 2 ^ 32
 start-small tables writable =
     elim writable.start_ansi [
       | inl below ↦ omega (arith, writable.group_count)

@@ -76,7 +76,7 @@ key_code-small true Any h = absurd h
 key_code-small true (Char unit) h = h
 key_code-small true (Virtual flags code) h = h.2
 
-key_flags-small : (using_keys : Bool) (key : RuleKey) → IsWritableKey using_keys key → key_flags key < 2 ^ 32
+pub key_flags-small : (using_keys : Bool) (key : RuleKey) → IsWritableKey using_keys key → key_flags key < 2 ^ 32
 key_flags-small false Any h = lit< tt
 key_flags-small false (Char unit) h = absurd h
 key_flags-small false (Virtual flags code) h = absurd h

@@ -1,5 +1,5 @@
 -- The definition of a file gives the bytes that were worked out by hand.
-use Rattle.std.proofs.Common.{◌≢◌, ℕ, ◌^◌, ◌<◌, true, List, [], ◌∷◌, refl, sym, arith, lit<, lit≤, inr}
+use Rattle.std.proofs.Common.{◌≢◌, ℕ, ◌^◌, ◌<◌, true, List, [], ◌∷◌, refl, arith, lit<, lit≤, inr}
 use Rattle.std.specs.List.{All}
 use Rattle.std.specs.Str.{chars}
 use Rattle.std.proofs.lemmas.List.Elements.{All-nil, All-from_recursion}
@@ -12,9 +12,9 @@ use Rattle.rule_model.specs.declared.tables.Out.TheVariants as output
 use Rattle.rule_model.specs.declared.tables.Rule.{Rule}
 use Rattle.kmx_format.specs.FileUnits.{unit_item_of_element, item_units, name_units}
 use Rattle.kmx_format.specs.File.{half, word, string, file_of}
-use Rattle.kmx_format.specs.Writable.{PointsInto, IsWritableStore, IsWritableKey, IsWritableRule, IsWritableGroup, IsWritable, IsFile}
+use Rattle.kmx_format.specs.Writable.{PointsInto, IsWritableStore, IsWritableKey, IsWritableRule, IsWritableGroup, IsWritable}
 use Rattle.kmx_format.proofs.WritableParts.{writable_name, no_context, characters_output, no_output}
-use Rattle.kmx_format.specs.WorkedFiles.{plain_rule, one_rule, two_keys, one_rule_bytes, two_keys_bytes, AreWorkedFiles}
+use Rattle.kmx_format.specs.WorkedFiles.{plain_rule, one_rule, two_keys, AreWorkedFiles}
 
 module _ (stores : ℕ) where
   writable_rule : (line : ℕ) (k : RuleKey) (c : ℕ) → line < 2 ^ 32 → IsWritableKey true k → IsSpellable (spelled.Char c) → IsWritableRule stores 1 true (plain_rule line k c)
@@ -97,9 +97,3 @@ two_keys_is_writable = record {
 pub worked_files : AreWorkedFiles
 unfolding file_of half word string item_units name_units chars
 worked_files = record { of_one_rule = refl; of_two_keys = refl }
-
-pub one_rule_is_file : IsFile one_rule_bytes
-one_rule_is_file = record { tables = one_rule; picture = []; writable = one_rule_is_writable; picture_size = lit≤ tt; file_size = lit≤ tt; is = sym worked_files.of_one_rule }
-
-pub two_keys_is_file : IsFile two_keys_bytes
-two_keys_is_file = record { tables = two_keys; picture = []; writable = two_keys_is_writable; picture_size = lit≤ tt; file_size = lit≤ tt; is = sym worked_files.of_two_keys }

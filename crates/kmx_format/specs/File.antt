@@ -10,6 +10,7 @@ use Rattle.rule_model.specs.declared.tables.Rule.{Rule}
 use Rattle.rule_model.specs.declared.tables.Store.{Store}
 use Rattle.rule_model.specs.declared.tables.Group.{Group}
 use Rattle.rule_model.specs.declared.tables.Tables.{Tables}
+use Rattle.kmx_format.specs.declared.places.TheConstants.{IDENTIFIER}
 use Rattle.kmx_format.specs.declared.sizes.TheConstants.{HEADER_BYTES, STORE_BYTES, GROUP_BYTES, RULE_BYTES}
 use Rattle.kmx_format.specs.FileUnits.{element_units, pattern_units, output_units, name_units}
 
@@ -145,7 +146,7 @@ picture_place tables = rule_strings_place tables + length (flat_map rule_strings
 -- hotkey, picture
 abbrev pub header_words : Tables → List ℕ → List ℕ
 header_words tables picture =
-    0x5354_584B ∷ tables.version ∷ 0 ∷ 0 ∷ 0 ∷ 0
+    IDENTIFIER ∷ tables.version ∷ 0 ∷ 0 ∷ 0 ∷ 0
     ∷ length tables.stores ∷ length tables.groups
     ∷ offset_of tables.stores stores_place ∷ offset_of tables.groups (groups_place tables)
     ∷ tables.start_ansi ∷ tables.start_unicode ∷ 0 ∷ 0

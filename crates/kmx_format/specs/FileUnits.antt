@@ -7,6 +7,7 @@ use Rattle.kmn_base.specs.declared.items.Element.TheVariants as element
 use Rattle.kmn_base.specs.declared.units.UnitItem.{UnitItem}
 use Rattle.kmn_base.specs.declared.units.UnitItem.TheVariants as spelled
 use Rattle.kmn_base.specs.Spelling.{char_units, spelling}
+use Rattle.item_codec.specs.declared.item_codes.TheConstants.{EQUAL, UNEQUAL}
 use Rattle.rule_model.specs.declared.tables.Pat.{Pat}
 use Rattle.rule_model.specs.declared.tables.Pat.TheVariants as pattern
 use Rattle.rule_model.specs.declared.tables.Out.{Out}
@@ -18,7 +19,7 @@ unit_item_of_element (element.Char c) = spelled.Char c
 unit_item_of_element (element.Mark mark) = spelled.Dead mark
 unit_item_of_element (element.Key flags code) = spelled.Key flags code
 
--- an item of a context as it is spelled; a file counts stores from 1, and has 2 for equal and 1 for unequal
+-- an item of a context as it is spelled; a file counts stores from 1
 abbrev pub unit_item_of_pattern : Pat → UnitItem
 unit_item_of_pattern (pattern.Char c) = spelled.Char c
 unit_item_of_pattern (pattern.Mark mark) = spelled.Dead mark
@@ -26,10 +27,10 @@ unit_item_of_pattern (pattern.Any store) = spelled.Any (store + 1)
 unit_item_of_pattern (pattern.NotAny store) = spelled.NotAny (store + 1)
 unit_item_of_pattern (pattern.Index store offset) = spelled.Index (store + 1) offset
 unit_item_of_pattern (pattern.ContextAt offset) = spelled.ContextAt offset
-unit_item_of_pattern (pattern.Equal store value) = spelled.Test (store + 1) 2 (value + 1)
-unit_item_of_pattern (pattern.Unequal store value) = spelled.Test (store + 1) 1 (value + 1)
-unit_item_of_pattern (pattern.SystemEqual id value) = spelled.SystemTest (id + 1) 2 (value + 1)
-unit_item_of_pattern (pattern.SystemUnequal id value) = spelled.SystemTest (id + 1) 1 (value + 1)
+unit_item_of_pattern (pattern.Equal store value) = spelled.Test (store + 1) EQUAL (value + 1)
+unit_item_of_pattern (pattern.Unequal store value) = spelled.Test (store + 1) UNEQUAL (value + 1)
+unit_item_of_pattern (pattern.SystemEqual id value) = spelled.SystemTest (id + 1) EQUAL (value + 1)
+unit_item_of_pattern (pattern.SystemUnequal id value) = spelled.SystemTest (id + 1) UNEQUAL (value + 1)
 unit_item_of_pattern pattern.Nul = spelled.Nul
 
 -- an item of an output as it is spelled; a file counts stores and groups from 1

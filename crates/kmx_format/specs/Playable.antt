@@ -4,6 +4,7 @@ use Rattle.std.specs.Prelude.{◌≡◌, ℕ, ◌^◌, ◌<◌, ◌≤◌, ◌�
 use Rattle.std.specs.List.{All, flat_map}
 use Rattle.kmn_base.specs.declared.limits.TheConstants.{STORE_ELEMENTS, STORES, GROUPS, RECORDS, ALL_ELEMENTS}
 use Rattle.kmn_base.specs.Spelling.{IsSpellable}
+use Rattle.rule_model.specs.declared.system.TheConstants.{NO_GROUP}
 use Rattle.rule_model.specs.declared.tables.Store.{Store}
 use Rattle.rule_model.specs.declared.tables.Group.{Group}
 use Rattle.rule_model.specs.declared.tables.Tables.{Tables}
@@ -27,7 +28,7 @@ pub record IsPlayableGroup (store_count group_count : ℕ) (group : Group) : Typ
 pub record IsPlayable (tables : Tables) : Type 0 where
   pub version : is_version tables.version ≡ true
   pub start_unicode : tables.start_unicode < length tables.groups
-  pub start_ansi : (tables.start_ansi < length tables.groups) ⊎ (tables.start_ansi ≡ 0xFFFF_FFFF)
+  pub start_ansi : (tables.start_ansi < length tables.groups) ⊎ (tables.start_ansi ≡ NO_GROUP)
   pub stores : All IsPlayableStore tables.stores
   pub groups : All (IsPlayableGroup (length tables.stores) (length tables.groups)) tables.groups
   pub store_count : length tables.stores ≤ STORES

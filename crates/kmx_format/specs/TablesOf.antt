@@ -12,6 +12,7 @@ use Rattle.kmn_base.specs.declared.keys.RuleKey.TheVariants as key
 use Rattle.kmn_base.specs.declared.units.UnitItem.{UnitItem}
 use Rattle.kmn_base.specs.declared.units.UnitItem.TheVariants as spelled
 use Rattle.kmn_base.specs.Spelling.{unit_bytes, whole_units}
+use Rattle.item_codec.specs.declared.item_codes.TheConstants.{EQUAL, UNEQUAL}
 use Rattle.item_codec.specs.Walk.{items_given, results_of}
 use Rattle.rule_model.specs.declared.tables.Pat.{Pat}
 use Rattle.rule_model.specs.declared.tables.Pat.TheVariants as pattern
@@ -21,7 +22,7 @@ use Rattle.rule_model.specs.declared.tables.Rule.{Rule}
 use Rattle.rule_model.specs.declared.tables.Store.{Store}
 use Rattle.rule_model.specs.declared.tables.Group.{Group}
 use Rattle.rule_model.specs.declared.tables.Tables.{Tables}
-use Rattle.kmx_format.specs.declared.places.TheConstants.{GROUPS_AT, GROUP_COUNT_AT, START_ANSI_AT, START_UNICODE_AT, STORES_AT, STORE_COUNT_AT, VERSION_AT}
+use Rattle.kmx_format.specs.declared.places.TheConstants.{GROUPS_AT, GROUP_COUNT_AT, GROUP_MATCH_AT, GROUP_NOMATCH_AT, GROUP_RULES_AT, GROUP_RULE_COUNT_AT, GROUP_USING_KEYS_AT, RULE_CONTEXT_AT, RULE_FLAGS_AT, RULE_LINE_AT, RULE_OUTPUT_AT, START_ANSI_AT, START_UNICODE_AT, STORES_AT, STORE_COUNT_AT, STORE_ELEMENTS_AT, STORE_NAME_AT, VERSION_AT}
 use Rattle.kmx_format.specs.declared.sizes.TheConstants.{STORE_BYTES, GROUP_BYTES, RULE_BYTES}
 
 -- the number in the two bytes at a place
@@ -52,17 +53,17 @@ element_of_unit_item (spelled.Dead mark) = Some (element.Mark mark)
 element_of_unit_item (spelled.Key flags code) = Some (element.Key flags code)
 element_of_unit_item _ = None
 
--- a comparison: 1 for unequal, 2 for equal
+-- a comparison
 abbrev pub comparison_of : ℕ → ℕ → ℕ → Option Pat
 comparison_of store comparison value =
-    if nat_eq comparison 1 then Some (pattern.Unequal (store - 1) (value - 1))
-    else if nat_eq comparison 2 then Some (pattern.Equal (store - 1) (value - 1))
+    if nat_eq comparison UNEQUAL then Some (pattern.Unequal (store - 1) (value - 1))
+    else if nat_eq comparison EQUAL then Some (pattern.Equal (store - 1) (value - 1))
     else None
 
 abbrev pub system_comparison_of : ℕ → ℕ → ℕ → Option Pat
 system_comparison_of system comparison value =
-    if nat_eq comparison 1 then Some (pattern.SystemUnequal (system - 1) (value - 1))
-    else if nat_eq comparison 2 then Some (pattern.SystemEqual (system - 1) (value - 1))
+    if nat_eq comparison UNEQUAL then Some (pattern.SystemUnequal (system - 1) (value - 1))
+    else if nat_eq comparison EQUAL then Some (pattern.SystemEqual (system - 1) (value - 1))
     else None
 
 -- the item of a context that is spelled so
@@ -115,8 +116,8 @@ outputs_at bytes offset = filter_map output_of_unit_item (items_of (string_at by
 abbrev pub store_at : List ℕ → ℕ → Store
 store_at bytes place = record {
   system = word_at bytes place;
-  name = name_at bytes (word_at bytes (place + 4));
-  elements = elements_at bytes (word_at bytes (place + 8));
+  name = name_at bytes (word_at bytes (place + STORE_NAME_AT));
+  elements = elements_at bytes (word_at bytes (place + STORE_ELEMENTS_AT));
 }
 
 -- so many stores, whose records stand one after the other
@@ -134,11 +135,11 @@ key_of using_keys code flags =
 -- the key record at a place; a file doesn't keep the place in a key store
 abbrev pub rule_at : List ℕ → Bool → ℕ → Rule
 rule_at bytes using_keys place = record {
-  line = word_at bytes (place + 4);
+  line = word_at bytes (place + RULE_LINE_AT);
   place = 0;
-  key = key_of using_keys (half_at bytes place) (word_at bytes (place + 8));
-  context = patterns_at bytes (word_at bytes (place + 16));
-  output = outputs_at bytes (word_at bytes (place + 12));
+  key = key_of using_keys (half_at bytes place) (word_at bytes (place + RULE_FLAGS_AT));
+  context = patterns_at bytes (word_at bytes (place + RULE_CONTEXT_AT));
+  output = outputs_at bytes (word_at bytes (place + RULE_OUTPUT_AT));
 }
 
 -- so many key records, one after the other
@@ -148,16 +149,16 @@ rules_from bytes using_keys place (suc count) = rule_at bytes using_keys place �
 
 -- whether the group whose record stands at a place uses keys
 abbrev pub uses_keys_at : List ℕ → ℕ → Bool
-uses_keys_at bytes place = not (nat_eq (word_at bytes (place + 20)) 0)
+uses_keys_at bytes place = not (nat_eq (word_at bytes (place + GROUP_USING_KEYS_AT)) 0)
 
 -- the group whose record stands at a place
 abbrev pub group_at : List ℕ → ℕ → Group
 group_at bytes place = record {
   name = name_at bytes (word_at bytes place);
   using_keys = uses_keys_at bytes place;
-  rules = rules_from bytes (uses_keys_at bytes place) (word_at bytes (place + 4)) (word_at bytes (place + 16));
-  on_match = outputs_at bytes (word_at bytes (place + 8));
-  on_nomatch = outputs_at bytes (word_at bytes (place + 12));
+  rules = rules_from bytes (uses_keys_at bytes place) (word_at bytes (place + GROUP_RULES_AT)) (word_at bytes (place + GROUP_RULE_COUNT_AT));
+  on_match = outputs_at bytes (word_at bytes (place + GROUP_MATCH_AT));
+  on_nomatch = outputs_at bytes (word_at bytes (place + GROUP_NOMATCH_AT));
 }
 
 -- so many groups, whose records stand one after the other

@@ -3,6 +3,7 @@ use Rattle.std.specs.Prelude.{◌≡◌, ℕ, true, List, [], ◌∷◌}
 use Rattle.kmn_base.specs.declared.items.Element.TheVariants as element
 use Rattle.kmn_base.specs.declared.keys.RuleKey.{RuleKey}
 use Rattle.kmn_base.specs.declared.keys.RuleKey.TheVariants as key
+use Rattle.rule_model.specs.declared.system.TheConstants.{NO_GROUP}
 use Rattle.rule_model.specs.declared.tables.Out.TheVariants as output
 use Rattle.rule_model.specs.declared.tables.Rule.{Rule}
 use Rattle.rule_model.specs.declared.tables.Store.{Store}
@@ -17,7 +18,7 @@ plain_rule line k c = record { line = line; place = 0; key = k; context = []; ou
 abbrev pub main_tables : List Store → List Rule → Tables
 main_tables stores rules = record {
   version = 0x0A00;
-  start_ansi = 0xFFFF_FFFF;
+  start_ansi = NO_GROUP;
   start_unicode = 0;
   stores = stores;
   groups = record { name = 0x6D ∷ 0x61 ∷ 0x69 ∷ 0x6E ∷ []; using_keys = true; rules = rules; on_match = []; on_nomatch = [] } ∷ [];

@@ -18,7 +18,7 @@ use Rattle.rule_model.specs.declared.tables.Group.{Group}
 use Rattle.rule_model.specs.declared.tables.Tables.{Tables}
 use Rattle.kmx_format.specs.FileUnits.{unit_item_of_element, unit_item_of_pattern, unit_item_of_output, name_units}
 use Rattle.kmx_format.specs.File.{all_rules, file_of}
-use Rattle.rule_model.specs.declared.system.TheConstants.{LAYER, PLATFORM}
+use Rattle.rule_model.specs.declared.system.TheConstants.{LAYER, NO_GROUP, PLATFORM}
 
 -- the versions of the format: 6.0, 7.0, 8.0, 9.0, 10.0, 14.0, 15.0, 16.0, 17.0
 abbrev pub is_version : ℕ → Bool
@@ -163,7 +163,7 @@ elements_of store = store.elements
 pub record IsWritable (tables : Tables) : Type 0 where
   pub version : is_version tables.version ≡ true
   pub start_unicode : tables.start_unicode < length tables.groups
-  pub start_ansi : (tables.start_ansi < length tables.groups) ⊎ (tables.start_ansi ≡ 0xFFFF_FFFF)
+  pub start_ansi : (tables.start_ansi < length tables.groups) ⊎ (tables.start_ansi ≡ NO_GROUP)
   pub stores : All IsWritableStore tables.stores
   pub groups : All (IsWritableGroup (length tables.stores) (length tables.groups)) tables.groups
   pub store_count : length tables.stores ≤ STORES

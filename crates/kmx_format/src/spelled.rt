@@ -5,6 +5,7 @@ ghost use Rattle.kmn_base.specs.declared.units.UnitItem.{UnitItem};
 ghost use Rattle.kmn_base.specs.Spelling.{IsSpellable};
 ghost use Rattle.kmx_format.specs.FileUnits.{unit_item_of_element, unit_item_of_pattern, unit_item_of_output};
 
+use item_codec::item_codes::{EQUAL, UNEQUAL};
 use kmn_base::{Element, UnitItem};
 use rule_model::{Out, Pat};
 
@@ -49,10 +50,18 @@ impl Spelled for Pat {
             Pat::NotAny(store) => UnitItem::NotAny(from_one(store)),
             Pat::Index(store, offset) => UnitItem::Index(from_one(store), offset as u16),
             Pat::ContextAt(offset) => UnitItem::ContextAt(offset as u16),
-            Pat::Equal(store, value) => UnitItem::Test(from_one(store), 2, from_one(value)),
-            Pat::Unequal(store, value) => UnitItem::Test(from_one(store), 1, from_one(value)),
-            Pat::SystemEqual(id, value) => UnitItem::SystemTest(from_one(id), 2, from_one(value)),
-            Pat::SystemUnequal(id, value) => UnitItem::SystemTest(from_one(id), 1, from_one(value)),
+            Pat::Equal(store, value) => UnitItem::Test(from_one(store), EQUAL, from_one(value)),
+            Pat::Unequal(store, value) => UnitItem::Test(from_one(store), UNEQUAL, from_one(value)),
+            Pat::SystemEqual(id, value) => UnitItem::SystemTest(
+                from_one(id),
+                EQUAL,
+                from_one(value),
+            ),
+            Pat::SystemUnequal(id, value) => UnitItem::SystemTest(
+                from_one(id),
+                UNEQUAL,
+                from_one(value),
+            ),
             Pat::Nul => UnitItem::Nul,
         }
     }

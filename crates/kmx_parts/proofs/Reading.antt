@@ -4,6 +4,7 @@ use Rattle.std.specs.Prelude.{Some, None, slice_get}
 use Rattle.std.proofs.lemmas.Option.{slice_get_past}
 use Rattle.kmn_base.specs.Spelling.{unit_bytes, whole_units}
 use Rattle.kmn_base.proofs.UnitBytes.{whole_units-unit_bytes}
+use Rattle.kmx_format.specs.declared.sizes.TheConstants.{GROUP_BYTES, RULE_BYTES, STORE_BYTES}
 use Rattle.kmx_format.specs.TablesOf.{store_at, stores_from, rule_at, rules_from, group_at, groups_from}
 
 -- the units of the bytes of units
@@ -42,55 +43,55 @@ module _ {X : Type 0} (record_at : ℕ → X) (size : ℕ) (records_from : ℕ �
 
 -- so many stores are there, each at its place, and no other
 pub store_count : (bytes : List ℕ) (place count : ℕ) → count ≡ length (stores_from bytes place count)
-store_count bytes = record_count (store_at bytes) 12 (stores_from bytes) (λ _. refl) (λ _ _. refl)
+store_count bytes = record_count (store_at bytes) STORE_BYTES (stores_from bytes) (λ _. refl) (λ _ _. refl)
 
-pub store_there : (bytes : List ℕ) (place count i : ℕ) → i < count → Some (store_at bytes (place + 12 * i)) ≡ slice_get (stores_from bytes place count) i
-store_there bytes = record_there (store_at bytes) 12 (stores_from bytes) (λ _. refl) (λ _ _. refl)
+pub store_there : (bytes : List ℕ) (place count i : ℕ) → i < count → Some (store_at bytes (place + STORE_BYTES * i)) ≡ slice_get (stores_from bytes place count) i
+store_there bytes = record_there (store_at bytes) STORE_BYTES (stores_from bytes) (λ _. refl) (λ _ _. refl)
 
 pub store_past : (bytes : List ℕ) (place count i : ℕ) → count ≤ i → None ≡ slice_get (stores_from bytes place count) i
-store_past bytes = record_past (store_at bytes) 12 (stores_from bytes) (λ _. refl) (λ _ _. refl)
+store_past bytes = record_past (store_at bytes) STORE_BYTES (stores_from bytes) (λ _. refl) (λ _ _. refl)
 
 -- the same of groups
 pub group_count : (bytes : List ℕ) (place count : ℕ) → count ≡ length (groups_from bytes place count)
-group_count bytes = record_count (group_at bytes) 24 (groups_from bytes) (λ _. refl) (λ _ _. refl)
+group_count bytes = record_count (group_at bytes) GROUP_BYTES (groups_from bytes) (λ _. refl) (λ _ _. refl)
 
-pub group_there : (bytes : List ℕ) (place count i : ℕ) → i < count → Some (group_at bytes (place + 24 * i)) ≡ slice_get (groups_from bytes place count) i
-group_there bytes = record_there (group_at bytes) 24 (groups_from bytes) (λ _. refl) (λ _ _. refl)
+pub group_there : (bytes : List ℕ) (place count i : ℕ) → i < count → Some (group_at bytes (place + GROUP_BYTES * i)) ≡ slice_get (groups_from bytes place count) i
+group_there bytes = record_there (group_at bytes) GROUP_BYTES (groups_from bytes) (λ _. refl) (λ _ _. refl)
 
 pub group_past : (bytes : List ℕ) (place count i : ℕ) → count ≤ i → None ≡ slice_get (groups_from bytes place count) i
-group_past bytes = record_past (group_at bytes) 24 (groups_from bytes) (λ _. refl) (λ _ _. refl)
+group_past bytes = record_past (group_at bytes) GROUP_BYTES (groups_from bytes) (λ _. refl) (λ _ _. refl)
 
 -- the same of the key records of a group
 pub rule_count : (bytes : List ℕ) (using_keys : Bool) (place count : ℕ) → count ≡ length (rules_from bytes using_keys place count)
-rule_count bytes using_keys = record_count (rule_at bytes using_keys) 20 (rules_from bytes using_keys) (λ _. refl) (λ _ _. refl)
+rule_count bytes using_keys = record_count (rule_at bytes using_keys) RULE_BYTES (rules_from bytes using_keys) (λ _. refl) (λ _ _. refl)
 
 pub rule_there : (bytes : List ℕ) (using_keys : Bool) (place count i : ℕ) → i < count
-    → Some (rule_at bytes using_keys (place + 20 * i)) ≡ slice_get (rules_from bytes using_keys place count) i
-rule_there bytes using_keys = record_there (rule_at bytes using_keys) 20 (rules_from bytes using_keys) (λ _. refl) (λ _ _. refl)
+    → Some (rule_at bytes using_keys (place + RULE_BYTES * i)) ≡ slice_get (rules_from bytes using_keys place count) i
+rule_there bytes using_keys = record_there (rule_at bytes using_keys) RULE_BYTES (rules_from bytes using_keys) (λ _. refl) (λ _ _. refl)
 
 pub rule_past : (bytes : List ℕ) (using_keys : Bool) (place count i : ℕ) → count ≤ i → None ≡ slice_get (rules_from bytes using_keys place count) i
-rule_past bytes using_keys = record_past (rule_at bytes using_keys) 20 (rules_from bytes using_keys) (λ _. refl) (λ _ _. refl)
+rule_past bytes using_keys = record_past (rule_at bytes using_keys) RULE_BYTES (rules_from bytes using_keys) (λ _. refl) (λ _ _. refl)
 
 -- the stores one by one
 pub stores_ended : (bytes : List ℕ) (place left : ℕ) → left ≡ 0 → stores_from bytes place left ≡ []
-stores_ended bytes = records_ended (store_at bytes) 12 (stores_from bytes) (λ _. refl) (λ _ _. refl)
+stores_ended bytes = records_ended (store_at bytes) STORE_BYTES (stores_from bytes) (λ _. refl) (λ _ _. refl)
 
 pub stores_more : (bytes : List ℕ) (place left : ℕ) → 0 < left
-    → stores_from bytes place left ≡ store_at bytes place ∷ stores_from bytes (place + 12) (left - 1)
-stores_more bytes = records_more (store_at bytes) 12 (stores_from bytes) (λ _. refl) (λ _ _. refl)
+    → stores_from bytes place left ≡ store_at bytes place ∷ stores_from bytes (place + STORE_BYTES) (left - 1)
+stores_more bytes = records_more (store_at bytes) STORE_BYTES (stores_from bytes) (λ _. refl) (λ _ _. refl)
 
 -- the groups one by one
 pub groups_ended : (bytes : List ℕ) (place left : ℕ) → left ≡ 0 → groups_from bytes place left ≡ []
-groups_ended bytes = records_ended (group_at bytes) 24 (groups_from bytes) (λ _. refl) (λ _ _. refl)
+groups_ended bytes = records_ended (group_at bytes) GROUP_BYTES (groups_from bytes) (λ _. refl) (λ _ _. refl)
 
 pub groups_more : (bytes : List ℕ) (place left : ℕ) → 0 < left
-    → groups_from bytes place left ≡ group_at bytes place ∷ groups_from bytes (place + 24) (left - 1)
-groups_more bytes = records_more (group_at bytes) 24 (groups_from bytes) (λ _. refl) (λ _ _. refl)
+    → groups_from bytes place left ≡ group_at bytes place ∷ groups_from bytes (place + GROUP_BYTES) (left - 1)
+groups_more bytes = records_more (group_at bytes) GROUP_BYTES (groups_from bytes) (λ _. refl) (λ _ _. refl)
 
 -- the rules one by one
 pub rules_ended : (bytes : List ℕ) (using_keys : Bool) (place left : ℕ) → left ≡ 0 → rules_from bytes using_keys place left ≡ []
-rules_ended bytes using_keys = records_ended (rule_at bytes using_keys) 20 (rules_from bytes using_keys) (λ _. refl) (λ _ _. refl)
+rules_ended bytes using_keys = records_ended (rule_at bytes using_keys) RULE_BYTES (rules_from bytes using_keys) (λ _. refl) (λ _ _. refl)
 
 pub rules_more : (bytes : List ℕ) (using_keys : Bool) (place left : ℕ) → 0 < left
-    → rules_from bytes using_keys place left ≡ rule_at bytes using_keys place ∷ rules_from bytes using_keys (place + 20) (left - 1)
-rules_more bytes using_keys = records_more (rule_at bytes using_keys) 20 (rules_from bytes using_keys) (λ _. refl) (λ _ _. refl)
+    → rules_from bytes using_keys place left ≡ rule_at bytes using_keys place ∷ rules_from bytes using_keys (place + RULE_BYTES) (left - 1)
+rules_more bytes using_keys = records_more (rule_at bytes using_keys) RULE_BYTES (rules_from bytes using_keys) (λ _. refl) (λ _ _. refl)

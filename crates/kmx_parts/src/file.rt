@@ -66,7 +66,7 @@ impl<'a> FileTables<'a> {
         word_at(self.bytes, START_UNICODE_AT)
     }
 
-    /// The group in which a press begins where a system knows no Unicode; `0xFFFF_FFFF` is none.
+    /// The group in which a press begins where a system knows no Unicode, or `NO_GROUP`.
     #[tactic(auto, unfolding(kmx_format::specs::TablesOf::tables_of))]
     pub fn start_ansi(&self) -> u32
         ensures { result ≡ self.now.start_ansi }

@@ -10,6 +10,9 @@ use crate::numbers::word_at;
 use crate::records::FileRule;
 use crate::walks::Outputs;
 use kmn_base::{Memory, Text};
+use kmx_format::places::{
+    GROUP_MATCH_AT, GROUP_NOMATCH_AT, GROUP_RULE_COUNT_AT, GROUP_RULES_AT, GROUP_USING_KEYS_AT,
+};
 use kmx_format::sizes::RULE_BYTES;
 use std::alloc::Global;
 use std::marker::Model;
@@ -55,7 +58,7 @@ impl<'a> FileGroup<'a> {
     pub fn using_keys(&self) -> bool
         ensures { result ≡ self.now.using_keys }
     {
-        word_at(self.bytes, self.place + 20) != 0
+        word_at(self.bytes, self.place + GROUP_USING_KEYS_AT) != 0
     }
 
     /// How many key records it has.
@@ -63,20 +66,20 @@ impl<'a> FileGroup<'a> {
     pub fn rule_count(&self) -> u32
         ensures { result ≡ length self.now.rules }
     {
-        word_at(self.bytes, self.place + 16)
+        word_at(self.bytes, self.place + GROUP_RULE_COUNT_AT)
     }
 
     /// The key records, in their order.
     pub fn rules(&self) -> Rules<'a>
         ensures { result ≡ self.now.rules }
     {
-        let using_keys = word_at(self.bytes, self.place + 20) != 0;
-        let place = word_at(self.bytes, self.place + 4);
+        let using_keys = self.using_keys();
+        let place = word_at(self.bytes, self.place + GROUP_RULES_AT);
         Rules::at(
             self.bytes,
             using_keys,
             place,
-            word_at(self.bytes, self.place + 16),
+            word_at(self.bytes, self.place + GROUP_RULE_COUNT_AT),
         )
     }
 
@@ -85,11 +88,12 @@ impl<'a> FileGroup<'a> {
     pub fn rule(&self, i: u32) -> Option<FileRule<'a>>
         ensures { result ≡ slice_get self.now.rules i }
     {
-        if i >= word_at(self.bytes, self.place + 16) {
+        if i >= word_at(self.bytes, self.place + GROUP_RULE_COUNT_AT) {
             return None;
         }
-        let using_keys = word_at(self.bytes, self.place + 20) != 0;
-        let place = word_at(self.bytes, self.place + 4) as usize + RULE_BYTES * i as usize;
+        let using_keys = self.using_keys();
+        let place = word_at(self.bytes, self.place + GROUP_RULES_AT) as usize
+            + RULE_BYTES * i as usize;
         Some(FileRule::at(self.bytes, using_keys, place))
     }
 
@@ -98,7 +102,7 @@ impl<'a> FileGroup<'a> {
         ensures value { result ≡ self.now.on_match }
         ensures few { length result ≤ FILE_BYTES }
     {
-        Outputs::at(self.bytes, word_at(self.bytes, self.place + 8))
+        Outputs::at(self.bytes, word_at(self.bytes, self.place + GROUP_MATCH_AT))
     }
 
     /// What is put where no rule matched, empty where there is nothing.
@@ -106,6 +110,9 @@ impl<'a> FileGroup<'a> {
         ensures value { result ≡ self.now.on_nomatch }
         ensures few { length result ≤ FILE_BYTES }
     {
-        Outputs::at(self.bytes, word_at(self.bytes, self.place + 12))
+        Outputs::at(
+            self.bytes,
+            word_at(self.bytes, self.place + GROUP_NOMATCH_AT),
+        )
     }
 }

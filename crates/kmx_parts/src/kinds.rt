@@ -5,6 +5,7 @@ ghost use Rattle.kmx_format.specs.TablesOf.{comparison_of, system_comparison_of}
 ghost use Rattle.kmx_parts.specs.ContextItems.{item_of};
 
 use crate::context_item::ContextItem;
+use item_codec::item_codes::{EQUAL, UNEQUAL};
 use kmn_base::{Element, UnitItem};
 use rule_model::{Out, Pat};
 
@@ -38,8 +39,8 @@ fn comparison_of(store: u16, comparison: u16, value: u16) -> Option<ContextItem>
     ensures { result ≡ option_map item_of (comparison_of store comparison value) }
 {
     match comparison {
-        1 => Some(ContextItem::Unequal(from_zero(store), from_zero(value))),
-        2 => Some(ContextItem::Equal(from_zero(store), from_zero(value))),
+        UNEQUAL => Some(ContextItem::Unequal(from_zero(store), from_zero(value))),
+        EQUAL => Some(ContextItem::Equal(from_zero(store), from_zero(value))),
         _ => None,
     }
 }
@@ -48,8 +49,8 @@ fn system_comparison_of(system: u16, comparison: u16, value: u16) -> Option<Cont
     ensures { result ≡ option_map item_of (system_comparison_of system comparison value) }
 {
     match comparison {
-        1 => Some(ContextItem::SystemUnequal(from_zero(system), from_zero(value))),
-        2 => Some(ContextItem::SystemEqual(from_zero(system), from_zero(value))),
+        UNEQUAL => Some(ContextItem::SystemUnequal(from_zero(system), from_zero(value))),
+        EQUAL => Some(ContextItem::SystemEqual(from_zero(system), from_zero(value))),
         _ => None,
     }
 }

@@ -22,13 +22,14 @@ impl<'a> Model for Stores<'a> {
     ghost use Rattle.std.specs.Prelude.{◌+◌, ◌*◌, ◌<◌, ◌≤◌, ◌^◌, List, length};
     ghost use Rattle.kmn_base.specs.declared.limits.TheConstants.{FILE_BYTES};
     ghost use Rattle.rule_model.specs.declared.tables.Store.{Store};
+    ghost use Rattle.kmx_format.specs.declared.sizes.TheConstants.{STORE_BYTES};
     ghost use Rattle.kmx_format.specs.TablesOf.{stores_from};
 
     ghost Value = { List Store };
 
     ghost view = { λ stores. stores_from stores.bytes.now stores.place stores.left };
 
-    ghost invariant = { λ stores. (length stores.bytes.now ≤ FILE_BYTES) × (stores.place + 12 * stores.left < 2 ^ 62) };
+    ghost invariant = { λ stores. (length stores.bytes.now ≤ FILE_BYTES) × (stores.place + STORE_BYTES * stores.left < 2 ^ 62) };
 }
 
 impl<'a> Stores<'a> {
@@ -78,13 +79,14 @@ impl<'a> Model for Groups<'a> {
     ghost use Rattle.std.specs.Prelude.{◌+◌, ◌*◌, ◌<◌, ◌≤◌, ◌^◌, List, length};
     ghost use Rattle.kmn_base.specs.declared.limits.TheConstants.{FILE_BYTES};
     ghost use Rattle.rule_model.specs.declared.tables.Group.{Group};
+    ghost use Rattle.kmx_format.specs.declared.sizes.TheConstants.{GROUP_BYTES};
     ghost use Rattle.kmx_format.specs.TablesOf.{groups_from};
 
     ghost Value = { List Group };
 
     ghost view = { λ groups. groups_from groups.bytes.now groups.place groups.left };
 
-    ghost invariant = { λ groups. (length groups.bytes.now ≤ FILE_BYTES) × (groups.place + 24 * groups.left < 2 ^ 62) };
+    ghost invariant = { λ groups. (length groups.bytes.now ≤ FILE_BYTES) × (groups.place + GROUP_BYTES * groups.left < 2 ^ 62) };
 }
 
 impl<'a> Groups<'a> {
@@ -135,13 +137,14 @@ impl<'a> Model for Rules<'a> {
     ghost use Rattle.std.specs.Prelude.{◌+◌, ◌*◌, ◌<◌, ◌≤◌, ◌^◌, List, length};
     ghost use Rattle.kmn_base.specs.declared.limits.TheConstants.{FILE_BYTES};
     ghost use Rattle.rule_model.specs.declared.tables.Rule.{Rule};
+    ghost use Rattle.kmx_format.specs.declared.sizes.TheConstants.{RULE_BYTES};
     ghost use Rattle.kmx_format.specs.TablesOf.{rules_from};
 
     ghost Value = { List Rule };
 
     ghost view = { λ rules. rules_from rules.bytes.now rules.using_keys rules.place rules.left };
 
-    ghost invariant = { λ rules. (length rules.bytes.now ≤ FILE_BYTES) × (rules.place + 20 * rules.left < 2 ^ 62) };
+    ghost invariant = { λ rules. (length rules.bytes.now ≤ FILE_BYTES) × (rules.place + RULE_BYTES * rules.left < 2 ^ 62) };
 }
 
 impl<'a> Rules<'a> {

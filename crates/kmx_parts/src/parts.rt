@@ -4,6 +4,10 @@ ghost use Rattle.std.specs.Prelude.{◌≡◌, ◌<◌, ◌^◌};
 ghost use Rattle.kmx_parts.specs.View.{store_ref, group_ref, rule_ref};
 
 use crate::numbers::{half_at, word_at};
+use kmx_format::places::{
+    GROUP_MATCH_AT, GROUP_NOMATCH_AT, GROUP_RULE_COUNT_AT, GROUP_RULES_AT, GROUP_USING_KEYS_AT,
+    RULE_CONTEXT_AT, RULE_FLAGS_AT, RULE_LINE_AT, RULE_OUTPUT_AT, STORE_ELEMENTS_AT, STORE_NAME_AT,
+};
 
 /// The record of a store: its system id, and the offsets of its name and its elements.
 #[derive(Clone, Copy, Debug, PartialEq, Eq)]
@@ -43,8 +47,8 @@ impl StoreRef {
     {
         StoreRef {
             system: word_at(bytes, place),
-            name: word_at(bytes, place + 4),
-            string: word_at(bytes, place + 8),
+            name: word_at(bytes, place + STORE_NAME_AT),
+            string: word_at(bytes, place + STORE_ELEMENTS_AT),
         }
     }
 }
@@ -57,11 +61,11 @@ impl GroupRef {
     {
         GroupRef {
             name: word_at(bytes, place),
-            keys: word_at(bytes, place + 4),
-            on_match: word_at(bytes, place + 8),
-            on_nomatch: word_at(bytes, place + 12),
-            count: word_at(bytes, place + 16),
-            using_keys: word_at(bytes, place + 20),
+            keys: word_at(bytes, place + GROUP_RULES_AT),
+            on_match: word_at(bytes, place + GROUP_MATCH_AT),
+            on_nomatch: word_at(bytes, place + GROUP_NOMATCH_AT),
+            count: word_at(bytes, place + GROUP_RULE_COUNT_AT),
+            using_keys: word_at(bytes, place + GROUP_USING_KEYS_AT),
         }
     }
 }
@@ -74,10 +78,10 @@ impl RuleRef {
     {
         RuleRef {
             key: half_at(bytes, place),
-            line: word_at(bytes, place + 4),
-            flags: word_at(bytes, place + 8),
-            output: word_at(bytes, place + 12),
-            context: word_at(bytes, place + 16),
+            line: word_at(bytes, place + RULE_LINE_AT),
+            flags: word_at(bytes, place + RULE_FLAGS_AT),
+            output: word_at(bytes, place + RULE_OUTPUT_AT),
+            context: word_at(bytes, place + RULE_CONTEXT_AT),
         }
     }
 }

@@ -8,6 +8,7 @@ ghost use Rattle.kmx_parts.specs.ContextItems.{pattern_of};
 use crate::numbers::{half_at, word_at};
 use crate::walks::{ContextItems, Outputs, Patterns};
 use kmn_base::RuleKey;
+use kmx_format::places::{RULE_CONTEXT_AT, RULE_FLAGS_AT, RULE_LINE_AT, RULE_OUTPUT_AT};
 use std::marker::Model;
 
 /// A key record of a file, read where it stands.
@@ -62,14 +63,18 @@ impl<'a> FileRule<'a> {
         ensures { result ≡ self.now.key }
     {
         let code = half_at(self.bytes, self.place);
-        key_of(self.using_keys, code, word_at(self.bytes, self.place + 8))
+        key_of(
+            self.using_keys,
+            code,
+            word_at(self.bytes, self.place + RULE_FLAGS_AT),
+        )
     }
 
     /// The line of the source, 0 where the file has none.
     pub fn line(&self) -> u32
         ensures { result ≡ self.now.line }
     {
-        word_at(self.bytes, self.place + 4)
+        word_at(self.bytes, self.place + RULE_LINE_AT)
     }
 
     /// The place that tells records of one line apart: 0, since no file keeps it.
@@ -86,7 +91,10 @@ impl<'a> FileRule<'a> {
         ensures value { result ≡ self.now.context }
         ensures few { length result ≤ FILE_BYTES }
     {
-        Patterns::at(self.bytes, word_at(self.bytes, self.place + 16))
+        Patterns::at(
+            self.bytes,
+            word_at(self.bytes, self.place + RULE_CONTEXT_AT),
+        )
     }
 
     /// The context in the numbers of the file.
@@ -94,7 +102,10 @@ impl<'a> FileRule<'a> {
     pub fn context_items(&self) -> ContextItems<'a>
         ensures { map pattern_of result ≡ self.now.context }
     {
-        ContextItems::at(self.bytes, word_at(self.bytes, self.place + 16))
+        ContextItems::at(
+            self.bytes,
+            word_at(self.bytes, self.place + RULE_CONTEXT_AT),
+        )
     }
 
     /// The output.
@@ -102,6 +113,6 @@ impl<'a> FileRule<'a> {
         ensures value { result ≡ self.now.output }
         ensures few { length result ≤ FILE_BYTES }
     {
-        Outputs::at(self.bytes, word_at(self.bytes, self.place + 12))
+        Outputs::at(self.bytes, word_at(self.bytes, self.place + RULE_OUTPUT_AT))
     }
 }

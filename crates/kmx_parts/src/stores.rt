@@ -8,6 +8,7 @@ use crate::names::name_at;
 use crate::numbers::word_at;
 use crate::walks::Elements;
 use kmn_base::{Memory, Text};
+use kmx_format::places::{STORE_ELEMENTS_AT, STORE_NAME_AT};
 use std::alloc::Global;
 use std::marker::Model;
 
@@ -52,7 +53,11 @@ impl<'a> FileStore<'a> {
     pub fn name(&self, alloc: Global) -> Result<Text, Memory>
         ensures { IfOk result (λ name. name ≡ self.now.name) }
     {
-        name_at(alloc, self.bytes, word_at(self.bytes, self.place + 4))
+        name_at(
+            alloc,
+            self.bytes,
+            word_at(self.bytes, self.place + STORE_NAME_AT),
+        )
     }
 
     /// The elements.
@@ -60,6 +65,9 @@ impl<'a> FileStore<'a> {
         ensures value { result ≡ self.now.elements }
         ensures few { length result ≤ FILE_BYTES }
     {
-        Elements::at(self.bytes, word_at(self.bytes, self.place + 8))
+        Elements::at(
+            self.bytes,
+            word_at(self.bytes, self.place + STORE_ELEMENTS_AT),
+        )
     }
 }

@@ -3,7 +3,6 @@ use Rattle.std.proofs.Common.{◌≡◌, ℕ, ◌+◌, ◌*◌, ◌^◌, ◌<◌
 use Rattle.std.specs.List.{All, flat_map}
 use Rattle.std.proofs.lemmas.List.Elements.{All-head, All-tail}
 use Rattle.std.proofs.lemmas.List.Concat.{flat_map-append}
-use Rattle.std.proofs.lemmas.Nat.{and_le_r}
 use Rattle.std.proofs.lemmas.Bool.{le-ltb, eq-eqb}
 use Rattle.kmn_base.specs.declared.keys.RuleKey.{RuleKey}
 use Rattle.kmn_base.specs.declared.keys.RuleKey.TheVariants.{Any, Char, Virtual}
@@ -18,9 +17,9 @@ use Rattle.kmx_format.specs.File.{half, words, string, offset_of, store_strings,
 use Rattle.kmx_format.specs.TablesOf.{word_at, uses_keys_at}
 use Rattle.kmx_format.specs.Writable.{is_version, elements_of, IsWritableStore, IsWritableKey, IsWritableRule, IsWritableGroup, IsWritable, IsFile}
 use Rattle.kmx_format.proofs.FileStands.{StandsAt, end_within, front, back, same_place, same_bytes, length-half, length-words, first_word_at, nth_word_at}
-use Rattle.kmx_format.proofs.FileRecords.{offset_of-le, length-store_record, length-rule_record, length-rule_records, rule_records-append}
-use Rattle.kmx_format.proofs.FileGroups.{length-group_record}
-use Rattle.kmx_format.proofs.FileLaw.{Parts, parts, length-store_records, length-group_records, version-small}
+use Rattle.kmx_format.proofs.FileRecords.{key_flags-small, offset_of-le, length-store_record, length-rule_record, length-rule_records, rule_records-append}
+use Rattle.kmx_format.proofs.FileGroups.{flag-read, flag-small, length-group_record}
+use Rattle.kmx_format.proofs.FileLaw.{Parts, parts, length-store_records, length-group_records, start-small, version-small}
 use Rattle.kmx_parts.specs.View.{is_within, store_count, group_count}
 use Rattle.kmx_verifier.specs.declared.faults.StringKind.TheVariants as of
 use Rattle.kmx_verifier.specs.declared.faults.Target.{Target}
@@ -34,27 +33,11 @@ use Rattle.kmx_verifier.proofs.Written.{name_clean, string_clean, count_written,
 elements_within : (before count : ℕ) → count ≤ STORE_ELEMENTS → before + count ≤ ALL_ELEMENTS → too_many_elements before count ≡ false
 elements_within before count few all = ap (λ b. b || nat_lt ALL_ELEMENTS (before + count)) (le-ltb STORE_ELEMENTS count few) ∙ le-ltb ALL_ELEMENTS (before + count) all
 
-flags_small : (using_keys : Bool) (key : RuleKey) → IsWritableKey using_keys key → key_flags key < 2 ^ 32
-flags_small false Any h = lit< tt
-flags_small false (Char unit) h = absurd h
-flags_small false (Virtual flags code) h = absurd h
-flags_small true Any h = absurd h
-flags_small true (Char unit) h = lit< tt
-flags_small true (Virtual flags code) h = omega (arith, and_le_r flags SHIFT_FLAGS, h.1)
-
 flags_known : (using_keys : Bool) (key : RuleKey) → IsWritableKey using_keys key → (using_keys && not (nat_eq (bit_and (key_flags key) SHIFT_FLAGS) (key_flags key))) ≡ false
 flags_known false key h = refl
 flags_known true Any h = absurd h
 flags_known true (Char unit) h = refl
 flags_known true (Virtual flags code) h = ap (λ n. not (nat_eq n flags)) h.1 ∙ ap not (eq-eqb flags flags refl)
-
-flag_small : (b : Bool) → flag b < 2 ^ 32
-flag_small false = lit< tt
-flag_small true = lit< tt
-
-flag_read : (b : Bool) → not (nat_eq (flag b) 0) ≡ b
-flag_read false = refl
-flag_read true = refl
 
 -- an array that has records stands at its offset
 array_fits : {X : Type 0} (xs : List X) (bytes : List ℕ) (place size : ℕ) → place + size * length xs ≤ length bytes
@@ -114,7 +97,7 @@ module _ (bytes : List ℕ) (small : length bytes < 2 ^ 32) where
       same_place bytes (at + length (half code ++ half 0)) (at + 4) (words ns) (omega (arith, length-append (half code) (half 0), length-half code, length-half 0))
       (back bytes at (half code ++ half 0) (words ns) fields) in
       let flags_are : word_at bytes (at + 8) ≡ key_flags rule.key =
-      ap (word_at bytes) (omega arith) ∙ nth_word_at bytes (at + 4) ns 1 (lit< tt) (flags_small using_keys rule.key writable.key) others in
+      ap (word_at bytes) (omega arith) ∙ nth_word_at bytes (at + 4) ns 1 (lit< tt) (key_flags-small using_keys rule.key writable.key) others in
       let output_is : word_at bytes (at + 12) ≡ offset_of output second =
       ap (word_at bytes) (omega arith) ∙ nth_word_at bytes (at + 4) ns 2 (lit< tt) (omega (arith, offset_of-le output second (length bytes) output_string.within)) others in
       let context_is : word_at bytes (at + 16) ≡ offset_of context place =
@@ -182,8 +165,8 @@ module _ (bytes : List ℕ) (small : length bytes < 2 ^ 32) where
       let nomatch_is : word_at bytes (at + 12) ≡ offset_of on_nomatch third =
       nth_word_at bytes at ns 3 (lit< tt) (omega (arith, offset_of-le on_nomatch third (length bytes) nomatch_string.within)) fields in
       let count_is : word_at bytes (at + 16) ≡ count = nth_word_at bytes at ns 4 (lit< tt) (omega (arith, within)) fields in
-      let flag_is : word_at bytes (at + 20) ≡ flag group.using_keys = nth_word_at bytes at ns 5 (lit< tt) (flag_small group.using_keys) fields in
-      let keys_are : uses_keys_at bytes at ≡ group.using_keys = ap (λ n. not (nat_eq n 0)) flag_is ∙ flag_read group.using_keys in
+      let flag_is : word_at bytes (at + 20) ≡ flag group.using_keys = nth_word_at bytes at ns 5 (lit< tt) (flag-small group.using_keys) fields in
+      let keys_are : uses_keys_at bytes at ≡ group.using_keys = ap (λ n. not (nat_eq n 0)) flag_is ∙ flag-read group.using_keys in
       let in_place : records_place_fault bytes before at ≡ None =
       both _ _ (unbroken _ (at + 16) _ (ap (λ n. nat_lt RECORDS (before + n)) count_is ∙ le-ltb RECORDS (before + count) few))
       (both _ _ (unbroken _ (at + 4) _ (ap₂ (λ n place. nat_lt 0 n && not (is_within bytes place (20 * n))) count_is rules_are ∙ array_fits group.rules bytes rules_at 20 within)) refl) in
@@ -268,13 +251,6 @@ picture_fits [] bytes place h few = refl
 picture_fits (byte ∷ picture) bytes place h few =
     ap₂ (λ a b. nat_lt 0 (length (byte ∷ picture)) && (not a || b)) (le-leb _ _ h) (le-ltb PICTURE_BYTES (length (byte ∷ picture)) few) ∙ grind arith
 
-start_small : (tables : Tables) → IsWritable tables → tables.start_ansi < 2 ^ 32
-start_small tables writable =
-    elim writable.start_ansi [
-      | inl below ↦ omega (arith, below, writable.group_count)
-      | inr none ↦ omega (arith, none)
-    ]
-
 pub file_of_valid : (tables : Tables) (picture : List ℕ) → IsWritable tables → length picture ≤ PICTURE_BYTES → length (file_of tables picture) ≤ FILE_BYTES
     → IsValid (file_of tables picture)
 unfolding fault_of size_fault header_fault arrays_fault
@@ -292,7 +268,7 @@ file_of_valid tables picture writable picture_size fits =
     nth_word_at bytes 0 ns 8 (lit< tt) (omega (arith, offset_of-le tables.stores stores_place (length bytes) p.stores.within)) p.head in
     let groups_at : word_at bytes 36 ≡ offset_of tables.groups (groups_place tables) =
     nth_word_at bytes 0 ns 9 (lit< tt) (omega (arith, offset_of-le tables.groups (groups_place tables) (length bytes) p.groups.within)) p.head in
-    let ansi : word_at bytes 40 ≡ tables.start_ansi = nth_word_at bytes 0 ns 10 (lit< tt) (start_small tables writable) p.head in
+    let ansi : word_at bytes 40 ≡ tables.start_ansi = nth_word_at bytes 0 ns 10 (lit< tt) (start-small tables writable) p.head in
     let unicode : word_at bytes 44 ≡ tables.start_unicode =
     nth_word_at bytes 0 ns 11 (lit< tt) (omega (arith, writable.start_unicode, writable.group_count)) p.head in
     let no_flags : word_at bytes 48 ≡ 0 = nth_word_at bytes 0 ns 12 (lit< tt) (lit< tt) p.head in

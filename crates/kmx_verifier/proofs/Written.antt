@@ -1,11 +1,11 @@
 -- Strings of tables that a file can have, where they stand in the file, have no fault.
-use Rattle.std.proofs.Common.{◌≡◌, ◌≢◌, ℕ, zero, suc, ◌+◌, ◌<◌, Bool, true, false, ◌&&◌, ◌||◌, nat_eq, nat_lt, List, [], ◌∷◌, ◌++◌, length, map, take, drop, Option, Some, None, refl, sym, ap, ap₂, subst, ◌∙◌, append_assoc, append-nil, arith, not}
+use Rattle.std.proofs.Common.{◌≡◌, ℕ, zero, suc, ◌+◌, ◌<◌, Bool, true, false, ◌&&◌, ◌||◌, nat_eq, nat_lt, List, [], ◌∷◌, ◌++◌, length, map, take, drop, Option, Some, None, refl, sym, ap, ap₂, subst, ◌∙◌, append_assoc, append-nil, arith, not}
 use Rattle.std.specs.Prelude.{Ok, slice_get, slice_index_or, IsSomeAnd}
 use Rattle.std.specs.List.{All, flat_map, list_any}
 use Rattle.std.specs.Str.{chars}
 use Rattle.std.proofs.lemmas.Bool.{or_right, le-ltb}
 use Rattle.std.proofs.lemmas.List.{length-map}
-use Rattle.std.proofs.lemmas.List.Elements.{All-nil, All-cons, All-head, All-tail, All-append, All-map}
+use Rattle.std.proofs.lemmas.List.Elements.{All-nil, All-cons, All-head, All-tail, All-map}
 use Rattle.kmn_base.specs.declared.codes.Code.TheVariants.{V10, V15}
 use Rattle.kmn_base.specs.declared.items.Element.{Element}
 use Rattle.kmn_base.specs.declared.items.Element.TheVariants as element
@@ -22,15 +22,16 @@ use Rattle.kmx_format.specs.FileUnits.{unit_item_of_element, unit_item_of_patter
 use Rattle.kmx_format.specs.File.{string, offset_of}
 use Rattle.kmx_format.specs.TablesOf.{word_at, string_at, items_of}
 use Rattle.kmx_format.specs.Writable.{stores_of_pattern, stores_of_output, groups_of_output, has_system_id, sets_system_id, needs_context, PointsBack, PointsInto, PointsTo, is_any, is_matched, IsWritableName, IsWritableContext}
+use Rattle.kmx_format.proofs.FileContents.{units-nonzero}
 use Rattle.kmx_format.proofs.FileStands.{StandsAt}
 use Rattle.kmx_format.proofs.FileStrings.{whole_units-append, string_at-stands}
-use Rattle.kmx_format.proofs.FileItems.{char_units-nonzero, item_units-nonzero, items_of-item_units}
+use Rattle.kmx_format.proofs.FileItems.{item_units-nonzero, items_of-item_units}
 use Rattle.kmx_parts.specs.View.{has_zero, is_ended, store_count, group_count}
 use Rattle.kmx_verifier.specs.declared.faults.StringKind.{StringKind}
 use Rattle.kmx_verifier.specs.declared.faults.StringKind.TheVariants as of
 use Rattle.kmx_verifier.specs.declared.faults.Target.{Target}
 use Rattle.kmx_verifier.specs.Items as target
-use Rattle.kmx_verifier.specs.Items.{target_at, may_stand, stores_named, groups_named, target_of, points_right}
+use Rattle.kmx_verifier.specs.Items.{target_at, stores_named, groups_named, target_of, points_right}
 use Rattle.kmx_verifier.specs.FaultOf.{walk_fault, context_fault, read_at, item_count, string_fault, context_string_fault, name_fault}
 use Rattle.kmx_verifier.proofs.Sound.{ItemStands, ItemsStand, ContextStands}
 use Rattle.kmx_verifier.proofs.Clean.{both, unbroken, unbroken_not, walk_clean, context_clean}
@@ -53,12 +54,6 @@ is_ended-stands bytes place (unit ∷ units) h =
     ∙ has_zero-behind (unit ∷ units) (whole_units h.rest))
 
 -- ---- names
-
-units-nonzero : (cs : List ℕ) → All (λ c. (c ≢ 0) × (c ≢ 0xFFFF)) cs → All (λ unit. unit ≢ 0) (flat_map char_units cs)
-units-nonzero [] h = All-nil (λ unit. unit ≢ 0)
-units-nonzero (c ∷ cs) h =
-    All-append (λ unit. unit ≢ 0) (char_units c) (flat_map char_units cs) (char_units-nonzero c (All-head (λ d. (d ≢ 0) × (d ≢ 0xFFFF)) c cs h).0)
-    (units-nonzero cs (All-tail (λ d. (d ≢ 0) × (d ≢ 0xFFFF)) c cs h))
 
 pub name_clean : (bytes : List ℕ) (word place : ℕ) (name : List ℕ) → 0 < place → IsWritableName name → word_at bytes word ≡ offset_of (name_units name) place
     → StandsAt bytes place (string (name_units name)) → name_fault bytes word ≡ None

@@ -9,11 +9,14 @@ use Rattle.kmn_base.specs.declared.units.BadUnits.{BadUnits}
 use Rattle.kmn_base.specs.declared.units.BadKind.{BadKind}
 use Rattle.kmn_base.specs.declared.units.BadKind.TheVariants.{U2}
 use Rattle.kmn_base.specs.Spelling.{unit_bytes}
+use Rattle.item_codec.specs.declared.item_codes.TheConstants.{KEY}
 use Rattle.item_codec.specs.Walk.{results_of, spelled_size}
-use Rattle.kmx_format.specs.declared.places.TheConstants.{FLAGS_AT, GROUPS_AT, GROUP_COUNT_AT, IDENTIFIER_AT, PICTURE_AT, PICTURE_SIZE_AT, START_ANSI_AT, START_UNICODE_AT, STORES_AT, STORE_COUNT_AT, VERSION_AT}
+use Rattle.kmx_format.specs.declared.places.TheConstants.{FLAGS_AT, GROUPS_AT, GROUP_COUNT_AT, GROUP_MATCH_AT, GROUP_NOMATCH_AT, GROUP_RULES_AT, GROUP_RULE_COUNT_AT, IDENTIFIER, IDENTIFIER_AT, PICTURE_AT, PICTURE_SIZE_AT, RULE_CONTEXT_AT, RULE_FLAGS_AT, RULE_OUTPUT_AT, START_ANSI_AT, START_UNICODE_AT, STORES_AT, STORE_COUNT_AT, STORE_ELEMENTS_AT, STORE_NAME_AT, VERSION_AT}
+use Rattle.kmx_format.specs.declared.sizes.TheConstants.{GROUP_BYTES, HEADER_BYTES, RULE_BYTES, STORE_BYTES}
 use Rattle.kmx_format.specs.TablesOf.{word_at, string_at, items_of, uses_keys_at}
 use Rattle.kmx_format.specs.Writable.{is_version}
 use Rattle.kmn_base.specs.declared.keys.TheConstants.{SHIFT_FLAGS}
+use Rattle.rule_model.specs.declared.system.TheConstants.{NO_GROUP}
 use Rattle.kmx_verifier.specs.declared.faults.Fault.{Fault}
 use Rattle.kmx_verifier.specs.declared.faults.VerifyError.{VerifyError}
 use Rattle.kmx_verifier.specs.declared.faults.VerifyError.TheVariants.{Refused, Memory}
@@ -41,7 +44,7 @@ abbrev pub first_fault : List (Option Fault) → Option Fault
 first_fault [] = None
 first_fault (step ∷ steps) = or_else step (first_fault steps)
 
--- an item names a store or a group whose number isn't below the count
+-- an item names a store or a group whose number, which counts from 1, passes the count
 abbrev pub names_outside : List ℕ → UnitItem → Bool
 names_outside bytes item = list_any (nat_lt (store_count bytes)) (stores_named item) || list_any (nat_lt (group_count bytes)) (groups_named item)
 
@@ -116,18 +119,18 @@ too_many_elements before count = nat_lt STORE_ELEMENTS count || nat_lt ALL_ELEME
 -- a store: its name, then its content
 abbrev pub store_fault : List ℕ → ℕ → ℕ → Option Fault
 store_fault bytes before place = first_fault (
-    name_fault bytes (place + 4)
-    ∷ string_fault bytes Store [] (place + 8) (too_many_elements before)
+    name_fault bytes (place + STORE_NAME_AT)
+    ∷ string_fault bytes Store [] (place + STORE_ELEMENTS_AT) (too_many_elements before)
     ∷ [])
 
 -- how many elements the store has whose record stands at a place
 abbrev pub elements_in : List ℕ → ℕ → ℕ
-elements_in bytes place = item_count bytes (word_at bytes (place + 8))
+elements_in bytes place = item_count bytes (word_at bytes (place + STORE_ELEMENTS_AT))
 
 -- each store in order, with the count of elements before it
 abbrev pub stores_fault : List ℕ → ℕ → ℕ → ℕ → Option Fault
 stores_fault bytes before place zero = None
-stores_fault bytes before place (suc count) = or_else (store_fault bytes before place) (stores_fault bytes (before + elements_in bytes place) (place + 12) count)
+stores_fault bytes before place (suc count) = or_else (store_fault bytes before place) (stores_fault bytes (before + elements_in bytes place) (place + STORE_BYTES) count)
 
 -- what offsets into the context of a record can point at
 abbrev pub context_targets : List ℕ → ℕ → List Target
@@ -136,34 +139,34 @@ context_targets bytes offset = map target_of (items_of (string_at bytes offset))
 -- V14 where the flags of a key have a bit that no key has; it names the code of a virtual key
 abbrev pub flags_fault : List ℕ → Bool → ℕ → Option Fault
 flags_fault bytes using_keys place =
-    broken_by 0x0A place (using_keys && not (nat_eq (bit_and (word_at bytes place) SHIFT_FLAGS) (word_at bytes place)))
+    broken_by KEY place (using_keys && not (nat_eq (bit_and (word_at bytes place) SHIFT_FLAGS) (word_at bytes place)))
 
 -- a record: its flags, context, output
 abbrev pub record_fault : List ℕ → Bool → ℕ → Option Fault
 record_fault bytes using_keys place = first_fault (
-    flags_fault bytes using_keys (place + 8)
-    ∷ context_string_fault bytes (place + 16)
-    ∷ string_fault bytes Output (context_targets bytes (word_at bytes (place + 16))) (place + 12) (nat_lt OUTPUT_ITEMS)
+    flags_fault bytes using_keys (place + RULE_FLAGS_AT)
+    ∷ context_string_fault bytes (place + RULE_CONTEXT_AT)
+    ∷ string_fault bytes Output (context_targets bytes (word_at bytes (place + RULE_CONTEXT_AT))) (place + RULE_OUTPUT_AT) (nat_lt OUTPUT_ITEMS)
     ∷ [])
 
 -- each record in order
 abbrev pub records_fault : List ℕ → Bool → ℕ → ℕ → Option Fault
 records_fault bytes using_keys place zero = None
-records_fault bytes using_keys place (suc count) = or_else (record_fault bytes using_keys place) (records_fault bytes using_keys (place + 20) count)
+records_fault bytes using_keys place (suc count) = or_else (record_fault bytes using_keys place) (records_fault bytes using_keys (place + RULE_BYTES) count)
 
 -- where a group's records stand: V15 where they pass the limit with those before them, V09 where they aren't in the file
 abbrev pub records_place_fault : List ℕ → ℕ → ℕ → Option Fault
 records_place_fault bytes before place = first_fault (
-    broken V15 (place + 16) (nat_lt RECORDS (before + word_at bytes (place + 16)))
-    ∷ broken V09 (place + 4) (nat_lt 0 (word_at bytes (place + 16)) && not (is_within bytes (word_at bytes (place + 4)) (20 * word_at bytes (place + 16))))
+    broken V15 (place + GROUP_RULE_COUNT_AT) (nat_lt RECORDS (before + word_at bytes (place + GROUP_RULE_COUNT_AT)))
+    ∷ broken V09 (place + GROUP_RULES_AT) (nat_lt 0 (word_at bytes (place + GROUP_RULE_COUNT_AT)) && not (is_within bytes (word_at bytes (place + GROUP_RULES_AT)) (RULE_BYTES * word_at bytes (place + GROUP_RULE_COUNT_AT))))
     ∷ [])
 
 -- the strings of a group: its name, match and nomatch
 abbrev pub group_strings_fault : List ℕ → ℕ → Option Fault
 group_strings_fault bytes place = first_fault (
     name_fault bytes place
-    ∷ string_fault bytes Match [] (place + 8) (nat_lt OUTPUT_ITEMS)
-    ∷ string_fault bytes Match [] (place + 12) (nat_lt OUTPUT_ITEMS)
+    ∷ string_fault bytes Match [] (place + GROUP_MATCH_AT) (nat_lt OUTPUT_ITEMS)
+    ∷ string_fault bytes Match [] (place + GROUP_NOMATCH_AT) (nat_lt OUTPUT_ITEMS)
     ∷ [])
 
 -- a group: its count and key array, its strings, then each record
@@ -171,29 +174,29 @@ abbrev pub group_fault : List ℕ → ℕ → ℕ → Option Fault
 group_fault bytes before place = first_fault (
     records_place_fault bytes before place
     ∷ group_strings_fault bytes place
-    ∷ records_fault bytes (uses_keys_at bytes place) (word_at bytes (place + 4)) (word_at bytes (place + 16))
+    ∷ records_fault bytes (uses_keys_at bytes place) (word_at bytes (place + GROUP_RULES_AT)) (word_at bytes (place + GROUP_RULE_COUNT_AT))
     ∷ [])
 
 -- each group in order, with the count of records before it
 abbrev pub groups_fault : List ℕ → ℕ → ℕ → ℕ → Option Fault
 groups_fault bytes before place zero = None
-groups_fault bytes before place (suc count) = or_else (group_fault bytes before place) (groups_fault bytes (before + word_at bytes (place + 16)) (place + 24) count)
+groups_fault bytes before place (suc count) = or_else (group_fault bytes before place) (groups_fault bytes (before + word_at bytes (place + GROUP_RULE_COUNT_AT)) (place + GROUP_BYTES) count)
 
 -- no group: the number that the header has where there is no start group
 abbrev pub no_group : ℕ
-no_group = 0xFFFF_FFFF
+no_group = NO_GROUP
 
 -- the length of the file
 unfoldable pub size_fault : List ℕ → Option Fault
 size_fault bytes = first_fault (
     broken V15 0 (nat_lt FILE_BYTES (length bytes))
-    ∷ broken V01 (length bytes) (nat_lt (length bytes) 64)
+    ∷ broken V01 (length bytes) (nat_lt (length bytes) HEADER_BYTES)
     ∷ [])
 
 -- the numbers of the header
 unfoldable pub header_fault : List ℕ → Option Fault
 header_fault bytes = first_fault (
-    broken V02 IDENTIFIER_AT (not (nat_eq (word_at bytes IDENTIFIER_AT) 0x5354_584B))
+    broken V02 IDENTIFIER_AT (not (nat_eq (word_at bytes IDENTIFIER_AT) IDENTIFIER))
     ∷ broken V03 VERSION_AT (not (is_version (word_at bytes VERSION_AT)))
     ∷ broken V04 FLAGS_AT (nat_lt 0x1F (word_at bytes FLAGS_AT))
     ∷ broken V15 STORE_COUNT_AT (nat_lt STORES (store_count bytes))
@@ -206,8 +209,8 @@ header_fault bytes = first_fault (
 -- the arrays and the picture
 unfoldable pub arrays_fault : List ℕ → Option Fault
 arrays_fault bytes = first_fault (
-    broken V07 STORES_AT (nat_lt 0 (store_count bytes) && not (is_within bytes (word_at bytes STORES_AT) (12 * store_count bytes)))
-    ∷ broken V08 GROUPS_AT (nat_lt 0 (group_count bytes) && not (is_within bytes (word_at bytes GROUPS_AT) (24 * group_count bytes)))
+    broken V07 STORES_AT (nat_lt 0 (store_count bytes) && not (is_within bytes (word_at bytes STORES_AT) (STORE_BYTES * store_count bytes)))
+    ∷ broken V08 GROUPS_AT (nat_lt 0 (group_count bytes) && not (is_within bytes (word_at bytes GROUPS_AT) (GROUP_BYTES * group_count bytes)))
     ∷ broken V16 PICTURE_AT (nat_lt 0 (word_at bytes PICTURE_SIZE_AT) && (not (is_within bytes (word_at bytes PICTURE_AT) (word_at bytes PICTURE_SIZE_AT)) || nat_lt PICTURE_BYTES (word_at bytes PICTURE_SIZE_AT)))
     ∷ [])
 

@@ -2,7 +2,9 @@
 use Rattle.std.specs.Prelude.{ℕ, zero, suc, ◌+◌, ◌<◌, ◌||◌, Bool, true, false, nat_eq, List, [], ◌∷◌, Option, Some, None, slice_get, take}
 use Rattle.kmn_base.specs.declared.units.UnitItem.{UnitItem}
 use Rattle.kmn_base.specs.declared.units.UnitItem.TheVariants.{Char, Any, Index, Context, Nul, Enter, Stop, Beep, Dead, Key, ContextAt, NotAny, Set, Test, SystemTest, SetSystem, Save, Reset}
+use Rattle.item_codec.specs.declared.item_codes.TheConstants.{ANY, BEEP, CONTEXT, CONTEXT_AT, DEAD, ENTER, INDEX, KEY, NOT_ANY, NUL, RESET, SAVE, SET, SET_SYSTEM, STOP, SYSTEM_TEST, TEST}
 use Rattle.rule_model.specs.declared.system.TheConstants.{LAYER, PLATFORM}
+use Rattle.kmx_verifier.specs.declared.contexts.TheConstants.{OFFSET_REACH}
 use Rattle.kmx_verifier.specs.declared.faults.StringKind.{StringKind}
 use Rattle.kmx_verifier.specs.declared.faults.StringKind.TheVariants as of
 use Rattle.kmx_verifier.specs.declared.faults.Target.{Target}
@@ -59,23 +61,23 @@ may_stand of.Match item = stands_in_match item
 -- the code behind an item's sentinel, by which a refusal names it; a character has none
 abbrev pub code_of : UnitItem → ℕ
 code_of (Char c) = 0
-code_of (Any store) = 0x01
-code_of (Index store offset) = 0x02
-code_of Context = 0x03
-code_of Nul = 0x04
-code_of (Enter group) = 0x05
-code_of Stop = 0x06
-code_of Beep = 0x07
-code_of (Dead mark) = 0x08
-code_of (Key flags code) = 0x0A
-code_of (ContextAt offset) = 0x11
-code_of (NotAny store) = 0x12
-code_of (Set store value) = 0x13
-code_of (Test store comparison value) = 0x14
-code_of (Save store) = 0x15
-code_of (Reset store) = 0x16
-code_of (SystemTest system comparison value) = 0x17
-code_of (SetSystem system value) = 0x18
+code_of (Any store) = ANY
+code_of (Index store offset) = INDEX
+code_of Context = CONTEXT
+code_of Nul = NUL
+code_of (Enter group) = ENTER
+code_of Stop = STOP
+code_of Beep = BEEP
+code_of (Dead mark) = DEAD
+code_of (Key flags code) = KEY
+code_of (ContextAt offset) = CONTEXT_AT
+code_of (NotAny store) = NOT_ANY
+code_of (Set store value) = SET
+code_of (Test store comparison value) = TEST
+code_of (Save store) = SAVE
+code_of (Reset store) = RESET
+code_of (SystemTest system comparison value) = SYSTEM_TEST
+code_of (SetSystem system value) = SET_SYSTEM
 
 -- the stores that an item names, counted from 1; a system option isn't one of them
 abbrev pub stores_named : UnitItem → List ℕ
@@ -119,7 +121,7 @@ target_at targets (suc place) = slice_get targets place
 
 -- of what offsets find so much as they reach: an offset is a unit, and counts from 1
 unfoldable pub reached : List Target → List Target
-reached targets = take 65535 targets
+reached targets = take OFFSET_REACH targets
 
 -- an offset points where it must: index at an any, context(n) at a pattern
 abbrev pub points_right : List Target → UnitItem → Bool

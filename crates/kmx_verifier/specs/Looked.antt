@@ -1,7 +1,8 @@
 -- The places of a file that some step looks at.
 use Rattle.std.specs.Prelude.{◌≡◌, ℕ, zero, suc, ◌+◌, ◌*◌, Bool, if◌then◌else◌, List, [], ◌∷◌, ◌++◌, length, take, drop}
 use Rattle.std.specs.List.{All}
-use Rattle.kmx_format.specs.declared.places.TheConstants.{GROUPS_AT, STORES_AT}
+use Rattle.kmx_format.specs.declared.places.TheConstants.{GROUPS_AT, GROUP_MATCH_AT, GROUP_NOMATCH_AT, GROUP_RULES_AT, GROUP_RULE_COUNT_AT, IDENTIFIER_AT, PICTURE_AT, RULE_CONTEXT_AT, RULE_FLAGS_AT, RULE_OUTPUT_AT, STORES_AT, STORE_COUNT_AT, STORE_ELEMENTS_AT, STORE_NAME_AT}
+use Rattle.kmx_format.specs.declared.sizes.TheConstants.{GROUP_BYTES, RULE_BYTES, STORE_BYTES}
 use Rattle.kmx_format.specs.TablesOf.{word_at, string_at, uses_keys_at}
 use Rattle.kmx_parts.specs.View.{store_count, group_count}
 use Rattle.kmx_verifier.specs.FaultOf.{fault_of}
@@ -17,32 +18,32 @@ string_range bytes offset = record { place = offset; size = 2 * length (string_a
 
 -- the header but for checksum, keyboard id, registered, version of the keyboard and hotkey
 abbrev pub header_looked : List Range
-header_looked = record { place = 0; size = 8 } ∷ record { place = 24; size = 28 } ∷ record { place = 56; size = 8 } ∷ []
+header_looked = record { place = IDENTIFIER_AT; size = 8 } ∷ record { place = STORE_COUNT_AT; size = 28 } ∷ record { place = PICTURE_AT; size = 8 } ∷ []
 
 -- of so many stores the offsets of their strings, and the strings; not their system ids
 abbrev pub stores_looked : List ℕ → ℕ → ℕ → List Range
 stores_looked bytes place zero = []
 stores_looked bytes place (suc count) =
-    record { place = place + 4; size = 8 }
-    ∷ string_range bytes (word_at bytes (place + 4)) ∷ string_range bytes (word_at bytes (place + 8))
-    ∷ stores_looked bytes (place + 12) count
+    record { place = place + STORE_NAME_AT; size = 8 }
+    ∷ string_range bytes (word_at bytes (place + STORE_NAME_AT)) ∷ string_range bytes (word_at bytes (place + STORE_ELEMENTS_AT))
+    ∷ stores_looked bytes (place + STORE_BYTES) count
 
 -- of so many key records the flags, where they are looked at, the offsets of their strings, and the strings
 abbrev pub records_looked : List ℕ → Bool → ℕ → ℕ → List Range
 records_looked bytes using_keys place zero = []
 records_looked bytes using_keys place (suc count) =
-    (if using_keys then record { place = place + 8; size = 12 } else record { place = place + 12; size = 8 })
-    ∷ string_range bytes (word_at bytes (place + 16)) ∷ string_range bytes (word_at bytes (place + 12))
-    ∷ records_looked bytes using_keys (place + 20) count
+    (if using_keys then record { place = place + RULE_FLAGS_AT; size = 12 } else record { place = place + RULE_OUTPUT_AT; size = 8 })
+    ∷ string_range bytes (word_at bytes (place + RULE_CONTEXT_AT)) ∷ string_range bytes (word_at bytes (place + RULE_OUTPUT_AT))
+    ∷ records_looked bytes using_keys (place + RULE_BYTES) count
 
 -- of so many groups their records and strings, and their key records
 abbrev pub groups_looked : List ℕ → ℕ → ℕ → List Range
 groups_looked bytes place zero = []
 groups_looked bytes place (suc count) =
-    record { place = place; size = 24 }
-    ∷ string_range bytes (word_at bytes place) ∷ string_range bytes (word_at bytes (place + 8)) ∷ string_range bytes (word_at bytes (place + 12))
-    ∷ (records_looked bytes (uses_keys_at bytes place) (word_at bytes (place + 4)) (word_at bytes (place + 16))
-    ++ groups_looked bytes (place + 24) count)
+    record { place = place; size = GROUP_BYTES }
+    ∷ string_range bytes (word_at bytes place) ∷ string_range bytes (word_at bytes (place + GROUP_MATCH_AT)) ∷ string_range bytes (word_at bytes (place + GROUP_NOMATCH_AT))
+    ∷ (records_looked bytes (uses_keys_at bytes place) (word_at bytes (place + GROUP_RULES_AT)) (word_at bytes (place + GROUP_RULE_COUNT_AT))
+    ++ groups_looked bytes (place + GROUP_BYTES) count)
 
 -- all that is looked at
 abbrev pub looked_at : List ℕ → List Range

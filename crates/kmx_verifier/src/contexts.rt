@@ -2,6 +2,7 @@
 
 ghost use Rattle.std.specs.Prelude.{◌≡◌, ◌+◌, ◌*◌, ◌⊎◌, ◌≤◌, ◌<◌, [], ◌∷◌, ◌++◌, List, map, length, None, Some, MatchResult};
 ghost use Rattle.kmn_base.specs.declared.limits.TheConstants.{FILE_BYTES};
+ghost use Rattle.kmx_format.specs.declared.sizes.TheConstants.{RULE_BYTES};
 ghost use Rattle.kmx_format.specs.TablesOf.{word_at};
 ghost use Rattle.item_codec.specs.Walk.{results_of, items_given};
 ghost use Rattle.kmx_verifier.specs.declared.contexts.TheConstants.{OFFSET_REACH};
@@ -13,9 +14,11 @@ ghost use Rattle.kmx_verifier.specs.FaultOf.{item_fault, context_fault, read_con
 use crate::faults::{Fault, StringKind, Target, VerifyError};
 use crate::items::{check_item, offset_is_unit, spelled_size, spelling_fault, target_of};
 use crate::strings::check_output;
+use item_codec::item_codes::KEY;
 use item_codec::items_of;
 use kmn_base::limits::CONTEXT_ITEMS;
 use kmn_base::{Code, SHIFT_FLAGS, UnitItem};
+use kmx_format::places::{RULE_CONTEXT_AT, RULE_FLAGS_AT, RULE_OUTPUT_AT};
 use kmx_format::sizes::RULE_BYTES;
 use kmx_parts::{ended_string, word_at};
 
@@ -117,7 +120,7 @@ fn check_flags(bytes: &[u8], using_keys: bool, place: usize) -> Result<(), Fault
         return Err(Fault {
             code: Code::V14,
             at: place as u32,
-            unit: 0x0A,
+            unit: KEY,
         });
     }
     Ok(())
@@ -131,12 +134,12 @@ pub(crate) fn check_record(
     targets: &mut Vec<Target>,
 ) -> Result<(), VerifyError>
     requires fits { length bytes.now ≤ FILE_BYTES }
-    requires place { place + 20 ≤ FILE_BYTES }
+    requires place { place + RULE_BYTES ≤ FILE_BYTES }
     ensures { TellsOf (record_fault bytes.now using_keys place) (Unit {0}) result }
 {
-    check_flags(bytes, using_keys, place + 8)?;
-    check_context(bytes, place + 16, targets)?;
-    Ok(check_output(bytes, StringKind::Output, targets, place + 12)?)
+    check_flags(bytes, using_keys, place + RULE_FLAGS_AT)?;
+    check_context(bytes, place + RULE_CONTEXT_AT, targets)?;
+    Ok(check_output(bytes, StringKind::Output, targets, place + RULE_OUTPUT_AT)?)
 }
 
 /// The records of a group.
@@ -148,7 +151,7 @@ pub(crate) fn check_records(
     targets: &mut Vec<Target>,
 ) -> Result<(), VerifyError>
     requires fits { length bytes.now ≤ FILE_BYTES }
-    requires stand { (count ≡ 0) ⊎ (place + 20 * count ≤ FILE_BYTES) }
+    requires stand { (count ≡ 0) ⊎ (place + RULE_BYTES * count ≤ FILE_BYTES) }
     ensures { TellsOf (records_fault bytes.now using_keys place count) (Unit {0}) result }
 {
     for i in 0..count as usize {

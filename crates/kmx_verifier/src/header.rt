@@ -2,6 +2,7 @@
 
 ghost use Rattle.std.specs.Prelude.{◌≡◌, ◌<◌, ◌≤◌, ◌^◌, ◌*◌, length};
 ghost use Rattle.kmx_parts.specs.View.{is_within};
+ghost use Rattle.kmx_format.specs.declared.sizes.TheConstants.{GROUP_BYTES};
 ghost use Rattle.kmx_format.specs.Writable.{is_version};
 ghost use Rattle.kmx_verifier.specs.FaultOf.{size_fault, header_fault, arrays_fault, Tells};
 
@@ -9,11 +10,12 @@ use crate::faults::Fault;
 use kmn_base::Code;
 use kmn_base::limits::{FILE_BYTES, GROUPS, PICTURE_BYTES, STORES};
 use kmx_format::places::{
-    FLAGS_AT, GROUP_COUNT_AT, GROUPS_AT, IDENTIFIER_AT, PICTURE_AT, PICTURE_SIZE_AT, START_ANSI_AT,
-    START_UNICODE_AT, STORE_COUNT_AT, STORES_AT, VERSION_AT,
+    FLAGS_AT, GROUP_COUNT_AT, GROUPS_AT, IDENTIFIER, IDENTIFIER_AT, PICTURE_AT, PICTURE_SIZE_AT,
+    START_ANSI_AT, START_UNICODE_AT, STORE_COUNT_AT, STORES_AT, VERSION_AT,
 };
 use kmx_format::sizes::{GROUP_BYTES, HEADER_BYTES, STORE_BYTES};
 use kmx_parts::word_at;
+use rule_model::system::NO_GROUP;
 
 #[tactic(auto, unfolding(crate::specs::FaultOf::size_fault))]
 pub(crate) fn check_size(bytes: &[u8]) -> Result<(), Fault>
@@ -41,7 +43,7 @@ fn is_version(version: u32) -> bool
 pub(crate) fn check_header(bytes: &[u8]) -> Result<(), Fault>
     ensures { Tells (header_fault bytes.now) result }
 {
-    if word_at(bytes, IDENTIFIER_AT) != 0x5354_584B {
+    if word_at(bytes, IDENTIFIER_AT) != IDENTIFIER {
         return Err(Fault::of(Code::V02, IDENTIFIER_AT as u32));
     }
     if !is_version(word_at(bytes, VERSION_AT)) {
@@ -56,10 +58,10 @@ pub(crate) fn check_header(bytes: &[u8]) -> Result<(), Fault>
     if word_at(bytes, GROUP_COUNT_AT) > GROUPS as u32 {
         return Err(Fault::of(Code::V15, GROUP_COUNT_AT as u32));
     }
-    if word_at(bytes, START_UNICODE_AT) == u32::MAX {
+    if word_at(bytes, START_UNICODE_AT) == NO_GROUP {
         return Err(Fault::of(Code::V05, START_UNICODE_AT as u32));
     }
-    if word_at(bytes, START_ANSI_AT) != u32::MAX
+    if word_at(bytes, START_ANSI_AT) != NO_GROUP
         && word_at(bytes, START_ANSI_AT) >= word_at(bytes, GROUP_COUNT_AT)
     {
         return Err(Fault::of(Code::V06, START_ANSI_AT as u32));
@@ -72,7 +74,7 @@ pub(crate) fn check_header(bytes: &[u8]) -> Result<(), Fault>
 
 /// Whether so many records of a size stand in the file from a place on.
 fn stands(bytes: &[u8], place: u32, size: usize, count: u32) -> bool
-    requires { size ≤ 24 }
+    requires { size ≤ GROUP_BYTES }
     ensures { result ≡ is_within bytes.now place (size * count) }
 {
     place as usize + size * count as usize <= bytes.len()

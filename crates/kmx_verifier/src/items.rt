@@ -6,6 +6,7 @@ ghost use Rattle.kmx_verifier.specs.Items.{may_stand, stands_in_store, stands_in
 ghost use Rattle.kmx_verifier.specs.FaultOf.{names_outside, item_fault, spelling_fault, Tells};
 
 use crate::faults::{Fault, StringKind, Target};
+use item_codec::{item_codes, unit_count};
 use kmn_base::{BadKind, Code, UnitItem};
 use kmx_format::places::{GROUP_COUNT_AT, STORE_COUNT_AT};
 use kmx_parts::word_at;
@@ -88,23 +89,23 @@ fn code_of(item: UnitItem) -> u16
 {
     match item {
         UnitItem::Char(_) => 0,
-        UnitItem::Any(_) => 0x01,
-        UnitItem::Index(_, _) => 0x02,
-        UnitItem::Context => 0x03,
-        UnitItem::Nul => 0x04,
-        UnitItem::Enter(_) => 0x05,
-        UnitItem::Stop => 0x06,
-        UnitItem::Beep => 0x07,
-        UnitItem::Dead(_) => 0x08,
-        UnitItem::Key(_, _) => 0x0A,
-        UnitItem::ContextAt(_) => 0x11,
-        UnitItem::NotAny(_) => 0x12,
-        UnitItem::Set(_, _) => 0x13,
-        UnitItem::Test(_, _, _) => 0x14,
-        UnitItem::Save(_) => 0x15,
-        UnitItem::Reset(_) => 0x16,
-        UnitItem::SystemTest(_, _, _) => 0x17,
-        UnitItem::SetSystem(_, _) => 0x18,
+        UnitItem::Any(_) => item_codes::ANY,
+        UnitItem::Index(_, _) => item_codes::INDEX,
+        UnitItem::Context => item_codes::CONTEXT,
+        UnitItem::Nul => item_codes::NUL,
+        UnitItem::Enter(_) => item_codes::ENTER,
+        UnitItem::Stop => item_codes::STOP,
+        UnitItem::Beep => item_codes::BEEP,
+        UnitItem::Dead(_) => item_codes::DEAD,
+        UnitItem::Key(_, _) => item_codes::KEY,
+        UnitItem::ContextAt(_) => item_codes::CONTEXT_AT,
+        UnitItem::NotAny(_) => item_codes::NOT_ANY,
+        UnitItem::Set(_, _) => item_codes::SET,
+        UnitItem::Test(_, _, _) => item_codes::TEST,
+        UnitItem::Save(_) => item_codes::SAVE,
+        UnitItem::Reset(_) => item_codes::RESET,
+        UnitItem::SystemTest(_, _, _) => item_codes::SYSTEM_TEST,
+        UnitItem::SetSystem(_, _) => item_codes::SET_SYSTEM,
     }
 }
 
@@ -112,19 +113,7 @@ fn code_of(item: UnitItem) -> u16
 pub(crate) fn spelled_size(item: UnitItem) -> u32
     ensures { result ≡ spelled_size item }
 {
-    match item {
-        UnitItem::Char(c) => { if (c as u32) < 0x1_0000 { 2 } else { 4 } }
-        UnitItem::Context | UnitItem::Nul | UnitItem::Stop | UnitItem::Beep => 4,
-        UnitItem::Any(_)
-        | UnitItem::Enter(_)
-        | UnitItem::Dead(_)
-        | UnitItem::ContextAt(_)
-        | UnitItem::NotAny(_)
-        | UnitItem::Save(_)
-        | UnitItem::Reset(_) => 6,
-        UnitItem::Index(_, _) | UnitItem::Set(_, _) | UnitItem::SetSystem(_, _) => 8,
-        UnitItem::Key(_, _) | UnitItem::Test(_, _, _) | UnitItem::SystemTest(_, _, _) => 10,
-    }
+    2 * unit_count(item)
 }
 
 /// Whether an item names a store or group that the file doesn't have.

@@ -10,12 +10,10 @@ use crate::units::{offset_of, put_words};
 use crate::{groups, stores};
 use kmn_base::limits::{FILE_BYTES, PICTURE_BYTES};
 use kmn_base::{Code, CompileError, Memory, Seq};
+use kmx_format::places::IDENTIFIER;
 use kmx_format::sizes::HEADER_BYTES;
 use rule_model::Tables;
 use std::alloc::Global;
-
-/// The bytes `KXTS`.
-const IDENTIFIER: u32 = 0x5354_584B;
 
 /// Puts the header of the tables' file with a picture of so many bytes.
 #[tactic(auto, using(crate::proofs::Strings::offset_of_list))]

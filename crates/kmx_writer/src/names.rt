@@ -6,7 +6,8 @@ ghost use Rattle.kmn_base.specs.Spelling.{unit_bytes};
 ghost use Rattle.kmx_format.specs.File.{string};
 ghost use Rattle.kmx_format.specs.FileUnits.{name_units};
 
-use crate::units::{char_unit_count, put_char, put_units, size_of_units};
+use crate::units::{put_units, size_of_units};
+use item_codec::{char_unit_count, put_char};
 use kmn_base::{Memory, Seq};
 use std::str;
 
@@ -29,7 +30,7 @@ fn name_unit_count(name: &[u8]) -> u64
 {
     let mut count = 0;
     for c in text_of(name).chars() {
-        count += char_unit_count(c);
+        count += u64::from(char_unit_count(c));
     }
     count
 }

@@ -6,8 +6,8 @@ ghost use Rattle.kmn_base.specs.Spelling.{IsSpellable, unit_bytes};
 ghost use Rattle.kmx_format.specs.File.{string};
 ghost use Rattle.kmx_format.specs.FileUnits.{item_units};
 
-use crate::units::{put_units, size_of_units, unit_count};
-use item_codec::spell;
+use crate::units::{put_units, size_of_units};
+use item_codec::{spell, unit_count};
 use kmn_base::{Memory, Seq};
 use kmx_format::Spelled;
 
@@ -20,7 +20,7 @@ fn item_unit_count<T: Spelled>(items: &[T]) -> u64
 {
     let mut count = 0;
     for item in items {
-        count += unit_count(item.unit_item());
+        count += u64::from(unit_count(item.unit_item()));
     }
     count
 }

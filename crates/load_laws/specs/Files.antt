@@ -7,13 +7,14 @@ use Rattle.rule_model.specs.Tab.{tab}
 use Rattle.rule_model.specs.Trace.{trace}
 use Rattle.rule_model.specs.declared.tables.Tables.{Tables}
 use Rattle.load_maker.specs.Loads.{load_source}
+use Rattle.load_maker.specs.declared.load.TheConstants.{RULES}
 use Rattle.load_laws.specs.Keyboards.{load_events}
 use Rattle.load_laws.specs.Plays.{Plays}
 use Rattle.load_laws.specs.Programs.{load_program}
 
 -- the source of a load is read as its program, and nothing of it is refused
 abbrev pub SourcesAreChecked : Type 0
-SourcesAreChecked = (n : ℕ) → n ≤ 2000 → checked (load_source n) ≡ Ok (load_program n)
+SourcesAreChecked = (n : ℕ) → n ≤ RULES → checked (load_source n) ≡ Ok (load_program n)
 
 -- tables of so many rules behind the first one, and the size of their file
 pub record HasSizes (n : ℕ) (tables : Tables) : Type 0 where
@@ -22,8 +23,8 @@ pub record HasSizes (n : ℕ) (tables : Tables) : Type 0 where
 
 -- the file of a load has a rule for each of the source, and a size that the number tells
 abbrev pub FilesHaveSizes : Type 0
-FilesHaveSizes = (n : ℕ) → n ≤ 2000 → HasSizes n (compiled_tables (load_program n))
+FilesHaveSizes = (n : ℕ) → n ≤ RULES → HasSizes n (compiled_tables (load_program n))
 
 -- the script of a load plays on its compiled tables as on the keyboard: the presses together put an item for each
 abbrev pub FilesPlay : Type 0
-FilesPlay = (n : ℕ) → n ≤ 2000 → Plays (n + 2) (trace (tab (compiled_tables (load_program n))) (load_events n))
+FilesPlay = (n : ℕ) → n ≤ RULES → Plays (n + 2) (trace (tab (compiled_tables (load_program n))) (load_events n))

@@ -6,6 +6,7 @@ use Rattle.kmn_base.specs.declared.keys.KeyPress.{KeyPress}
 use Rattle.kmn_base.specs.declared.keys.RuleKey.TheVariants as key
 use Rattle.rule_model.specs.System.{system_options}
 use Rattle.rule_model.specs.Keyboard.{Named, IsChar, PutChar, KeyPattern, OneKey, RuleMeaning, GroupMeaning, Keyboard, Best}
+use Rattle.load_maker.specs.declared.load.TheConstants.{FIRST}
 
 -- the key K_A, with no shift key
 abbrev pub key_a : KeyPattern
@@ -13,8 +14,8 @@ key_a = OneKey (key.Virtual 0x4000 65)
 
 -- the first rule puts the first character; each rule behind it takes what the rule before it puts, and puts the next one
 abbrev pub load_rule : ℕ → RuleMeaning
-load_rule zero = record { line = 3; context = []; key = key_a; output = PutChar 0x4E00 ∷ [] }
-load_rule (suc i) = record { line = i + 4; context = IsChar (0x4E00 + i) ∷ []; key = key_a; output = PutChar (0x4E00 + suc i) ∷ [] }
+load_rule zero = record { line = 3; context = []; key = key_a; output = PutChar FIRST ∷ [] }
+load_rule (suc i) = record { line = i + 4; context = IsChar (FIRST + i) ∷ []; key = key_a; output = PutChar (FIRST + suc i) ∷ [] }
 
 -- so many rules from the one of a number on
 abbrev pub rules_from : ℕ → ℕ → List RuleMeaning

@@ -6,6 +6,7 @@ use Rattle.rule_model.specs.declared.program.RuleKind.TheVariants.{Plain}
 use Rattle.rule_model.specs.declared.program.RuleDef.{RuleDef}
 use Rattle.rule_model.specs.declared.program.Program.{Program}
 use Rattle.rule_model.specs.Src.{src}
+use Rattle.load_maker.specs.declared.load.TheConstants.{FIRST}
 use Rattle.load_laws.specs.Keyboards.{load_keyboard}
 
 abbrev pub source_a : SrcItem
@@ -13,8 +14,8 @@ source_a = source.Key (record { flags = 0x4000; code = 65; name = [] })
 
 -- the first rule, in line 3, and those behind it
 abbrev pub rule_def : ℕ → RuleDef
-rule_def zero = record { line = 3; kind = Plain; context = []; key = Some source_a; output = source.Char 0x4E00 ∷ [] }
-rule_def (suc i) = record { line = i + 4; kind = Plain; context = source.Char (0x4E00 + i) ∷ []; key = Some source_a; output = source.Char (0x4E00 + suc i) ∷ [] }
+rule_def zero = record { line = 3; kind = Plain; context = []; key = Some source_a; output = source.Char FIRST ∷ [] }
+rule_def (suc i) = record { line = i + 4; kind = Plain; context = source.Char (FIRST + i) ∷ []; key = Some source_a; output = source.Char (FIRST + suc i) ∷ [] }
 
 -- so many rules from the one of a number on
 abbrev pub rule_defs : ℕ → ℕ → List RuleDef

@@ -5,6 +5,7 @@ use Rattle.rule_model.specs.Transcript.{events_of}
 use Rattle.rule_model.specs.declared.script.Entry.{Entry}
 use Rattle.rule_model.specs.declared.script.Entry.TheVariants.{Act}
 use Rattle.load_maker.specs.Loads.{load_script}
+use Rattle.load_maker.specs.declared.load.TheConstants.{RULES}
 use Rattle.play_script.specs.Entries.{entries}
 use Rattle.load_laws.specs.Keyboards.{press_a, press_space, load_events}
 
@@ -16,5 +17,5 @@ press_entries line (suc count) = Act line (event.Key press_a) ∷ press_entries 
 -- the script of a load is read as its presses, whatever names of keys the keyboard has for itself
 abbrev pub ScriptsAreRead : Type 0
 ScriptsAreRead =
-    (n : ℕ) (dictionary : List (List ℕ)) → n ≤ 2000
+    (n : ℕ) (dictionary : List (List ℕ)) → n ≤ RULES
     → (entries dictionary (load_script n) ≡ Ok (press_entries 1 (suc n))) × (events_of (press_entries 1 (suc n)) ≡ load_events n)

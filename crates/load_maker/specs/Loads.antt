@@ -1,10 +1,11 @@
 -- The source and the script of a load. Each line ends with a line feed.
 use Rattle.std.specs.Prelude.{ℕ, zero, suc, ◌+◌, ◌-◌, List, [], ◌++◌, codes, Bool, true, ◌&&◌, nat_le}
 use Rattle.std.specs.Fmt.{digits}
+use Rattle.load_maker.specs.declared.load.TheConstants.{RULES, FIRST}
 
 -- whether a number has a load
 abbrev pub is_in_range : ℕ → Bool
-is_in_range n = nat_le 1 n && nat_le n 2000
+is_in_range n = nat_le 1 n && nat_le n RULES
 
 -- a number in upper-case hexadecimal
 abbrev pub hexadecimal : ℕ → List ℕ
@@ -14,7 +15,7 @@ hexadecimal n = digits 16 true n
 -- into the next one
 abbrev pub rule_line : ℕ → List ℕ
 rule_line i =
-    codes "U+" ++ hexadecimal (0x4E00 + i - 1) ++ codes " + [K_A] > U+" ++ hexadecimal (0x4E00 + i) ++ codes "\n"
+    codes "U+" ++ hexadecimal (FIRST + i - 1) ++ codes " + [K_A] > U+" ++ hexadecimal (FIRST + i) ++ codes "\n"
 
 -- the rules 1 to n
 abbrev pub rule_lines : ℕ → List ℕ

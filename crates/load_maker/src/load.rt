@@ -7,10 +7,10 @@ use std::fmt::Write;
 use thiserror::Error;
 
 /// The most rules behind the first one.
-const RULES: u32 = 2_000;
+pub const RULES: u32 = 2_000;
 
 /// The character that the first rule puts; each rule behind it puts the next one.
-const FIRST: u32 = 0x4E00;
+pub const FIRST: u32 = 0x4E00;
 
 /// The source of a keyboard, and a script of key presses for it.
 #[derive(Drop)]

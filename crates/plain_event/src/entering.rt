@@ -1,4 +1,5 @@
 ghost use Rattle.std.specs.Prelude.{◌≡◌, ◌<◌, [], ◌∷◌, ◌++◌, IfOk, OnOk, map, length, true, None, Some, option_map, option_copied, if◌then◌else◌};
+ghost use Rattle.kmn_base.specs.declared.limits.TheConstants.{EVENT_ENTRIES};
 ghost use Rattle.kmn_base.specs.Lists.{without_last};
 ghost use Rattle.rule_model.specs.Keyboard.{Numbered, UseGroup};
 ghost use Rattle.rule_model.specs.Act.{act_one, act, enter_if_allowed, items_caught};
@@ -251,7 +252,7 @@ fn enter(
     state: &mut EventState,
     lines: &mut Vec<u32>,
 ) -> Result<(), Memory>
-    requires { state.old.entered < 50 }
+    requires { state.old.entered < EVENT_ENTRIES }
     ensures acts { OnOk result (state.new ≡ enters entering.now (Numbered group) state.old) }
     ensures lines { OnOk result (lines.new.items ≡ adds entering.now (Numbered group) state.old lines.old.items) }
 {

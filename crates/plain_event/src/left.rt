@@ -1,6 +1,7 @@
 //! The text before the caret while keys act on it.
 
 ghost use Rattle.std.specs.Prelude.{◌≡◌, ◌++◌, IfOk, map};
+ghost use Rattle.kmn_base.specs.declared.limits.TheConstants.{WINDOW_ITEMS};
 ghost use Rattle.kmn_base.specs.Lists.{characters, without_last, window, put};
 ghost use Rattle.rule_model.specs.Enter.{without_last_character};
 
@@ -11,7 +12,7 @@ use std::alloc::Global;
 
 /// The same items without the marks before the window.
 fn without_old_marks(alloc: Global, items: &[Item]) -> Result<Vec<Item>, Memory>
-    ensures { IfOk result (λ after. after.items ≡ map Item.Char (characters (without_last 64 items.now)) ++ window items.now) }
+    ensures { IfOk result (λ after. after.items ≡ map Item.Char (characters (without_last WINDOW_ITEMS items.now)) ++ window items.now) }
 {
     let before = characters(alloc, without_last(WINDOW_ITEMS, items))?;
     let mut after = as_items(alloc, before.as_slice())?;

@@ -11,8 +11,8 @@ use crate::values::set_value;
 use indexed_tables::IndexedTables;
 use kmn_base::limits::EVENT_PUTS;
 use kmn_base::{Element, Item, Memory, Seq};
-use plain_matching::{element, item_of, place_caught, value_at};
-use rule_model::{Caught, EventState};
+use plain_matching::{element, place_caught, value_at};
+use rule_model::{Caught, EventState, item_of};
 use std::alloc::Global;
 
 /// Puts an item, or ends the event where no more may be put.

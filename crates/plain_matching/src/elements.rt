@@ -1,18 +1,8 @@
 ghost use Rattle.std.specs.Prelude.{◌≡◌, Some};
-ghost use Rattle.rule_model.specs.Match.{is_item, same_item, same_element, same_value, item_of, catch_at, item_caught, place_caught, place_of, is_element, is_same};
+ghost use Rattle.rule_model.specs.Match.{same_item, same_element, same_value, catch_at, item_caught, place_caught, place_of, is_element, is_same};
 
 use kmn_base::{Element, Item};
-use rule_model::Catch;
-
-/// Whether an item is the same as an element.
-pub fn is_item(item: Item, element: Element) -> bool
-    ensures { result ≡ is_item item element }
-{
-    match item {
-        Item::Char(c) => element == Element::Char(c),
-        Item::Mark(m) => element == Element::Mark(m),
-    }
-}
+use rule_model::{Catch, is_item};
 
 /// Whether two values are the same, element by element.
 #[tactic(auto, using(rule_model::proofs::SameElements::equal_values))]
@@ -20,17 +10,6 @@ pub fn same_value(value: &[Element], other: &[Element]) -> bool
     ensures { result ≡ same_value value.now other.now }
 {
     value == other
-}
-
-/// The item that stands for an element.
-pub fn item_of(element: Element) -> Option<Item>
-    ensures { result ≡ item_of element }
-{
-    match element {
-        Element::Char(c) => Some(Item::Char(c)),
-        Element::Mark(m) => Some(Item::Mark(m)),
-        Element::Key { .. } => None,
-    }
 }
 
 /// The first place of an item in a store's content.

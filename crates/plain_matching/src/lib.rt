@@ -11,5 +11,5 @@ mod elements;
 mod matching;
 
 pub use contents::{element, value_at};
-pub use elements::{item_caught, item_of, place_caught};
+pub use elements::{item_caught, place_caught};
 pub use matching::chosen_in;

@@ -1,5 +1,4 @@
-ghost use Rattle.std.specs.Prelude.{◌≡◌, ◌-◌, ◌<◌, ◌^◌, ◌++◌, [], None, IsTrue, IsSomeAnd, IfOk, IfErr};
-ghost use Rattle.std.specs.Str.{bytes_eq};
+ghost use Rattle.std.specs.Prelude.{◌≡◌, ◌-◌, ◌<◌, ◌^◌, [], None, IsTrue, IsSomeAnd, IfOk, IfErr};
 ghost use Rattle.kmn_outside.specs.Outside.{WriteCounts};
 ghost use Rattle.kmn_base.specs.declared.events.Event.TheVariants as event;
 ghost use Rattle.rule_model.specs.Act.{one_more};
@@ -13,12 +12,11 @@ ghost use Rattle.play_host.specs.Playing.{first_play, turned_to, refusal_in, ope
 
 use crate::lines::{front, preview_line, put_line};
 use host_script::HostEntry;
-use kmn_base::slices::{before, behind};
 use kmn_base::{Code, Event, KeyPress, Memory};
 use kmn_outside::{Sink, WriteError};
 use play_script::{end_line, expect_line, refused_event_line, text_line};
 use play_session::{Session, Step};
-use play_transcript::{PlayEnd, put_all, put_step};
+use play_transcript::{PlayEnd, end_after, is_text, put_all, put_step};
 use std::alloc::Global;
 use text_host::{Host, HostError};
 
@@ -284,14 +282,6 @@ fn is_text_of(host: &Host, field: u32, text: &[char]) -> bool
     }
 }
 
-/// Whether a text before the caret and one after it are together this text.
-#[tactic(auto, using(play_transcript::proofs::PlayingLaws::text_in_parts))]
-fn is_text(left: &[char], right: &[char], text: &[char]) -> bool
-    ensures { result ≡ bytes_eq (left.now ++ right.now) text.now }
-{
-    left == before(text, left.len()) && right == behind(text, left.len())
-}
-
 /// Prints the texts of the fields and the counts, and answers how the play ends.
 #[tactic(auto, using(play_transcript::proofs::PrintingLaws::faults))]
 fn put_end<S: Sink>(alloc: Global, play: &Play, out: &mut S) -> Result<PlayEnd, WriteError>
@@ -335,15 +325,4 @@ fn put_text<S: Sink>(
 {
     let line = text_line(alloc, session.editor().left(), session.editor().right())?;
     put_line(alloc, field, line, out)
-}
-
-/// How a play ends that comes to the end of its script.
-fn end_after(failed: usize) -> PlayEnd
-    ensures { result ≡ end_after None failed }
-{
-    if failed == 0 {
-        PlayEnd::Done
-    } else {
-        PlayEnd::ExpectFailed
-    }
 }

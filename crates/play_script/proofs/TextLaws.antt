@@ -56,12 +56,12 @@ line_some text n some within = elim (cases_lt n (length text)) [
 
 pub ruleset first_steps = (first_line_first, line_some)
 
-form_kept : {A : Type 0} (over form : Bool) (long other read : A) → over ≡ false → form ≡ true → (if over then long else (if not form then other else read)) ≡ read
+pub form_kept : {A : Type 0} (over form : Bool) (long other read : A) → over ≡ false → form ≡ true → (if over then long else (if not form then other else read)) ≡ read
 form_kept true form long other read is ok = absurd (cc)
 form_kept false true long other read is ok = refl
 form_kept false false long other read is ok = absurd (cc)
 
-form_broken : {A : Type 0} (over form : Bool) (long other read : A) → over ≡ false → ¬ (form ≡ true) → (if over then long else (if not form then other else read)) ≡ other
+pub form_broken : {A : Type 0} (over form : Bool) (long other read : A) → over ≡ false → ¬ (form ≡ true) → (if over then long else (if not form then other else read)) ≡ other
 form_broken true form long other read is ok = absurd (cc)
 form_broken false true long other read is ok = absurd (ok refl)
 form_broken false false long other read is ok = refl

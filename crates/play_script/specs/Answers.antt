@@ -31,4 +31,10 @@ Passes found (Err error.Memory) = ⊥
 abbrev pub Needs : {A : Type 0} → ℕ → Code → Option A → Result A ScriptError → Type 0
 Needs line code read (Ok value) = read ≡ Some value
 Needs line code read (Err (error.Refused refusal)) = (read ≡ None) × (refusal ≡ record { line = line; code = code })
-Needs line code read (Err error.Memory) = Unit {0}
+Needs line code read (Err error.Memory) = ⊥
+
+-- the same of what takes memory
+abbrev pub NeedsMade : {A : Type 0} → ℕ → Code → Option A → Result A ScriptError → Type 0
+NeedsMade line code read (Ok value) = read ≡ Some value
+NeedsMade line code read (Err (error.Refused refusal)) = (read ≡ None) × (refusal ≡ record { line = line; code = code })
+NeedsMade line code read (Err error.Memory) = Unit {0}

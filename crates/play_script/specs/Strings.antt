@@ -7,6 +7,7 @@ use Rattle.kmn_base.specs.Bytes.{is_blank, is_quote}
 use Rattle.kmn_base.specs.Digits.{bounded_value}
 use Rattle.kmn_base.specs.Texts.{decoded}
 use Rattle.kmn_base.specs.declared.limits.TheConstants.{SCRIPT_STRING_CHARS}
+use Rattle.kmn_base.specs.declared.texts.TheConstants.{NO_CHARACTER}
 use Rattle.play_script.specs.Words.{has_digits}
 
 -- a number as the character that has it
@@ -16,7 +17,7 @@ scalar_of c = if scalar c then Some c else None
 -- the character that a text is: U+ and 4 to 6 hexadecimal digits
 abbrev pub code_point : List ℕ → Option ℕ
 code_point (u ∷ plus ∷ digits) =
-    if nat_eq u (byte "U") && nat_eq plus (byte "+") && has_digits 16 4 6 digits then scalar_of (bounded_value 0x110000 16 digits) else None
+    if nat_eq u (byte "U") && nat_eq plus (byte "+") && has_digits 16 4 6 digits then scalar_of (bounded_value NO_CHARACTER 16 digits) else None
 code_point text = None
 
 -- a token of a string: its characters, and how many bytes it has. A quoted one ends at its quote

@@ -2,6 +2,7 @@
 
 ghost use Rattle.std.specs.Prelude.{◌≡◌, ◌<◌, ◌≤◌, ◌∷◌, length, position, Ok};
 ghost use Rattle.std.specs.List.{position_or_len};
+ghost use Rattle.kmn_base.specs.declared.limits.TheConstants.{TEXT_BYTES};
 ghost use Rattle.play_script.specs.Lines.{text_lines, is_end, end_size, without_mark};
 ghost use Rattle.play_script.specs.Entries.{kind_of, kind_found, begun_found, text_found, line_found, lines_found, entries_of, first_script, entries, with_found};
 ghost use Rattle.play_script.specs.Answers.{Answers, Leaves};
@@ -165,7 +166,7 @@ fn read_lines(
     dictionary: &KeyDictionary,
     text: &[u8],
 ) -> Result<Seq<Entry>, ScriptError>
-    requires { length text.now ≤ 4_194_304 }
+    requires { length text.now ≤ TEXT_BYTES }
     ensures { Answers (entries_of (with_found (Ok first_script) (lines_found dictionary.now 1 (text_lines text.now)))) result }
 {
     let mut reader = Reader::new(alloc);

@@ -13,6 +13,7 @@ use crate::errors::ScriptError;
 use crate::reader::{Reader, refused};
 use crate::text_words::{TextWords, words};
 use crate::words::without_blanks;
+use kmn_base::keys::{EITHER_ALT, EITHER_CONTROL, LEFT_ALT, LEFT_CONTROL, NO_CAPS};
 use kmn_base::{Code, Event, KeyPress};
 use virtual_keys::{KeyDictionary, key_named, modifier_named};
 
@@ -21,9 +22,9 @@ fn held_bit(flag: u16) -> Option<u16>
     ensures { result ≡ held_bit flag }
 {
     match flag {
-        0x0020 => Some(0x0001),
-        0x0040 => Some(0x0004),
-        0x0200 => None,
+        EITHER_CONTROL => Some(LEFT_CONTROL),
+        EITHER_ALT => Some(LEFT_ALT),
+        NO_CAPS => None,
         _ => Some(flag),
     }
 }

@@ -7,7 +7,7 @@ ghost use Rattle.rule_model.specs.declared.script.Entry.TheVariants as entry;
 ghost use Rattle.play_script.specs.Words.{first_word, behind_word, number, name as some_name};
 ghost use Rattle.play_script.specs.Strings.{string};
 ghost use Rattle.play_script.specs.Entries.{first_script, with_entry, with_found, nothing_more, caret_found, edit_found, option_found, expect_found};
-ghost use Rattle.play_script.specs.Answers.{Leaves, Passes, Needs};
+ghost use Rattle.play_script.specs.Answers.{Leaves, Passes, Needs, NeedsMade};
 
 use crate::errors::ScriptError;
 use crate::strings::string;
@@ -111,7 +111,7 @@ pub fn needed_number(line: u32, text: &[u8]) -> Result<u32, ScriptError>
 
 /// The string that the rest of a line is.
 fn needed_string(alloc: Global, line: u32, text: &[u8]) -> Result<Seq<char>, ScriptError>
-    ensures { Needs line P04 (string text.now) result }
+    ensures { NeedsMade line P04 (string text.now) result }
 {
     match string(alloc, text)? {
         Some(value) => Ok(value),

@@ -9,7 +9,7 @@ use kmn_base::bytes::{is_blank, is_quote};
 use kmn_base::digits::bounded_value;
 use kmn_base::limits::SCRIPT_STRING_CHARS;
 use kmn_base::slices::behind;
-use kmn_base::texts::decoded;
+use kmn_base::texts::{NO_CHARACTER, decoded};
 use kmn_base::{Memory, Seq};
 use std::alloc::Global;
 
@@ -21,7 +21,7 @@ fn code_point(text: &[u8]) -> Option<char>
         return None;
     };
     if *u == b'U' && *plus == b'+' && has_digits(16, 4, 6, digits) {
-        char::from_u32(bounded_value(0x11_0000, 16, digits))
+        char::from_u32(bounded_value(NO_CHARACTER, 16, digits))
     } else {
         None
     }

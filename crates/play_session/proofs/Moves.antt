@@ -1,9 +1,12 @@
 -- What a caret move, an edit from outside and a setting make of an engine and an editor that are together.
 use Rattle.std.proofs.Common.{◌≡◌, ℕ, ◌+◌, ◌-◌, ◌≤◌, List, ◌++◌, length, map, take, drop, Option, Some, None, refl, sym, ◌∙◌, ap, subst, arith, length-append, length-drop}
+use Rattle.std.specs.Prelude.{◌≢◌, Result, Err}
+use Rattle.std.proofs.lemmas.Option.{none-some}
 use Rattle.std.proofs.lemmas.List.{take-append-drop, length-take-le}
 use Rattle.std.proofs.lemmas.Bool.Decides.{nat_tests}
 use Rattle.std.proofs.lemmas.Grind.{common_steps}
 use Rattle.kmn_base.specs.Lists.{characters, window, IsSound}
+use Rattle.kmn_base.specs.declared.codes.Code.TheVariants.{E1, E2}
 use Rattle.kmn_base.specs.declared.events.Event.TheVariants as event
 use Rattle.kmn_base.specs.declared.items.Element.{Element}
 use Rattle.kmn_base.specs.declared.items.Element.TheVariants.{Char}
@@ -11,7 +14,13 @@ use Rattle.kmn_base.specs.declared.limits.TheConstants.{TEXT_CHARS}
 use Rattle.rule_model.specs.Event.{text_becomes, caret_event, edit_event, edited_text, edit_refusal, moved_caret, event_refusal, whole_text, set_option, setting_event}
 use Rattle.rule_engine.specs.Engine.{EngineState, option_named, with_option, set_by_host}
 use Rattle.editor_model.specs.Text.{EditorText, whole, IsAt, HasTextOf}
+use Rattle.editor_model.specs.declared.error.EditError.{EditError}
+use Rattle.editor_model.specs.declared.error.EditError.TheVariants as edit
 use Rattle.editor_model.specs.Answers.{caret_refusal}
+use Rattle.editor_model.specs.Answers.{code_of as edit_code}
+use Rattle.play_session.specs.declared.session.StepError.{StepError}
+use Rattle.play_session.specs.declared.session.StepError.TheVariants as step
+use Rattle.play_session.specs.Answers.{code_of}
 use Rattle.play_session.specs.Session.{AreTogether, stands_for, text_with_context}
 
 -- the whole text of a session is its editor's
@@ -58,6 +67,15 @@ pub caret_refused : (engine : EngineState) (editor : EditorText) (place : ℕ) �
     → caret_refusal place (length (whole editor)) ≡ event_refusal (stands_for engine editor) (event.Caret place)
 caret_refused engine editor place h = ap (λ (text : List ℕ). caret_refusal place (length text)) (sym (whole_is engine editor h))
 
+-- an editor's error that isn't want of memory isn't given as it
+abbrev failed : EditError → Result (Unit {0}) EditError
+failed error = Err error
+
+pub wants_none : (error : EditError) (given : StepError) → code_of given ≡ edit_code error → failed error ≢ failed edit.Memory → given ≢ step.Memory
+wants_none edit.Place given same apart is = none-some E1 (sym (ap code_of is) ∙ same)
+wants_none edit.Length given same apart is = none-some E2 (sym (ap code_of is) ∙ same)
+wants_none edit.Memory given same apart is = apart refl
+
 -- the same of an edit
 pub record IsEdited (engine : EngineState) (editor after : EditorText) (from to : ℕ) (text : List ℕ) : Type 0 where
   pub few : length (whole after) ≤ TEXT_CHARS
@@ -95,7 +113,7 @@ edit_done engine editor after from to text h none at =
           ((at.right ∙ (λ j. drop (caret j) (edited_text from to text (same j)))) i) (stands_for engine editor);
     }
 
-pub ruleset caret_steps = (caret_moved, caret_refused, same_text)
+pub ruleset caret_steps = (caret_moved, caret_refused, wants_none, same_text)
 
 pub ruleset edit_steps = (edit_done, edit_refused, same_text)
 

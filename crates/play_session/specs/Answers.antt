@@ -1,6 +1,7 @@
 -- What a session answers to an event.
-use Rattle.std.specs.Prelude.{Option, Some, None}
+use Rattle.std.specs.Prelude.{Bool, true, false, Option, Some, None}
 use Rattle.kmn_base.specs.declared.events.Event.{Event}
+use Rattle.kmn_base.specs.declared.events.Event.TheVariants as event
 use Rattle.kmn_base.specs.declared.codes.Code.{Code}
 use Rattle.kmn_base.specs.declared.codes.Code.TheVariants.{E1, E2}
 use Rattle.rule_model.specs.Act.{one_more}
@@ -18,3 +19,10 @@ abbrev pub code_of : StepError → Option Code
 code_of Place = Some E1
 code_of Length = Some E2
 code_of Memory = None
+
+-- an event takes memory, so that its step may answer want of it; a caret move takes none
+abbrev pub takes_memory : Event → Bool
+takes_memory (event.Key press) = true
+takes_memory (event.Setting name value) = true
+takes_memory (event.Caret place) = false
+takes_memory (event.Edit from to text) = true

@@ -1,4 +1,4 @@
-ghost use Rattle.std.specs.Prelude.{◌≡◌, ◌+◌, ◌≤◌, None, IfOk, IfErr};
+ghost use Rattle.std.specs.Prelude.{◌≡◌, ◌≢◌, ◌+◌, ◌≤◌, None, IfOk, IfErr};
 ghost use Rattle.kmn_base.specs.declared.events.Event.TheVariants as event;
 ghost use Rattle.kmn_base.specs.declared.limits.TheConstants.{EVENT_PUTS, TEXT_CHARS, TEXT_CHARS_AT_KEY};
 ghost use Rattle.rule_model.specs.ChosenLines.{chosen};
@@ -18,6 +18,13 @@ use std::alloc::Global;
 
 /// What a key press inserts at most, and one character that the editor may insert by itself.
 const KEY_CHARS: usize = EVENT_PUTS as usize + 1;
+
+/// Where an edit begins, and where what it replaces ends.
+#[derive(Clone, Copy)]
+pub(crate) struct Places {
+    pub(crate) from: u32,
+    pub(crate) to: u32,
+}
 
 /// Presses a key, and makes its edit before the caret.
 fn press_key(engine: &mut Engine, editor: &mut Editor, press: KeyPress) -> Outcome
@@ -104,6 +111,7 @@ pub(crate) fn caret_event(
     ensures happens { IfOk result (λ _. event_refusal (stands_for engine.old editor.old) (event.Caret place) ≡ None) }
     ensures state { IfOk result (λ _. stands_for engine.new editor.new ≡ caret_event place (stands_for engine.old editor.old)) }
     ensures refused { IfErr result (λ error. code_of error ≡ event_refusal (stands_for engine.old editor.old) (event.Caret place)) }
+    ensures no_memory { IfErr result (λ error. error ≢ StepError.Memory) }
     ensures unchanged { IfErr result (λ _. stands_for engine.new editor.new ≡ stands_for engine.old editor.old) }
     ensures inserted { engine.new.inserted ≡ engine.old.inserted }
     ensures chosen { engine.new.chosen ≡ engine.old.chosen }
@@ -119,21 +127,20 @@ pub(crate) fn edit_event(
     alloc: Global,
     engine: &mut Engine,
     editor: &mut Editor,
-    from: u32,
-    to: u32,
+    places: Places,
     text: &[char],
 ) -> Result<(), StepError>
     requires together { AreTogether TEXT_CHARS engine.old editor.old }
     ensures together { AreTogether TEXT_CHARS engine.new editor.new }
     ensures tables { engine.new.tables ≡ engine.old.tables }
-    ensures happens { IfOk result (λ _. event_refusal (stands_for engine.old editor.old) (event.Edit from to text.now) ≡ None) }
-    ensures state { IfOk result (λ _. stands_for engine.new editor.new ≡ edit_event from to text.now (stands_for engine.old editor.old)) }
-    ensures refused { IfErr result (λ error. code_of error ≡ event_refusal (stands_for engine.old editor.old) (event.Edit from to text.now)) }
+    ensures happens { IfOk result (λ _. event_refusal (stands_for engine.old editor.old) (event.Edit places.from places.to text.now) ≡ None) }
+    ensures state { IfOk result (λ _. stands_for engine.new editor.new ≡ edit_event places.from places.to text.now (stands_for engine.old editor.old)) }
+    ensures refused { IfErr result (λ error. code_of error ≡ event_refusal (stands_for engine.old editor.old) (event.Edit places.from places.to text.now)) }
     ensures unchanged { IfErr result (λ _. stands_for engine.new editor.new ≡ stands_for engine.old editor.old) }
     ensures inserted { engine.new.inserted ≡ engine.old.inserted }
     ensures chosen { engine.new.chosen ≡ engine.old.chosen }
 {
-    editor.edit(alloc, from, to, text)?;
+    editor.edit(alloc, places.from, places.to, text)?;
     engine.sync(editor.left());
     Ok(())
 }

@@ -1,4 +1,4 @@
-ghost use Rattle.std.specs.Prelude.{◌≡◌, ◌≤◌, length, IfOk, IfErr, Ok};
+ghost use Rattle.std.specs.Prelude.{◌≡◌, ◌≢◌, ◌≤◌, false, length, IfOk, IfErr, Ok};
 ghost use Rattle.kmn_base.specs.declared.events.Event.TheVariants as event;
 ghost use Rattle.kmn_base.specs.declared.limits.TheConstants.{EVENT_ENTRIES, TEXT_CHARS};
 ghost use Rattle.kmn_base.specs.Lists.{characters, window};
@@ -11,7 +11,7 @@ ghost use Rattle.rule_model.specs.Trace.{first_state};
 
 use crate::changes::{Change, put_changes};
 use crate::options::{cells_now, option_stores};
-use crate::playing::{caret_event, edit_event, key_event, preview_key, setting_event};
+use crate::playing::{Places, caret_event, edit_event, key_event, preview_key, setting_event};
 use editor_model::{EditError, Editor};
 use kmn_base::limits::TEXT_CHARS_AT_KEY;
 use kmn_base::{Element, Event, KeyPress, Memory, Outcome, Seq, Text};
@@ -106,7 +106,7 @@ impl<'a> Model for Session<'a> {
 
 impl<'a> Session<'a> {
     ghost use Rattle.play_session.specs.Session.{engine_of, text_with_context, first_session, happened, after_step};
-    ghost use Rattle.play_session.specs.Answers.{step_of, code_of};
+    ghost use Rattle.play_session.specs.Answers.{step_of, code_of, takes_memory};
     ghost use Rattle.rule_engine.specs.Engine.{name_of};
     ghost use Rattle.play_session.specs.Printed.{value_of};
 
@@ -162,12 +162,13 @@ impl<'a> Session<'a> {
     }
 
     /// Does an event. `Place` and `Length` come exactly where its meaning refuses it. They and want of memory change nothing:
-    /// all memory of an event is taken before it acts.
+    /// all memory of an event is taken before it acts. A caret move takes none.
     pub fn step(&mut self, alloc: Global, event: &Event) -> Result<Step, StepError>
         ensures happens { IfOk result (λ _. event_of (tab self.old.tables) self.old.state event.now ≡ Ok (happened self.old event.now)) }
         ensures answer { IfOk result (λ step. step ≡ step_of self.old event.now) }
         ensures leaves { IfOk result (λ _. self.new ≡ after_step self.old event.now) }
         ensures refused { IfErr result (λ error. code_of error ≡ event_refusal self.old.state event.now) }
+        ensures no_memory { IfErr result (λ error. takes_memory event.now ≡ false → error ≢ StepError.Memory) }
         ensures unchanged { IfErr result (λ _. self.new ≡ self.old) }
     {
         match event {
@@ -235,6 +236,7 @@ impl<'a> Session<'a> {
         ensures answer { IfOk result (λ step. step ≡ step_of self.old (event.Caret place)) }
         ensures leaves { IfOk result (λ _. self.new ≡ after_step self.old (event.Caret place)) }
         ensures refused { IfErr result (λ error. code_of error ≡ event_refusal self.old.state (event.Caret place)) }
+        ensures no_memory { IfErr result (λ error. error ≢ StepError.Memory) }
         ensures unchanged { IfErr result (λ _. self.new ≡ self.old) }
     {
         caret_event(&mut self.engine, &mut self.editor, place)?;
@@ -252,7 +254,8 @@ impl<'a> Session<'a> {
         ensures refused { IfErr result (λ error. code_of error ≡ event_refusal self.old.state (event.Edit from to text.now)) }
         ensures unchanged { IfErr result (λ _. self.new ≡ self.old) }
     {
-        edit_event(alloc, &mut self.engine, &mut self.editor, from, to, text)?;
+        let places = Places { from, to };
+        edit_event(alloc, &mut self.engine, &mut self.editor, places, text)?;
         self.changes.clear();
         self.typed = false;
         Ok(next_step(&mut self.number, NO_OUTCOME))

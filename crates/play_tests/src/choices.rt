@@ -1,16 +1,17 @@
 //! The lines of the rules that the events of a session choose.
 
-use crate::shared::{event, press};
-use kmn_base::{Event, Memory};
-use kmn_compiler::compile;
+use crate::files::compiled;
+use crate::fixtures::key;
+use kmn_base::Memory;
 use kmx_verifier::verify;
+use meaning_tests::events::event;
 use play_session::Session;
 use std::alloc::Global;
 use std::fmt::Write;
 use std::test::Fail;
 
 /// Rules on the lines 4 to 8, 11, 13 and 15. One enters a group whose rule enters another, one a group that enters itself.
-const KEYBOARD: &[u8] = b"begin Unicode > use(main)\nstore(o) '0'\ngroup(main) using keys\n\
+const KEYBOARD: &str = "begin Unicode > use(main)\nstore(o) '0'\ngroup(main) using keys\n\
     + 'a' > 'x' use(more) use(last)\n'x' + 'd' > 'y'\n+ 'd' > 'x'\n+ 'r' > 'x' use(round)\nif(o = '1') + 's' > 'n'\n\
     match > use(last)\ngroup(more)\n'x' > 'y' use(last)\ngroup(last)\n'y' > 'z'\ngroup(round)\n'x' > 'x' use(round)\n";
 
@@ -79,7 +80,7 @@ fn wrong_in(alloc: Global, session: &Session) -> Result<Option<&'static str>, Fa
     Ok(None)
 }
 
-/// What is wrong with a session on that keyboard: the press that enters all groups, or a step of the cases.
+/// What is wrong with a session: the press that enters all groups, or a step of the cases.
 fn wrong_of(alloc: Global, session: &mut Session) -> Result<Option<&'static str>, Fail> {
     if !tells_all(alloc, session)? {
         return Ok(Some("K_R"));
@@ -90,18 +91,23 @@ fn wrong_of(alloc: Global, session: &mut Session) -> Result<Option<&'static str>
 /// Whether a press whose rule enters a group that enters itself tells a line for each group that may be entered.
 fn tells_all(alloc: Global, session: &mut Session) -> Result<bool, Fail> {
     let begins = session.chosen().is_empty();
-    session.step(alloc, &Event::Key(press(b"K_R")))?;
+    session.step(alloc, &key(b"K_R"))?;
     let mut lines = [15u32; 50];
     lines[0] = 7;
     Ok(begins && session.chosen() == lines.as_slice())
 }
 
-/// The first wrong step of the cases, or the press that enters all groups.
-fn wrong_with_keyboard(alloc: Global) -> Result<Option<&'static str>, Fail> {
-    let compiled = compile(alloc, KEYBOARD, &[])?;
-    let file = verify(alloc, compiled.bytes.as_slice())?;
+/// What is wrong with a session on a file's bytes.
+fn wrong_in_file(alloc: Global, bytes: &[u8]) -> Result<Option<&'static str>, Fail> {
+    let file = verify(alloc, bytes)?;
     let mut session = Session::start(alloc, &file)?;
     wrong_of(alloc, &mut session)
+}
+
+/// What is wrong with a session on that keyboard.
+fn wrong_with_keyboard(alloc: Global) -> Result<Option<&'static str>, Fail> {
+    let bytes = compiled(alloc, KEYBOARD)?;
+    wrong_in_file(alloc, bytes.as_slice())
 }
 
 #[test]

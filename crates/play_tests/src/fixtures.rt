@@ -1,28 +1,15 @@
-//! What the tests of meanings take: tables of one group.
+//! What several tests take: the event of a key.
 
-ghost use Rattle.std.specs.Prelude.{◌≡◌, IfOk};
-ghost use Rattle.kmx_format.specs.WorkedFiles.{main_tables};
+ghost use Rattle.std.specs.Prelude.{◌≡◌, unwrap_or};
+ghost use Rattle.virtual_keys.specs.Keys.{key_code};
+ghost use Rattle.kmn_base.specs.declared.events.Event.TheVariants as event;
 
-use kmn_base::{Memory, Seq, Text};
-use rule_model::{Group, Rule, Store, Tables};
-use std::alloc::Global;
+use kmn_base::Event;
+use meaning_tests::events::press;
 
-/// Tables of the version 10.0 with one group, which is called main and uses keys.
-pub fn tables(alloc: Global, stores: Seq<Store>, rules: Seq<Rule>) -> Result<Tables, Memory>
-    ensures { IfOk result (λ tables. tables ≡ main_tables stores rules) }
+/// The press of the key of a name, without modifiers, as an event.
+pub fn key(name: &[u8]) -> Event
+    ensures { result ≡ event.Key (record { code = unwrap_or (key_code name.now) 0; mods = 0 }) }
 {
-    let group = Group {
-        name: Text::from_slice(alloc, b"main")?,
-        using_keys: true,
-        rules,
-        on_match: Seq::new(alloc),
-        on_nomatch: Seq::new(alloc),
-    };
-    Ok(Tables {
-        version: 0x0A00,
-        start_ansi: 0xFFFF_FFFF,
-        start_unicode: 0,
-        stores,
-        groups: Seq::from_vec(vec![in alloc; group]?),
-    })
+    Event::Key(press(name))
 }

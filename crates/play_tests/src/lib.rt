@@ -1,28 +1,14 @@
-//! The tests of the crates that play keyboards and of those below them: `caches` of `context_cache`, `event_texts` of
-//! `event_text`, `option_values` of `option_store`, `meaning` of `plain_event`, `pressing` of `rule_engine`, `choices` and
-//! `sessions` of `play_session`, and `tracing` of `rule_trace`.
+//! The tests of `play_session`: `sessions` has sessions event by event, and `choices` the lines of the rules that they choose.
 //!
-//! They stand here because a crate with tests is proved twice, once with them and once without: so each of those crates is
-//! proved once, and the tests are proved over them, beside those of `script_tests`. `shared` has what several of them take,
-//! and `fixtures` the tables of those of meanings. No layer stands above.
+//! They stand here because a crate with tests is proved twice, once with them and once without: so `play_session` is proved
+//! once, and the tests are proved over it, beside those of `meaning_tests`, whose words of events and signs they take. `files`
+//! has the files that sessions play, and `fixtures` the event of a key. No layer stands above.
 #![tactic(auto)]
 
 #[cfg(test)]
-mod caches;
-#[cfg(test)]
 mod choices;
 #[cfg(test)]
-mod event_texts;
+mod files;
 pub mod fixtures;
 #[cfg(test)]
-mod meaning;
-#[cfg(test)]
-mod option_values;
-#[cfg(test)]
-mod pressing;
-#[cfg(test)]
 mod sessions;
-#[cfg(test)]
-mod shared;
-#[cfg(test)]
-mod tracing;

@@ -1,9 +1,10 @@
 //! Sessions with compiled keyboards, event by event.
 
-use crate::shared::{event, press, sign, with_system_options};
+use crate::files::{compiled, with_system_options};
+use crate::fixtures::key;
 use kmn_base::{Element, Event, Item, KeyPress, Memory, Seq};
-use kmn_compiler::compile;
 use kmx_verifier::{Verified, verify};
+use meaning_tests::events::{event, sign};
 use play_session::{Change, Session, StepError};
 use std::alloc::Global;
 use std::str;
@@ -19,7 +20,7 @@ const ONE_RULE: &[u8] = &[
 ];
 
 /// An option o that holds `0`, and rules that test and change it; one that puts a mark, and one that takes it.
-const KEYBOARD: &[u8] = b"begin Unicode > use(main)\nstore(o) '0'\ngroup(main) using keys\n\
+const KEYBOARD: &str = "begin Unicode > use(main)\nstore(o) '0'\ngroup(main) using keys\n\
     if(o = '1') + 'a' > 'x'\n+ 'a' > 'y'\n+ 's' > set(o = '1')\n+ 'v' > save(o)\n\
     + 'r' > reset(o)\n+ 'z' > set(o = '0')\n+ '`' > dk(x)\ndk(x) + 'q' > U+00E0\n";
 
@@ -35,9 +36,9 @@ K_BKQUOTE ,*, ; K_Q à,à,";
 
 /// Keyboards that look at the layer and the platform in place of their first two stores, each with the steps of sessions.
 /// The second has an option that is called as the layer is.
-const ON_SYSTEM_OPTIONS: &[(&[u8], &str)] = &[
+const ON_SYSTEM_OPTIONS: &[(&str, &str)] = &[
     (
-        b"store(layer) 'l'\nstore(platform) 'p'\nstore(o) '0'\nbegin Unicode > use(main)\ngroup(main) using keys\n\
+        "store(layer) 'l'\nstore(platform) 'p'\nstore(o) '0'\nbegin Unicode > use(main)\ngroup(main) using keys\n\
         if(layer = 's') + 'a' > 'x'\nif(platform = 'WEB') + 'a' > 'w'\nif(o = '1') + 'a' > 'o'\n+ 'a' > 'y'\n\
         + 's' > set(layer = 's')\n+ 'd' > set(layer = 'default')\n+ 'e' > set(layer = '')\nif(layer != '') + 'f' > 'n'\n\
         + 'o' > set(layer = 's') set(o = '1') save(o)\n+ 'r' > reset(o)\n",
@@ -51,7 +52,7 @@ K_O ,,o1!o1&layers ; K_A x,x, ; K_D ,x,&layerdefault ; K_A o,xo, ; o=0 ,xo,o0!o0
 &layer=s ,,&layers!&layers ; @0 ,, ; K_X x,x, ; -0,0,u ,ux, ; K_A x,uxx, ; @9 E1 ; K_D ,uxx,&layerdefault",
     ),
     (
-        b"store(layer) 'l'\nstore(platform) 'p'\nstore(~layer) '0'\nbegin Unicode > use(main)\ngroup(main) using keys\n\
+        "store(layer) 'l'\nstore(platform) 'p'\nstore(~layer) '0'\nbegin Unicode > use(main)\ngroup(main) using keys\n\
         if(~layer = '1') + 'a' > 'o'\nif(layer = 'default') + 'a' > 'd'\n+ 'a' > 'y'\n+ 's' > set(layer = 's')\n",
         "\
 K_A d,d, ; &layer=1 ,d,&layer1!&layer1 ; K_A o,do, ; &Layer=s ,do,&layers!&layers ; K_A d,dod, ; K_S ,dod,&layers ; K_A y,dody,",
@@ -101,16 +102,28 @@ fn show_changes(alloc: Global, text: &mut String, session: &Session) -> Result<(
     Ok(())
 }
 
+/// Appends characters.
+fn put_chars(text: &mut String, chars: &[char]) -> Result<(), Memory> {
+    for c in chars {
+        text.push(*c)?;
+    }
+    Ok(())
+}
+
+/// Appends the signs of items.
+fn put_items(text: &mut String, items: &[Item]) -> Result<(), Memory> {
+    for item in items {
+        text.push(sign(*item))?;
+    }
+    Ok(())
+}
+
 /// What a session tells of its last step, as the table writes it.
 fn shown(alloc: Global, session: &Session) -> Result<String, Memory> {
     let mut text = String::new(alloc);
-    for c in session.inserted() {
-        text.push(*c)?;
-    }
+    put_chars(&mut text, session.inserted())?;
     text.push(',')?;
-    for item in session.engine().context() {
-        text.push(sign(*item))?;
-    }
+    put_items(&mut text, session.engine().context())?;
     text.push(',')?;
     show_changes(alloc, &mut text, session)?;
     Ok(text)
@@ -134,29 +147,42 @@ fn copy_shows(alloc: Global, session: &Session, step: &str) -> Result<bool, Fail
     shows(alloc, &mut copy, step)
 }
 
+/// Whether a preview of a press inserts this text.
+fn inserts(alloc: Global, session: &Session, press: KeyPress, wanted: &str) -> Result<bool, Fail> {
+    let mut inserted = String::new(alloc);
+    put_chars(
+        &mut inserted,
+        session.preview(alloc, press)?.inserted.as_slice(),
+    )?;
+    Ok(inserted.as_str() == wanted)
+}
+
 /// Whether a preview of a step shows what the step is to insert, where it is a press.
 fn preview_shows(alloc: Global, session: &Session, step: &str) -> Result<bool, Fail> {
     let (word, wanted) = step.split_once(' ').unwrap_or((step, ""));
-    let Event::Key(press) = event(alloc, word)? else {
-        return Ok(true);
-    };
-    let preview = session.preview(alloc, press)?;
-    let mut inserted = String::new(alloc);
-    for c in preview.inserted.as_slice() {
-        inserted.push(*c)?;
+    let (inserted, _) = wanted.split_once(',').unwrap_or((wanted, ""));
+    match event(alloc, word)? {
+        Event::Key(press) => inserts(alloc, session, press, inserted),
+        _ => Ok(true),
     }
-    Ok(inserted.as_str() == wanted.split_once(',').unwrap_or((wanted, "")).0)
 }
 
-/// The first step of a session, of a copy made before it, or of a preview, that shows something else.
+/// Whether a step of a session, of a copy made before it, and a preview before it show what is wanted.
+fn all_show(alloc: Global, session: &mut Session, step: &str) -> Result<bool, Fail> {
+    if preview_shows(alloc, session, step)? && copy_shows(alloc, session, step)? {
+        return shows(alloc, session, step);
+    }
+    Ok(false)
+}
+
+/// The first step of a session that shows something else.
 fn wrong_step(
     alloc: Global,
     session: &mut Session,
     case: &'static str,
 ) -> Result<Option<&'static str>, Fail> {
     for step in case.split(" ; ") {
-        let tried = preview_shows(alloc, session, step)? && copy_shows(alloc, session, step)?;
-        if !tried || !shows(alloc, session, step)? {
+        if !all_show(alloc, session, step)? {
             return Ok(Some(step));
         }
     }
@@ -187,11 +213,20 @@ fn wrong_in(
     Ok(None)
 }
 
+/// The first wrong step of cases with the keyboard of a file's bytes.
+fn wrong_in_file(
+    alloc: Global,
+    bytes: &[u8],
+    cases: &'static str,
+) -> Result<Option<&'static str>, Fail> {
+    let file = verify(alloc, bytes)?;
+    wrong_in(alloc, &file, cases)
+}
+
 /// The first wrong step of the cases with that keyboard.
 fn wrong_with_keyboard(alloc: Global) -> Result<Option<&'static str>, Fail> {
-    let compiled = compile(alloc, KEYBOARD, &[])?;
-    let file = verify(alloc, compiled.bytes.as_slice())?;
-    wrong_in(alloc, &file, CASES)
+    let bytes = compiled(alloc, KEYBOARD)?;
+    wrong_in_file(alloc, bytes.as_slice(), CASES)
 }
 
 #[test]
@@ -201,16 +236,20 @@ fn events_of_every_kind(rt: HostRuntime) -> Result<(), Fail> {
     Ok(())
 }
 
-/// The first wrong step of cases with a keyboard that looks at system options.
+/// The file of a keyboard that looks at system options.
+fn on_system_options(alloc: Global, keyboard: &str) -> Result<Vec<u8>, Fail> {
+    let bytes = compiled(alloc, keyboard)?;
+    Ok(with_system_options(alloc, bytes.as_slice())?)
+}
+
+/// The first wrong step of cases with such a keyboard.
 fn wrong_with_system_options(
     alloc: Global,
-    keyboard: &[u8],
+    keyboard: &str,
     cases: &'static str,
 ) -> Result<Option<&'static str>, Fail> {
-    let compiled = compile(alloc, keyboard, &[])?;
-    let bytes = with_system_options(alloc, compiled.bytes.as_slice())?;
-    let file = verify(alloc, bytes.as_slice())?;
-    wrong_in(alloc, &file, cases)
+    let bytes = on_system_options(alloc, keyboard)?;
+    wrong_in_file(alloc, bytes.as_slice(), cases)
 }
 
 #[test]
@@ -307,7 +346,7 @@ fn put_long_text(alloc: Global, session: &mut Session) -> Result<(), Fail> {
 
 /// Whether so many presses of a key without a rule are passed on.
 fn passes(alloc: Global, session: &mut Session, presses: u32) -> Result<bool, Fail> {
-    let press = Event::Key(press(b"K_F5"));
+    let press = key(b"K_F5");
     for _ in 0..presses {
         if !session.step(alloc, &press)?.outcome.pass {
             return Ok(false);

@@ -1,10 +1,11 @@
-ghost use Rattle.std.specs.Prelude.{◌≡◌, ◌-◌, ◌<◌, ◌^◌, ◌++◌, [], None, length, flat_map, unwrap_or, IsTrue, IfOk};
+ghost use Rattle.std.specs.Prelude.{◌≡◌, ◌-◌, ◌<◌, ◌^◌, ◌++◌, [], Some, None, length, flat_map, unwrap_or, IsTrue, IfOk, IfErr};
 ghost use Rattle.std.specs.List.{All};
 ghost use Rattle.std.specs.Str.{bytes_eq};
 ghost use Rattle.kmn_outside.specs.Outside.{WriteCounts};
 ghost use Rattle.rule_model.specs.Tab.{tab};
 ghost use Rattle.rule_model.specs.Trace.{trace};
 ghost use Rattle.rule_model.specs.Transcript.{events_of, transcript, refused_event_line};
+ghost use Rattle.play_session.specs.Answers.{code_of};
 ghost use Rattle.play_session.specs.Printed.{IsSession, change_line};
 ghost use Rattle.play_session.specs.Session.{first_session};
 ghost use Rattle.play_transcript.specs.Ends.{play_end, end_after};
@@ -133,11 +134,22 @@ fn play_event<S: Sink>(
                 failed: counts.failed,
             }))
         }
-        Err(StepError::Place) => put_refusal(alloc, counts.number.saturating_add(1), Code::E1, out),
-        Err(StepError::Length) => {
-            put_refusal(alloc, counts.number.saturating_add(1), Code::E2, out)
+        Err(error) => {
+            let code = refused_with(error)?;
+            put_refusal(alloc, counts.number.saturating_add(1), code, out)
         }
-        Err(StepError::Memory) => Err(WriteError::Memory),
+    }
+}
+
+/// The code of an event that is refused.
+pub fn refused_with(error: StepError) -> Result<Code, Memory>
+    ensures code { IfOk result (λ code. code_of error ≡ Some code) }
+    ensures memory { IfErr result (λ _. code_of error ≡ None) }
+{
+    match error {
+        StepError::Place => Ok(Code::E1),
+        StepError::Length => Ok(Code::E2),
+        StepError::Memory => Err(Memory),
     }
 }
 
@@ -286,7 +298,7 @@ fn play_expect<S: Sink>(
 
 /// Whether a text before the caret and one after it are together this text.
 #[tactic(auto, using(crate::proofs::PlayingLaws::text_in_parts))]
-fn is_text(left: &[char], right: &[char], text: &[char]) -> bool
+pub fn is_text(left: &[char], right: &[char], text: &[char]) -> bool
     ensures { result ≡ bytes_eq (left.now ++ right.now) text.now }
 {
     left == before(text, left.len()) && right == behind(text, left.len())
@@ -313,7 +325,7 @@ fn put_end<S: Sink>(
 }
 
 /// How a play ends that comes to the end of its script.
-fn end_after(failed: usize) -> PlayEnd
+pub fn end_after(failed: usize) -> PlayEnd
     ensures { result ≡ end_after None failed }
 {
     if failed == 0 {

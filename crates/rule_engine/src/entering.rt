@@ -1,4 +1,5 @@
 ghost use Rattle.std.specs.Prelude.{◌≡◌, ◌<◌, [], ◌∷◌, ◌++◌, None, Some, map, length, option_map, slice_get, if◌then◌else◌};
+ghost use Rattle.kmn_base.specs.declared.limits.TheConstants.{EVENT_ENTRIES};
 ghost use Rattle.kmn_base.specs.Lists.{without_last};
 ghost use Rattle.rule_model.specs.Keyboard.{Numbered, UseGroup};
 ghost use Rattle.rule_model.specs.Act.{act_one, act, enter_if_allowed, items_caught};
@@ -211,7 +212,7 @@ fn in_group(entering: GroupEntry, group: u32, event: &mut PressEvent)
 #[cycle(acts)]
 #[tactic(auto, using(rule_model::proofs::PlainKeyboard::enter_more, rule_model::proofs::MoreLines::more_lines))]
 fn enter(entering: GroupEntry, group: u32, event: &mut PressEvent)
-    requires { event.old.state.entered < 50 }
+    requires { event.old.state.entered < EVENT_ENTRIES }
     ensures { event.new ≡ record event.old {
       state = enters event.old entering (Numbered group) event.old.state;
       lines = adds event.old entering (Numbered group) event.old.state event.old.lines;

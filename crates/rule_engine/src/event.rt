@@ -1,6 +1,6 @@
 ghost use Rattle.std.specs.Prelude.{◌≡◌, ◌≤◌, ◌<◌, ◌+◌, ◌^◌, [], ◌∷◌, ◌++◌, IfSome, length, option_map, vec_capacity, None, Some, true};
 ghost use Rattle.std.specs.List.{Contains};
-ghost use Rattle.kmn_base.specs.declared.limits.TheConstants.{EVENT_PUTS};
+ghost use Rattle.kmn_base.specs.declared.limits.TheConstants.{EVENT_ENTRIES, EVENT_PUTS, WINDOW_ITEMS};
 ghost use Rattle.kmn_base.specs.Lists.{characters, window, without_last, read_again};
 ghost use Rattle.option_store.specs.Meaning.{option_values, option_saves};
 ghost use Rattle.rule_model.specs.Act.{one_more, put_item, set_current, save_current, reset_current};
@@ -194,7 +194,7 @@ impl<'a> PressEvent<'a> {
 
     /// Counts a group that is entered. There is room then for the line of the rule that is chosen in it.
     pub fn count_entry(&mut self)
-        requires { self.old.state.entered < 50 }
+        requires { self.old.state.entered < EVENT_ENTRIES }
         ensures event { self.new ≡ record self.old { state = record self.old.state { entered = self.old.state.entered + 1 } } }
         ensures room { length self.new.lines < self.new.state.entered }
     {
@@ -246,7 +246,7 @@ impl<'a> PressEvent<'a> {
     /// Takes the last items, at most as many as a window has.
     #[tactic(auto, using(crate::proofs::Windows::taken_from_window))]
     pub fn take(&mut self, count: usize)
-        requires { count ≤ 64 }
+        requires { count ≤ WINDOW_ITEMS }
         ensures { self.new ≡ record self.old { state = record self.old.state { left = without_last count self.old.state.left } } }
     {
         let left = &mut self.left;

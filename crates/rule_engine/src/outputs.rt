@@ -7,7 +7,8 @@ ghost use Rattle.rule_engine.specs.Event.{content_in};
 use crate::event::PressEvent;
 use kmn_base::{Element, Item};
 use kmx_parts::Outputs;
-use rule_matching::{MatchedItems, item_of};
+use rule_matching::MatchedItems;
+use rule_model::item_of;
 
 /// Whether an output has no items.
 pub fn is_empty(outputs: Outputs<'_>) -> bool

@@ -3,6 +3,7 @@
 ghost use Rattle.std.specs.Prelude.{◌≡◌, nat_eq};
 ghost use Rattle.std.specs.List.{list_any};
 ghost use Rattle.rule_model.specs.Naming.{mark_number, key_number, elements_named};
+ghost use Rattle.store_table.specs.Numbering.{number_in};
 ghost use Rattle.compile_laws.specs.Numbers.{number_of_store, number_of_group, number_of_value};
 ghost use Rattle.rule_expand.specs.CasedCodes.{cased_codes};
 ghost use Rattle.rule_expand.specs.Lookups.{source_names, AreFew, BeginWith, AreNumbers, place_of_store, elements_at};
@@ -47,6 +48,18 @@ pub fn elements_at(stores: &[Store], place: Option<u32>) -> &[Element]
     }
 }
 
+/// The number of the first store that the definitions find by a name. By the empty name, which no item has, they find the
+/// first system store.
+pub fn store_number(names: &Names, name: &[u8]) -> Option<u32>
+    ensures { result ≡ number_in names.now.stores name.now }
+{
+    if name.is_empty() {
+        names.system_store()
+    } else {
+        names.store(name)
+    }
+}
+
 /// The elements of the store of a name, where it is one of the first stores, which these are.
 #[tactic(auto, using(crate::proofs::NumberLaws::elements_found))]
 pub fn elements_named<'a>(names: &Names, stores: &'a [Store], name: &[u8]) -> &'a [Element]
@@ -54,7 +67,7 @@ pub fn elements_named<'a>(names: &Names, stores: &'a [Store], name: &[u8]) -> &'
     requires first { BeginWith stores.now names.now.stores }
     ensures { result.now ≡ elements_named stores.now name.now }
 {
-    elements_at(stores, names.store(name))
+    elements_at(stores, store_number(names, name))
 }
 
 /// What the numbers and the cased keys of a program are found by, in time that doesn't grow with the program. Contracts see
@@ -135,7 +148,7 @@ impl<'a> Lookups<'a> {
     pub fn store_place(&self, name: &[u8]) -> Option<u32>
         ensures { result ≡ place_of_store self.now.stores name.now }
     {
-        self.names.store(name)
+        store_number(self.names, name)
     }
 
     /// The number of a store.

@@ -7,13 +7,14 @@ use Rattle.kmn_base.specs.declared.keys.RuleKey.TheVariants as key
 use Rattle.kmn_base.specs.declared.keys.KeyPress.{KeyPress}
 use Rattle.virtual_keys.specs.Fits.{char_of_press}
 use Rattle.rule_model.specs.Keyboard.{Pattern, IsChar, IsMark, KeyPattern, OneKey, KeyIn, RuleMeaning}
+use Rattle.rule_index.specs.declared.class.TheConstants.{FIRST_CODE, FIRST_MARK, PARTS}
 use Rattle.rule_model.specs.Match.{takes_item}
 
 -- by which presses a key can be met: every one, those that give a character, those of a code
 abbrev pub key_class : RuleKey → ℕ
 key_class key.Any = 0
 key_class (key.Char c) = 1 + c
-key_class (key.Virtual flags code) = 65537 + code
+key_class (key.Virtual flags code) = FIRST_CODE + code
 
 -- a key that is one of a store can be met by every press
 abbrev pub key_part : KeyPattern → ℕ
@@ -23,7 +24,7 @@ key_part (KeyIn store) = 0
 -- what a pattern wants: a character, a mark, or something else
 abbrev pub pattern_class : Pattern → ℕ
 pattern_class (IsChar c) = 1 + c
-pattern_class (IsMark m) = 1114113 + m
+pattern_class (IsMark m) = FIRST_MARK + m
 pattern_class pattern = 0
 
 -- what the last pattern of a context wants, where this is what the last one before it wants
@@ -33,7 +34,7 @@ last_class before (pattern ∷ patterns) = last_class (if takes_item pattern the
 
 -- both parts as one number
 abbrev pub class_of : ℕ → ℕ → ℕ
-class_of by_key by_item = by_key * 2097152 + by_item
+class_of by_key by_item = by_key * PARTS + by_item
 
 -- what a record can be met by
 abbrev pub rule_class : RuleMeaning → ℕ
@@ -41,14 +42,14 @@ rule_class rule = class_of (key_part rule.key) (last_class 0 rule.context)
 
 -- what the character of a press meets, and what its code does where it gives none
 abbrev pub given_class : KeyPress → Option ℕ → ℕ
-given_class press None = 65537 + press.code
+given_class press None = FIRST_CODE + press.code
 given_class press (Some c) = 1 + c
 
 -- what the last item meets, where there is one
 abbrev pub item_class : Option Item → ℕ
 item_class None = 0
 item_class (Some (item.Char c)) = 1 + c
-item_class (Some (item.Mark m)) = 1114113 + m
+item_class (Some (item.Mark m)) = FIRST_MARK + m
 
 -- the last item of a list, where this is the last one before it
 abbrev pub last_item : Option Item → List Item → Option Item
@@ -60,4 +61,4 @@ abbrev pub wanted_classes : KeyPress → List Item → List ℕ
 wanted_classes press left =
     let given = given_class press (char_of_press press) in
     let last = item_class (last_item None left) in
-    class_of 0 last ∷ class_of 0 0 ∷ class_of given last ∷ class_of given 0 ∷ class_of (65537 + press.code) last ∷ class_of (65537 + press.code) 0 ∷ []
+    class_of 0 last ∷ class_of 0 0 ∷ class_of given last ∷ class_of given 0 ∷ class_of (FIRST_CODE + press.code) last ∷ class_of (FIRST_CODE + press.code) 0 ∷ []

@@ -3,10 +3,11 @@ use Rattle.std.specs.Prelude.{◌≡◌, ℕ, ◌+◌, ◌*◌, ◌<◌, ◌≤�
 use Rattle.std.specs.List.Sorted.{IsNonDecreasingBy}
 use Rattle.kmn_base.specs.declared.limits.TheConstants.{RECORDS}
 use Rattle.rule_index.specs.declared.row.Row.{Row}
+use Rattle.rule_index.specs.declared.row.TheConstants.{NO_ROW}
 
--- a class and a number below 131072 as one number
+-- a class and the number of a row as one number
 abbrev pub ranked : ℕ → ℕ → ℕ
-ranked class number = class * 131072 + number
+ranked class number = class * NO_ROW + number
 
 -- rows are sorted by class, and of one class by number
 abbrev pub rank : Row → ℕ

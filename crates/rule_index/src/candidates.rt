@@ -1,5 +1,6 @@
 ghost use Rattle.std.specs.Prelude.{◌≡◌, ◌<◌, ◌≤◌, ℕ, List, IfSome, length, map};
 ghost use Rattle.kmn_base.specs.declared.limits.TheConstants.{RECORDS};
+ghost use Rattle.rule_index.specs.declared.row.TheConstants.{NO_ROW};
 ghost use Rattle.rule_index.specs.Rows.{IsIndexOf};
 ghost use Rattle.rule_index.specs.Next.{IsNext};
 ghost use Rattle.rule_index.specs.Walk.{behind, HeadsStand, LeadStands};
@@ -7,7 +8,7 @@ ghost use Rattle.rule_index.specs.Walk.{behind, HeadsStand, LeadStands};
 use crate::class::Class;
 use crate::head::Head;
 use crate::lead::ClassLead;
-use crate::row::Row;
+use crate::row::{NO_ROW, Row};
 use std::marker::Model;
 
 /// The records of a group that can hold for a press and the last item before the caret, one after the other, in the file's
@@ -22,6 +23,7 @@ pub struct Candidates<'i> {
 
 impl<'i> Model for Candidates<'i> {
     ghost use Rattle.std.specs.Prelude.{◌≤◌, map};
+    ghost use Rattle.rule_index.specs.declared.row.TheConstants.{NO_ROW};
     ghost use Rattle.rule_index.specs.Walk.{CandidatesValue, HeadsStand, LeadStands};
 
     ghost Value = { CandidatesValue };
@@ -32,23 +34,23 @@ impl<'i> Model for Candidates<'i> {
       from = candidates.from;
     } };
 
-    ghost invariant = { λ candidates. (candidates.from ≤ 131072) × HeadsStand candidates.rows.now candidates.from candidates.heads
+    ghost invariant = { λ candidates. (candidates.from ≤ NO_ROW) × HeadsStand candidates.rows.now candidates.from candidates.heads
         × LeadStands candidates.rows.now (map (λ head. head.class) candidates.heads) candidates.from candidates.lead };
 }
 
 /// The first number from one on that has a wanted class. The heads go on to their rows from this number on, and its class leads.
 #[inline(never)]
 fn next_of(rows: &[Row], heads: &mut [Head], lead: &mut ClassLead, from: u32) -> Option<u32>
-    requires { from ≤ 131072 }
+    requires { from ≤ NO_ROW }
     ensures wanted { map (λ head. head.class) heads.new ≡ map (λ head. head.class) heads.old }
     ensures stand { HeadsStand rows.now from heads.old → HeadsStand rows.now from heads.new }
     ensures next { (classes : List ℕ) → IsIndexOf classes rows.now → HeadsStand rows.now from heads.old
         → IsNext (map (λ head. head.class) heads.old) (length heads.old) classes from result }
     ensures lead { let wanted = map (λ head. head.class) heads.old in HeadsStand rows.now from heads.old
         → LeadStands rows.now wanted from lead.old → LeadStands rows.now wanted (behind from result) lead.new }
-    ensures small { IfSome result (λ number. number < 131072) }
+    ensures small { IfSome result (λ number. number < NO_ROW) }
 {
-    let (mut first, mut least, mut limit) = (lead.head, 131_072, 131_072);
+    let (mut first, mut least, mut limit) = (lead.head, NO_ROW, NO_ROW);
     for k in 0..heads.len() {
         let head = heads[k].behind(rows, from);
         heads[k] = head;
@@ -61,7 +63,7 @@ fn next_of(rows: &[Row], heads: &mut [Head], lead: &mut ClassLead, from: u32) ->
             limit = number;
         }
     }
-    if least == 131_072 {
+    if least == NO_ROW {
         return None;
     }
     first.place += 1;

@@ -2,6 +2,13 @@ ghost use Rattle.std.specs.Prelude.{◌≡◌, ◌<◌, ◌^◌};
 
 use std::marker::Model;
 
+/// The part of a class for its key, and the part for its last item, are below this.
+pub(crate) const PARTS: u64 = 2_097_152;
+/// The part of the first code of a key; below it stand the characters that a key gives.
+pub(crate) const FIRST_CODE: u64 = 65_537;
+/// The part of the first mark; below it stand the characters of a text.
+pub(crate) const FIRST_MARK: u64 = 1_114_113;
+
 /// What a record can be met by, or what an element is, as one number by which rows are sorted.
 #[derive(Clone, Copy, Drop)]
 pub struct Class {

@@ -3,9 +3,10 @@ ghost use Rattle.virtual_keys.specs.Fits.{char_of_press};
 ghost use Rattle.rule_model.specs.Tab.{tab_pattern, tab_rule};
 ghost use Rattle.kmx_parts.specs.ContextItems.{pattern_of};
 ghost use Rattle.rule_index.specs.Classes.{key_class, pattern_class, last_class, given_class, item_class, class_of, rule_class, wanted_classes};
+ghost use Rattle.rule_index.specs.declared.class.TheConstants.{PARTS};
 ghost use Rattle.rule_index.specs.Groups.{record_classes};
 
-use crate::class::Class;
+use crate::class::{Class, FIRST_CODE, FIRST_MARK, PARTS};
 use kmn_base::{Item, KeyPress, Memory, RuleKey};
 use kmx_parts::{ContextItem, ContextItems, FileGroup, FileRule};
 use std::alloc::Global;
@@ -14,23 +15,23 @@ use virtual_keys::char_of;
 /// By which presses a key can be met.
 fn key_class(key: RuleKey) -> u64
     ensures value { result ≡ key_class key }
-    ensures small { result < 2097152 }
+    ensures small { result < PARTS }
 {
     match key {
         RuleKey::Any => 0,
         RuleKey::Char(c) => 1 + u64::from(c),
-        RuleKey::Virtual { code, .. } => 65_537 + u64::from(code),
+        RuleKey::Virtual { code, .. } => FIRST_CODE + u64::from(code),
     }
 }
 
 /// What an item of a context wants.
 fn pattern_class(item: ContextItem) -> u64
     ensures value { result ≡ pattern_class (tab_pattern [] (pattern_of item)) }
-    ensures small { result < 2097152 }
+    ensures small { result < PARTS }
 {
     match item {
         ContextItem::Char(c) => 1 + u64::from(c as u32),
-        ContextItem::Mark(m) => 1_114_113 + u64::from(m),
+        ContextItem::Mark(m) => FIRST_MARK + u64::from(m),
         _ => 0,
     }
 }
@@ -38,7 +39,7 @@ fn pattern_class(item: ContextItem) -> u64
 /// What the last item of a context that looks at one of the text wants.
 fn last_class(context: ContextItems<'_>) -> u64
     ensures value { result ≡ last_class 0 (map (tab_pattern []) (map pattern_of context.entry)) }
-    ensures small { result < 2097152 }
+    ensures small { result < PARTS }
 {
     let mut class = 0;
     for item in context {
@@ -51,11 +52,11 @@ fn last_class(context: ContextItems<'_>) -> u64
 
 /// The class of a key's and a pattern's part.
 fn class_of(by_key: u64, by_item: u64) -> Class
-    requires key { by_key < 2097152 }
-    requires item { by_item < 2097152 }
+    requires key { by_key < PARTS }
+    requires item { by_item < PARTS }
     ensures { result ≡ class_of by_key by_item }
 {
-    Class::of(by_key * 2_097_152 + by_item)
+    Class::of(by_key * PARTS + by_item)
 }
 
 /// What a record can be met by; in a group without keys by every press.
@@ -81,23 +82,23 @@ pub fn record_classes(alloc: Global, group: &FileGroup<'_>) -> Result<Vec<Class>
 /// What an item meets.
 fn item_class(item: Option<Item>) -> u64
     ensures value { result ≡ item_class item }
-    ensures small { result < 2097152 }
+    ensures small { result < PARTS }
 {
     match item {
         None => 0,
         Some(Item::Char(c)) => 1 + u64::from(c as u32),
-        Some(Item::Mark(m)) => 1_114_113 + u64::from(m),
+        Some(Item::Mark(m)) => FIRST_MARK + u64::from(m),
     }
 }
 
 /// What the character of a press meets, and what its code does where it gives none.
 fn given_class(press: KeyPress) -> u64
     ensures value { result ≡ given_class press (char_of_press press) }
-    ensures small { result < 2097152 }
+    ensures small { result < PARTS }
 {
     match char_of(press) {
         Some(c) => 1 + u64::from(c as u32),
-        None => 65_537 + u64::from(press.code),
+        None => FIRST_CODE + u64::from(press.code),
     }
 }
 
@@ -107,7 +108,7 @@ pub fn wanted_classes(press: KeyPress, left: &[Item]) -> [Class; 6]
     ensures { result ≡ wanted_classes press left.now }
 {
     let given = given_class(press);
-    let code = 65_537 + u64::from(press.code);
+    let code = FIRST_CODE + u64::from(press.code);
     let last = item_class(left.last().copied());
     [
         class_of(0, last),

@@ -1,9 +1,10 @@
 ghost use Rattle.std.specs.Prelude.{◌≡◌, ◌<◌, ◌≤◌, ℕ, List, length, slice_get, unwrap_or};
+ghost use Rattle.rule_index.specs.declared.row.TheConstants.{NO_ROW};
 ghost use Rattle.rule_index.specs.Rows.{ranked, number_if, IsIndexOf, StartsAt};
 ghost use Rattle.rule_index.specs.Walk.{HeadStands};
 
 use crate::class::Class;
-use crate::row::Row;
+use crate::row::{NO_ROW, Row};
 use crate::rows::{place_behind, place_from, rank_of};
 
 /// A wanted class, and a place before which no row is left of it.
@@ -27,7 +28,7 @@ impl Head {
 
     /// The head at the first row whose number is no less than one.
     pub fn behind(&self, rows: &[Row], from: u32) -> Head
-        requires { from ≤ 131072 }
+        requires { from ≤ NO_ROW }
         ensures class { result.class ≡ self.now.class }
         ensures starts { (classes : List ℕ) → IsIndexOf classes rows.now → HeadStands rows.now from self.now
             → StartsAt (ranked self.now.class from) rows.now result.place }
@@ -38,16 +39,16 @@ impl Head {
         }
     }
 
-    /// The number of the row where the head is, 131072 where it hasn't the class.
+    /// The number of the row where the head is, `NO_ROW` where it hasn't the class.
     #[inline(always)]
     pub fn number(&self, rows: &[Row]) -> u32
-        ensures value { result ≡ unwrap_or (number_if self.now.class (slice_get rows.now self.now.place)) 131072 }
-        ensures small { result ≤ 131072 }
-        ensures within { result < 131072 → self.now.place < length rows.now }
+        ensures value { result ≡ unwrap_or (number_if self.now.class (slice_get rows.now self.now.place)) NO_ROW }
+        ensures small { result ≤ NO_ROW }
+        ensures within { result < NO_ROW → self.now.place < length rows.now }
     {
         match rows.get(self.place) {
             Some(row) if row.class.number() == self.class.number() => row.number,
-            _ => 131_072,
+            _ => NO_ROW,
         }
     }
 }

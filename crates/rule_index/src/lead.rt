@@ -1,4 +1,5 @@
 ghost use Rattle.std.specs.Prelude.{◌≤◌};
+ghost use Rattle.rule_index.specs.declared.row.TheConstants.{NO_ROW};
 
 use crate::head::Head;
 
@@ -7,5 +8,5 @@ use crate::head::Head;
 pub struct ClassLead {
     pub head: Head,
     pub limit: u32,
-    ghost small: { limit ≤ 131072 },
+    ghost small: { limit ≤ NO_ROW },
 }

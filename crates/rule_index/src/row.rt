@@ -1,11 +1,15 @@
 ghost use Rattle.std.specs.Prelude.{◌<◌};
+ghost use Rattle.rule_index.specs.declared.row.TheConstants.{NO_ROW};
 
 use crate::class::Class;
+
+/// More than the number of any row.
+pub(crate) const NO_ROW: u32 = 131_072;
 
 /// A record or an element: its class, and its place among the others.
 #[derive(Clone, Copy, Drop)]
 pub struct Row {
     pub class: Class,
     pub number: u32,
-    ghost small: { number < 131072 },
+    ghost small: { number < NO_ROW },
 }

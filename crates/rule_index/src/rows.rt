@@ -1,19 +1,20 @@
 ghost use Rattle.std.specs.Prelude.{◌≡◌, ◌≤◌, ◌+◌, ◌*◌, ℕ, List, IfOk, length, nat_lt};
 ghost use Rattle.std.specs.List.Sorted.{IsNonDecreasingBy};
 ghost use Rattle.kmn_base.specs.declared.limits.TheConstants.{RECORDS};
+ghost use Rattle.rule_index.specs.declared.row.TheConstants.{NO_ROW};
 ghost use Rattle.rule_index.specs.Rows.{rank, ranked, AreNumbered, AreBefore, IsIndexOf, StartsAt};
 
 use crate::class::Class;
-use crate::row::Row;
+use crate::row::{NO_ROW, Row};
 use kmn_base::Memory;
 use std::alloc::Global;
 
 /// A class and a number as one number, by which rows are sorted.
 pub fn rank_of(class: Class, number: u32) -> u64
-    requires { number ≤ 131072 }
+    requires { number ≤ NO_ROW }
     ensures { result ≡ ranked class number }
 {
-    class.number() * 131_072 + u64::from(number)
+    class.number() * u64::from(NO_ROW) + u64::from(number)
 }
 
 /// The rank of a row.

@@ -1,9 +1,11 @@
 ghost use Rattle.std.specs.Prelude.{◌≡◌, ◌≤◌, ◌<◌, [], ◌∷◌, ◌++◌, None, length};
+ghost use Rattle.kmn_base.specs.declared.limits.TheConstants.{CONTEXT_ITEMS};
 ghost use Rattle.rule_model.specs.Act.{items_caught, place_for_index};
 
 use crate::elements::place_caught;
 use arrayvec::ArrayVec;
 use kmn_base::Item;
+use kmn_base::limits::CONTEXT_ITEMS;
 use std::marker::Model;
 
 /// What an item of a context caught: an item of the text where it is a pattern, and of an `any` the first place of that
@@ -27,18 +29,19 @@ impl Model for MatchedItem {
 /// What a record caught when it matched, by the items of its context. It stays so while the output acts.
 #[derive(Drop)]
 pub struct MatchedItems {
-    found: ArrayVec<MatchedItem, 60>,
+    found: ArrayVec<MatchedItem, CONTEXT_ITEMS>,
 }
 
 impl Model for MatchedItems {
     ghost use Rattle.std.specs.Prelude.{◌≤◌, length, None};
+    ghost use Rattle.kmn_base.specs.declared.limits.TheConstants.{CONTEXT_ITEMS};
     ghost use Rattle.rule_model.specs.declared.event_state.Caught.{Caught};
 
     ghost Value = { Caught };
 
     ghost view = { λ caught. record { catches = caught.found.items; key_place = None } };
 
-    ghost invariant = { λ caught. length caught.found.items ≤ 60 };
+    ghost invariant = { λ caught. length caught.found.items ≤ CONTEXT_ITEMS };
 }
 
 impl MatchedItems {
@@ -60,7 +63,7 @@ impl MatchedItems {
 
     /// Adds what the next item of a context caught.
     pub(crate) fn push(&mut self, found: MatchedItem)
-        requires { length self.old.catches < 60 }
+        requires { length self.old.catches < CONTEXT_ITEMS }
         ensures { self.new ≡ record { catches = self.old.catches ++ found ∷ []; key_place = None } }
     {
         self.found.push(found);
@@ -77,7 +80,7 @@ impl MatchedItems {
     #[tactic(auto, using(rule_model::proofs::PlainLists::length_filter_map, crate::proofs::Catches::items_are_few))]
     pub fn item_count(&self) -> usize
         ensures value { result ≡ length (items_caught self.now) }
-        ensures few { result ≤ 60 }
+        ensures few { result ≤ CONTEXT_ITEMS }
     {
         self.found
             .as_slice()

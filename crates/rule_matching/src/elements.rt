@@ -1,18 +1,9 @@
 ghost use Rattle.std.specs.Prelude.{◌≡◌, Some};
-ghost use Rattle.rule_model.specs.Match.{is_item, same_item, same_element, item_of, catch_at, item_caught, place_caught, is_element, is_same};
+ghost use Rattle.rule_model.specs.Match.{same_item, same_element, catch_at, item_caught, place_caught, is_element, is_same};
 
 use crate::caught::MatchedItem;
 use kmn_base::{Element, Item};
-
-/// Whether an item is the same as an element.
-pub fn is_item(item: Item, element: Element) -> bool
-    ensures { result ≡ is_item item element }
-{
-    match item {
-        Item::Char(c) => element == Element::Char(c),
-        Item::Mark(m) => element == Element::Mark(m),
-    }
-}
+use rule_model::is_item;
 
 /// Whether two elements are the same.
 #[tactic(auto, using(rule_model::proofs::SameElements::equal_elements))]
@@ -20,17 +11,6 @@ pub fn same_element(element: Element, other: Element) -> bool
     ensures { result ≡ same_element element other }
 {
     element == other
-}
-
-/// The item that stands for an element.
-pub fn item_of(element: Element) -> Option<Item>
-    ensures { result ≡ item_of element }
-{
-    match element {
-        Element::Char(c) => Some(Item::Char(c)),
-        Element::Mark(m) => Some(Item::Mark(m)),
-        Element::Key { .. } => None,
-    }
 }
 
 /// What was found at an offset, which counts from 1.

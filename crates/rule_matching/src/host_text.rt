@@ -1,8 +1,8 @@
 ghost use Rattle.std.specs.Prelude.{◌≡◌, map, position, slice_get};
 ghost use Rattle.rule_model.specs.Match.{is_item};
 
-use crate::elements::is_item;
 use kmn_base::{Element, Item};
+use rule_model::is_item;
 
 /// The first place of an item among the characters of a text.
 pub fn place_in_text(item: Item, text: &[char]) -> Option<usize>

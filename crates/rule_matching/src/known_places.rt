@@ -12,7 +12,7 @@ use std::marker::Model;
 #[derive(Clone, Copy, Drop)]
 pub struct StorePlaces {
     asked: u64,
-    cells: [u32; 64],
+    cells: [u32; WINDOW_ITEMS],
 }
 
 impl StorePlaces {
@@ -23,7 +23,7 @@ impl StorePlaces {
     {
         StorePlaces {
             asked: choice,
-            cells: [0; 64],
+            cells: [0; WINDOW_ITEMS],
         }
     }
 

@@ -32,7 +32,7 @@ mod taken;
 
 pub use caught::{MatchedItem, MatchedItems};
 pub use contents::{content, saved_of};
-pub use elements::{item_caught, item_of};
+pub use elements::item_caught;
 pub use entered_group::EnteredGroup;
 pub use matching::first_held;
 pub use moment::Moment;

@@ -13,16 +13,18 @@ ghost use Rattle.rule_matching.specs.Moment.{content_at, held_record, AreShort};
 
 use crate::caught::MatchedItems;
 use crate::choice::Choice;
-use crate::elements::{is_element, is_item, is_same};
+use crate::elements::{is_element, is_same};
 use crate::entered_group::EnteredGroup;
 use crate::moment::Moment;
 use crate::place_memory::PlaceMemory;
 use crate::places::{catch_taken, is_in_store, item_before, place_taken};
 use crate::taken::{TakenItem, item_taken};
 use arrayvec::ArrayVec;
+use kmn_base::limits::CONTEXT_ITEMS;
 use kmn_base::{Element, Item, RuleKey};
 use kmx_parts::{ContextItem, FileRule};
 use rule_index::wanted_classes;
+use rule_model::is_item;
 use virtual_keys::Pressed;
 
 /// An item that is taken of no store, where it stands to its pattern as that asks.
@@ -141,7 +143,7 @@ fn takes_context(
     context: &[ContextItem],
     count: usize,
     places: &mut PlaceMemory,
-    taken: &mut ArrayVec<TakenItem, 60>,
+    taken: &mut ArrayVec<TakenItem, CONTEXT_ITEMS>,
 ) -> bool
     requires few { length context.now ≤ CONTEXT_ITEMS }
     requires within { count ≤ length choice.now.left.now }
@@ -190,7 +192,7 @@ fn held_record<'g>(
     entered: &EnteredGroup<'_, 'g>,
     number: u32,
     places: &mut PlaceMemory,
-    taken: &mut ArrayVec<TakenItem, 60>,
+    taken: &mut ArrayVec<TakenItem, CONTEXT_ITEMS>,
 ) -> Option<FileRule<'g>>
     requires short { AreShort entered.now.group.now.rules }
     requires index { IsRuleIndexOf entered.now.group.now entered.now.records.now }

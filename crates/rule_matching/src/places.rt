@@ -1,4 +1,5 @@
 ghost use Rattle.std.specs.Prelude.{◌≡◌, ◌≤◌, ◌<◌, Some, is_some, length, map};
+ghost use Rattle.kmn_base.specs.declared.limits.TheConstants.{CONTEXT_ITEMS};
 ghost use Rattle.rule_model.specs.Match.{place_caught};
 ghost use Rattle.rule_matching.specs.Choices.{all_caught, caught_in, content_of, RemembersFor};
 ghost use Rattle.rule_matching.specs.Matching.{item_before, place_before};
@@ -125,7 +126,7 @@ pub fn catch_taken(
     places: &mut PlaceMemory,
     caught: &mut MatchedItems,
 )
-    requires few { length taken.now ≤ 60 }
+    requires few { length taken.now ≤ CONTEXT_ITEMS }
     requires right { RemembersFor choice.now places.old }
     ensures caught { caught.new ≡ all_caught choice.now taken.now }
     ensures right { RemembersFor choice.now places.new }

@@ -5,7 +5,6 @@ use Rattle.std.proofs.lemmas.Bool.{cases_Bool, cond_both, eqb-true, ltb-false, o
 use Rattle.std.proofs.lemmas.List.{take-append-drop}
 use Rattle.std.proofs.lemmas.Option.{none-some}
 use Rattle.kmn_base.specs.declared.items.Item.{Item}
-use Rattle.kmn_base.specs.declared.items.Item.TheVariants.{Char, Mark}
 use Rattle.kmn_base.specs.declared.items.Element.{Element}
 use Rattle.kmn_base.specs.declared.items.Element.TheVariants as element
 use Rattle.kmn_base.specs.declared.keys.KeyPress.{KeyPress}
@@ -20,15 +19,12 @@ use Rattle.virtual_keys.specs.Fits.{is_plain}
 use Rattle.rule_model.specs.KeyEvent.{begin_event, after_key}
 use Rattle.rule_model.specs.Event.{State, whole_text, text_becomes, editor_left, editor_right, by_editor, after_press, has_name, set_option, caret_event, moved_caret, edited_text, edit_event, edit_refusal, happening}
 use Rattle.rule_model.specs.StepLaws.{PressAddsWhatItPuts, EventKeepsTextInBounds, StepsKeepTextInBounds}
+use Rattle.rule_model.proofs.Insertions.{characters-one}
 use Rattle.rule_model.proofs.Kept.{IsKept, after_key_keeps}
 use Rattle.rule_model.proofs.Steps.{trace_keeps}
 use Rattle.rule_model.proofs.Budget.{press_is_within_budget}
 
 -- ---- what a press adds
-
-characters-one : (x : Item) → length (characters (x ∷ [])) ≤ 1
-characters-one (Char c) = omega arith
-characters-one (Mark m) = omega arith
 
 put_adds_one : (items : List Item) (x : Item) → length (characters (put items x)) ≤ length (characters items) + 1
 put_adds_one items x =

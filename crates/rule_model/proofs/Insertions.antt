@@ -35,7 +35,7 @@ record Inserts (old : List ℕ) (left : List Item) (count : ℕ) : Type 0 where
 abbrev HasInserted : List ℕ → EventState → Type 0
 HasInserted old s = Inserts old s.left s.put
 
-characters-one : (x : Item) → length (characters (x ∷ [])) ≤ 1
+pub characters-one : (x : Item) → length (characters (x ∷ [])) ≤ 1
 characters-one (Char c) = omega arith
 characters-one (Mark m) = omega arith
 

@@ -5,7 +5,6 @@ pub mod Choosing
 pub mod Dictionary
 pub mod Distinct
 pub mod Edits
-pub mod Examples
 pub mod Insertions
 pub mod Kept
 pub mod MoreLines
@@ -17,5 +16,6 @@ pub mod PlainOptions
 pub mod Soundness
 pub mod Steps
 pub mod SystemOptions
+pub mod WorkedTraces
 pub mod SameElements
 pub mod CaughtParts

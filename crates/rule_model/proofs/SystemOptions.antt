@@ -76,7 +76,8 @@ numbers_behind k (s ∷ a) b =
       | false ↦ ap (λ rest. None ∷ rest) (numbers_behind k a b)
     ]
 
-at_behind : {X : Type 0} (xs ys : List X) (k : ℕ) → slice_get (xs ++ ys) (length xs + k) ≡ slice_get ys k
+-- what stands behind another list
+pub at_behind : {X : Type 0} (xs ys : List X) (k : ℕ) → slice_get (xs ++ ys) (length xs + k) ≡ slice_get ys k
 at_behind [] ys k = let q : 0 + k ≡ k = omega arith in ap (slice_get ys) q
 at_behind (x ∷ xs) ys k =
     let e : suc (length xs) + k ≡ suc (length xs + k) = omega arith in

@@ -95,9 +95,6 @@ holds_with cased content left press rule =
     else None
 
 -- the same on a keyboard without cased keys, as that of a file
-abbrev pub fits_press : KeyPress → Option RuleKey → Bool
-fits_press = fits_press_with []
-
 abbrev pub key_place : KeyPress → List Element → Option ℕ
 key_place = key_place_with []
 

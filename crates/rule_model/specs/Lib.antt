@@ -19,3 +19,4 @@ pub mod System
 pub mod Tab
 pub mod Trace
 pub mod Transcript
+pub mod WorkedTraces

@@ -14,6 +14,7 @@ use Rattle.rule_model.specs.declared.program.GroupDef.{GroupDef}
 use Rattle.rule_model.specs.declared.program.Program.{Program}
 use Rattle.rule_model.specs.declared.tables.Store.{Store}
 use Rattle.rule_model.specs.Tab.{distinct_onto, store_elements}
+use Rattle.rule_model.specs.declared.system.TheConstants.{DROPPED}
 
 -- the names of a program's deadkeys and of its dictionary keys, each in the order of first appearance
 pub record SourceNames : Type 0 where
@@ -85,7 +86,7 @@ item_elements names before item = []
 
 -- a store statement that is read and dropped is no store
 abbrev pub is_dropped : StoreDef → Bool
-is_dropped store = nat_eq store.system 0xFFFF
+is_dropped store = nat_eq store.system DROPPED
 
 abbrev pub store_of : SourceNames → List Store → StoreDef → Store
 store_of names before store =

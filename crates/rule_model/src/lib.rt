@@ -4,12 +4,13 @@
 //! `Entry` a line of a script, and `EventState` what a key event acts on. Their meaning stands in `specs/`
 //! (`docs/MEANING.md` tells it in words): `src` and `tab` give the keyboard of a program and of tables, `trace` the steps
 //! that it takes, `transcript` what is printed of them, and `step_laws` has the laws of every step. The layers above use
-//! the definitions and the laws, compare two texts by `common_prefix`, and
+//! the definitions and the laws, compare two texts by `common_prefix` and an item with an element by `is_item`, and
 //! call system stores by the names in `system`. `proofs/` has lemmas for what computes the
 //! meaning over tables: option numbers, groups and caught items.
 #![tactic(auto)]
 
 mod event_state;
+mod items;
 mod program;
 mod script;
 pub mod step_laws;
@@ -18,6 +19,7 @@ mod tables;
 mod texts;
 
 pub use event_state::{Catch, Caught, EventState};
+pub use items::{is_item, item_of};
 pub use program::{BeginDef, GroupDef, KeyName, Program, RuleDef, RuleKind, SrcItem, StoreDef};
 pub use script::Entry;
 pub use tables::{Group, Out, Pat, Rule, Store, Tables};

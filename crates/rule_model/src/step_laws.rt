@@ -4,6 +4,7 @@ ghost use Rattle.rule_model.specs.StepLaws.{BeforeIsTransitive, BestGoesBeforeOt
 ghost use Rattle.rule_model.specs.Choose.{goes_before};
 ghost use Rattle.std.specs.Cmp.{IsStrictWeakOrder};
 ghost use Rattle.rule_model.specs.CasedKeys.{CasedKeysFitByHalves, CasedRulesHoldByHalves};
+ghost use Rattle.rule_model.specs.WorkedTraces.{AreWorkedTraces};
 
 /// Which of two rules goes before the other is an order, in which two rules with different lines are never alike.
 #[tactic(auto, using(crate::proofs::Choosing::goes_before_is_weak_order, crate::proofs::Choosing::none_before_itself, crate::proofs::Choosing::before_is_transitive, crate::proofs::Choosing::one_goes_before))]
@@ -90,4 +91,10 @@ pub fn cased_keys_fit_by_halves()
 /// So a rule with such a key holds where one of two rules with these keys holds.
 pub fn cased_rules_hold_by_halves()
     ensures { CasedRulesHoldByHalves }
+{}
+
+/// The definitions give what was worked out by hand of nine small keyboards.
+#[tactic(auto, using(crate::proofs::WorkedTraces::worked_traces))]
+pub fn worked_traces()
+    ensures { AreWorkedTraces }
 {}

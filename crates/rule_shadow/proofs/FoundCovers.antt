@@ -1,8 +1,8 @@
--- What is found for a record covers it.
+-- What is found for a record covers it, so a certificate that says it is right.
 use mathlib.Core.Former.{none_left, list_count, this}
 use denote.RawPtr.{null_ptr}
 use Rattle.std.proofs.Common.{◌≡◌, ℕ, zero, suc, ◌+◌, ◌^◌, ◌≤◌, ◌<◌, Bool, true, ◌&&◌, Vec, Global, List, [], ◌∷◌, ◌++◌, length, Option, Some, None, refl, sym, ap, ◌∙◌, subst, arith, inl, inr, append_assoc}
-use Rattle.std.specs.Prelude.{take, filter_map, slice_get, nat_lt, option_and_then}
+use Rattle.std.specs.Prelude.{take, filter_map, slice_get, nat_lt, option_and_then, IfOk, IfSome, Result, Ok, Err}
 use Rattle.std.specs.List.{position_from, cons_option}
 use Rattle.std.specs.Option.{option_flatten}
 use Rattle.std.proofs.lemmas.Bool.{cases_Bool, cond-true, cond-false}
@@ -20,10 +20,11 @@ use Rattle.rule_model.specs.Match.{item_of}
 use Rattle.rule_model.specs.Tab.{elements_of, store_elements}
 use Rattle.kmx_format.specs.Writable.{IsWritable, IsWritableStore, is_matched}
 use Rattle.rule_shadow.specs.declared.cert.Cert.{Cert, By, Split', Row_of-Cert, end_of-Cert, more_of-Cert}
+use Rattle.rule_shadow.specs.declared.finding.Found.{Found}
 use Rattle.rule_shadow.specs.declared.finding.Found.TheVariants as finding
 use Rattle.rule_shadow.specs.Places.{Narrowing, is_fixed, items_of, patterns_of, places_from}
 use Rattle.rule_shadow.specs.Covers.{covers_rule, covers_if_any, covers_by, split_items, items_at, narrowed, nothing_narrowed, covers_under, covers_parts, covers_record, covers_in, covers}
-use Rattle.rule_shadow.specs.Finding.{least_by, least_then, least_onto, split_rules, split_or, first_split, by_or, found_for}
+use Rattle.rule_shadow.specs.Finding.{least_by, least_then, least_onto, split_rules, split_or, first_split, by_or, found_for, found_if_any, found_in, found, AreBy, Tells, Says}
 use Rattle.rule_shadow.proofs.Sound.{all_at}
 
 -- what stands at the first place, counted from some number on, passes
@@ -55,7 +56,7 @@ taken (suc count) (suc place) (y ∷ xs) x e = let rest = taken count place xs x
 
 module _ (tables : Tables) (group : Group) (number : ℕ) (r : Rule) where
   -- the least record that covers one covers it
-  least_covers : (narrowing : Narrowing) (q : ℕ) → least_by tables group number r narrowing ≡ Some q → covers_by tables group number r narrowing q ≡ true
+  pub least_covers : (narrowing : Narrowing) (q : ℕ) → least_by tables group number r narrowing ≡ Some q → covers_by tables group number r narrowing q ≡ true
   least_covers narrowing q e =
       let first = first_passes (λ q. covers_rule tables group.using_keys (places_from tables narrowing [] r.context) q r) 0 (take number group.rules) q e in
       let is = first.is in
@@ -66,13 +67,13 @@ module _ (tables : Tables) (group : Group) (number : ℕ) (r : Rule) where
       λ i. less i && (ap (covers_if_any tables group.using_keys (places_from tables narrowing [] r.context) r) (ap (slice_get group.rules) (sym here) ∙ within.1) ∙ first.passes) i
 
   -- each item has its least record
-  abbrev AreLeast : ℕ → List Item → List ℕ → Type 0
+  abbrev pub AreLeast : ℕ → List Item → List ℕ → Type 0
   AreLeast place [] [] = Unit {0}
   AreLeast place [] (q ∷ qs) = ⊥
   AreLeast place (x ∷ xs) [] = ⊥
   AreLeast place (x ∷ xs) (q ∷ qs) = (least_by tables group number r (narrowed nothing_narrowed place x) ≡ Some q) × AreLeast place xs qs
 
-  each_least : (place : ℕ) (items : List Item) (seen all : List ℕ) → least_onto tables group number r place items seen ≡ Some all → (qs : List ℕ) × (all ≡ seen ++ qs) × AreLeast place items qs
+  pub each_least : (place : ℕ) (items : List Item) (seen all : List ℕ) → least_onto tables group number r place items seen ≡ Some all → (qs : List ℕ) × (all ≡ seen ++ qs) × AreLeast place items qs
   each_least place [] seen all e = ([], sym (same_Some seen all e) ∙ sym (append_nil seen), tt)
     where
       append_nil : (xs : List ℕ) → xs ++ [] ≡ xs
@@ -106,7 +107,7 @@ module _ (tables : Tables) (group : Group) (number : ℕ) (r : Rule) where
       by None is h more = more h
       by (Some rules) is h more = (place, rules, is)
 
-  with_items : (place : ℕ) (o : Option (List Item)) (rules : List ℕ) → option_and_then (λ items. least_onto tables group number r place items []) o ≡ Some rules
+  pub with_items : (place : ℕ) (o : Option (List Item)) (rules : List ℕ) → option_and_then (λ items. least_onto tables group number r place items []) o ≡ Some rules
       → (items : List Item) × (o ≡ Some items) × (least_onto tables group number r place items [] ≡ Some rules)
   with_items place None rules e = let absurd_case : None ≡ Some rules = e in cc
   with_items place (Some items) rules e = (items, refl, e)
@@ -130,18 +131,27 @@ row_of (q ∷ qs) = more_of-Cert (By q) (row_of qs)
 abbrev cert_of : (place : ℕ) (qs : List ℕ) → length qs < 2 ^ 63 → Cert
 cert_of place qs few = Split' place (shape_of qs few) (row_of qs)
 
-row_covers : (tables : Tables) (group : Group) (number : ℕ) (r : Rule) (place : ℕ) (items : List Item) (qs : List ℕ) → AreLeast tables group number r place items qs
-    → covers_parts tables group number r nothing_narrowed place (Some items) (row_of qs) ≡ true
-row_covers tables group number r place [] [] h = refl
-row_covers tables group number r place [] (q ∷ qs) h = absurd h
-row_covers tables group number r place (x ∷ items) [] h = absurd h
-row_covers tables group number r place (x ∷ items) (q ∷ qs) h =
-    λ i. least_covers tables group number r (narrowed nothing_narrowed place x) q h.0 i && row_covers tables group number r place items qs h.1 i
+row_tells : (qs : List ℕ) → AreBy qs (row_of qs)
+row_tells [] = tt
+row_tells (q ∷ qs) = (refl, row_tells qs)
+
+-- parts that are `By` with the least records cover each item
+row_covers : (tables : Tables) (group : Group) (number : ℕ) (r : Rule) (place : ℕ) (items : List Item) (qs : List ℕ) {m : _} (parts : Row_of-Cert m)
+    → AreLeast tables group number r place items qs → AreBy qs parts → covers_parts tables group number r nothing_narrowed place (Some items) parts ≡ true
+row_covers tables group number r place [] [] end_of-Cert h told = refl
+row_covers tables group number r place [] [] (more_of-Cert part parts) h told = absurd told
+row_covers tables group number r place [] (q ∷ qs) parts h told = absurd h
+row_covers tables group number r place (x ∷ items) [] parts h told = absurd h
+row_covers tables group number r place (x ∷ items) (q ∷ qs) end_of-Cert h told = absurd told
+row_covers tables group number r place (x ∷ items) (q ∷ qs) (more_of-Cert (Split' k shape inner) parts) h told = absurd told.0
+row_covers tables group number r place (x ∷ items) (q ∷ qs) (more_of-Cert (By p) parts) h told =
+    λ i. (ap (covers_by tables group number r (narrowed nothing_narrowed place x)) told.0 ∙ least_covers tables group number r (narrowed nothing_narrowed place x) q h.0) i
+    && row_covers tables group number r place items qs parts h.1 told.1 i
 
 split_covers : (tables : Tables) (group : Group) (number : ℕ) (r : Rule) (place : ℕ) (items : List Item) (qs : List ℕ) (few : length qs < 2 ^ 63)
     → items_at tables r nothing_narrowed place ≡ Some items → AreLeast tables group number r place items qs → covers_under tables group number r nothing_narrowed (cert_of place qs few) ≡ true
 split_covers tables group number r place items qs few is h =
-    ap (λ o. covers_parts tables group number r nothing_narrowed place o (row_of qs)) is ∙ row_covers tables group number r place items qs h
+    ap (λ o. covers_parts tables group number r nothing_narrowed place o (row_of qs)) is ∙ row_covers tables group number r place items qs (row_of qs) h (row_tells qs)
 
 -- a store of writable tables has few items
 one_more_item : {X : Type 0} (o : Option X) (xs : List X) → length (cons_option o xs) ≤ suc (length xs)
@@ -195,3 +205,60 @@ pub found_covers : (tables : Tables) → IsWritable tables → (n number : ℕ) 
 found_covers tables writable n number group r at here found =
     let under = found_covers_under tables writable group number r found in
     (under.0, ap (λ o. covers_in tables o number under.0) at ∙ (ap (λ o. covers_record tables group number o under.0) here ∙ under.1))
+
+-- ---- a certificate that says what is found is right
+
+module _ (tables : Tables) (group : Group) (number : ℕ) (r : Rule) where
+  abbrev IsRight : Cert → Type 0
+  IsRight cert = covers_under tables group number r nothing_narrowed cert ≡ true
+
+  split_tells : (place : ℕ) (context : List Pat) (cert : Cert) → Tells (first_split tables group number r place context) cert → IsRight cert
+  split_tells place [] cert told = absurd told
+  split_tells place (p ∷ ps) cert told = elim (cases_Bool (is_matched p)) [
+    | inl yes_p ↦
+        by (split_rules tables group number r place) refl cert
+        (subst (λ (f : Found). Tells f cert) (cond-true (is_matched p) (split_or (split_rules tables group number r place) place (first_split tables group number r (place + 1) ps)) (first_split tables group number r place ps) yes_p) told)
+        (split_tells (place + 1) ps cert)
+    | inr no_p ↦
+        split_tells place ps cert
+        (subst (λ (f : Found). Tells f cert) (cond-false (is_matched p) (split_or (split_rules tables group number r place) place (first_split tables group number r (place + 1) ps)) (first_split tables group number r place ps) no_p) told)
+  ]
+    where
+      by : (o : Option (List ℕ)) → split_rules tables group number r place ≡ o → (cert : Cert) → Tells (split_or o place (first_split tables group number r (place + 1) ps)) cert
+          → (Tells (first_split tables group number r (place + 1) ps) cert → IsRight cert) → IsRight cert
+      by None is cert told more = more told
+      by (Some rules) is (By p) told more = absurd told
+      by (Some rules) is (Split' k shape parts) told more =
+          let items = with_items tables group number r place (items_at tables r nothing_narrowed place) rules is in
+          let least = each_least tables group number r place items.0 [] rules items.2 in
+          (λ i. covers_parts tables group number r nothing_narrowed (told.0 i) (items_at tables r nothing_narrowed (told.0 i)) parts)
+          ∙ ap (λ o. covers_parts tables group number r nothing_narrowed place o parts) items.1
+          ∙ row_covers tables group number r place items.0 least.0 parts least.2 (subst (λ (qs : List ℕ). AreBy qs parts) least.1 told.1)
+
+  record_tells : (cert : Cert) → Tells (found_for tables group number r) cert → IsRight cert
+  record_tells cert told = by (least_by tables group number r nothing_narrowed) refl cert told
+    where
+      by : (o : Option ℕ) → least_by tables group number r nothing_narrowed ≡ o → (cert : Cert) → Tells (by_or o (first_split tables group number r 0 r.context)) cert → IsRight cert
+      by None is cert told = split_tells 0 r.context cert told
+      by (Some q) is (By p) told = ap (covers_by tables group number r nothing_narrowed) told ∙ least_covers tables group number r nothing_narrowed q is
+      by (Some q) is (Split' k shape parts) told = absurd told
+
+pub tells_covers : (tables : Tables) (n number : ℕ) (cert : Cert) → Tells (found tables n number) cert → covers tables n number cert ≡ true
+tells_covers tables n number cert told = in_group (slice_get tables.groups n) told
+  where
+    of_record : (group : Group) (o : Option Rule) → Tells (found_if_any tables group number o) cert → covers_record tables group number o cert ≡ true
+    of_record group None told = absurd told
+    of_record group (Some r) told = record_tells tables group number r cert told
+
+    in_group : (o : Option Group) → Tells (found_in tables o number) cert → covers_in tables o number cert ≡ true
+    in_group None told = absurd told
+    in_group (Some group) told = of_record group (slice_get group.rules number) told
+
+says_covers : (tables : Tables) (n number : ℕ) (cert : Option Cert) → Says (found tables n number) cert → IfSome cert (λ cert. covers tables n number cert ≡ true)
+says_covers tables n number None told = tt
+says_covers tables n number (Some cert) told = tells_covers tables n number cert told
+
+pub answer_covers : {E : Type 0} (tables : Tables) (n number : ℕ) (what : Found) (answer : Result (Option Cert) E) → what ≡ found tables n number
+    → IfOk answer (Says what) → IfOk answer (λ cert. IfSome cert (λ cert. covers tables n number cert ≡ true))
+answer_covers tables n number what (Ok cert) is told = says_covers tables n number cert (subst (λ (f : Found). Says f cert) is told)
+answer_covers tables n number what (Err error) is told = tt

@@ -3,6 +3,7 @@ pub mod DeadRules
 pub mod Examples
 pub mod Flags
 pub mod FoundCovers
+pub mod FoundHold
 pub mod Keys
 pub mod NearRules
 pub mod Ranges

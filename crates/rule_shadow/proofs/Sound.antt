@@ -30,7 +30,7 @@ use Rattle.rule_shadow.specs.declared.cert.Range.{Range}
 use Rattle.rule_shadow.specs.declared.cert.Range.TheVariants as range
 use Rattle.rule_shadow.specs.Places.{Narrowing, is_fixed, items_of, patterns_of, first_given, range_of, places_from}
 use Rattle.rule_shadow.specs.Covers.{covers_if_any, items_at, split_items, narrowed, nothing_narrowed, covers_under, covers_parts, covers_record, covers_in}
-use Rattle.rule_shadow.specs.Laws.{CoveredNeverGoFirst}
+use Rattle.rule_shadow.specs.Laws.{CoveredNeverGoFirst, is_held}
 use Rattle.rule_shadow.proofs.Ranges.{same_is, position-any, among_items, fixed_content, Agrees, AreAt, IsMet, caught_stand}
 use Rattle.rule_shadow.proofs.Records.{taken_items, covering_holds, held_parts, length-patterns}
 
@@ -48,7 +48,7 @@ context_fits tables n number group r writable at here =
     rule_written.context.item_count
 
 -- a record of writable tables has a key in a group with keys
-has_key : (using_keys : Bool) (k : RuleKey) → IsWritableKey using_keys k → using_keys ≡ true → k ≢ key.Any
+pub has_key : (using_keys : Bool) (k : RuleKey) → IsWritableKey using_keys k → using_keys ≡ true → k ≢ key.Any
 has_key true key.Any w e is = w
 has_key true (key.Char c) w e is = cc
 has_key true (key.Virtual flags code) w e is = cc
@@ -67,20 +67,19 @@ places-patterns tables narrowing rs (p ∷ context) =
     at false g h = h
 
 module _ (tables : Tables) (group : Group) (values : List (List Element)) (left : List Item) (press : KeyPress) where
-  abbrev is_held : Rule → Bool
-  is_held rule = is_some (holds (content (tab tables).stores values) left press (tab_rule tables.stores group.using_keys rule))
-
   -- some record of a lesser number holds
   abbrev HeldBefore : ℕ → Type 0
-  HeldBefore number = (by : ℕ) × (q : Rule) × (by < number) × (slice_get group.rules by ≡ Some q) × (is_held q ≡ true)
+  HeldBefore number = (by : ℕ) × (q : Rule) × (by < number) × (slice_get group.rules by ≡ Some q) × (is_held tables group values left press q ≡ true)
 
   module _ (number : ℕ) (r : Rule) (keyed : group.using_keys ≡ true → r.key ≢ key.Any) (caught : Caught)
       (e : holds (content (tab tables).stores values) left press (tab_rule tables.stores group.using_keys r) ≡ Some caught) where
-    by_held : (narrowing : Narrowing) (by : ℕ) (o : Option Rule) → slice_get group.rules by ≡ o → by < number
-        → covers_if_any tables group.using_keys (places_from tables narrowing [] r.context) r o ≡ true → Agrees tables values narrowing (taken_items r left) → HeldBefore number
-    by_held narrowing by None is less covered agrees = let absurd_case : false ≡ true = covered in cc
-    by_held narrowing by (Some q) is less covered agrees =
-        (by, q, less, is, covering_holds tables values left press group.using_keys narrowing q r caught keyed covered agrees e)
+    -- so does a record that covers one which holds
+    pub named_holds : (narrowing : Narrowing) (by : ℕ) (o : Option Rule) → slice_get group.rules by ≡ o → by < number
+        → covers_if_any tables group.using_keys (places_from tables narrowing [] r.context) r o ≡ true → Agrees tables values narrowing (taken_items r left)
+        → (q : Rule) × (by < number) × (slice_get group.rules by ≡ Some q) × (is_held tables group values left press q ≡ true)
+    named_holds narrowing by None is less covered agrees = let absurd_case : false ≡ true = covered in cc
+    named_holds narrowing by (Some q) is less covered agrees =
+        (q, less, is, covering_holds tables values left press group.using_keys narrowing q r caught keyed covered agrees e)
 
     -- the item at a place whose pattern is an `any` is met by it
     at_pattern : (places : List Place) (text : List Item) (k : ℕ) (p : Pat) → AreAt tables values places text → slice_get (map (λ (place : Place). place.pattern) places) k ≡ Some p
@@ -90,7 +89,7 @@ module _ (tables : Tables) (group : Group) (values : List (List Element)) (left 
     at_pattern (place ∷ places) (x ∷ text) zero p h is = (x, refl, subst (λ (q : Pat). IsMet tables values q x) (same_Some place.pattern p is) h.1)
     at_pattern (place ∷ places) (x ∷ text) (suc k) p h is = at_pattern places text k p h.2 is
 
-    narrowed_agrees : (narrowing : Narrowing) (text : List Item) (k : ℕ) (x y : Item) → Agrees tables values narrowing text → slice_get text k ≡ Some x → x ≡ y → Agrees tables values (narrowed narrowing k y) text
+    pub narrowed_agrees : (narrowing : Narrowing) (text : List Item) (k : ℕ) (x y : Item) → Agrees tables values narrowing text → slice_get text k ≡ Some x → x ≡ y → Agrees tables values (narrowed narrowing k y) text
     narrowed_agrees [] text k x y h at same = tt
     narrowed_agrees (given ∷ narrowing) [] zero x y h at same = tt
     narrowed_agrees (given ∷ narrowing) [] (suc k) x y h at same = tt
@@ -98,7 +97,7 @@ module _ (tables : Tables) (group : Group) (values : List (List Element)) (left 
     narrowed_agrees (given ∷ narrowing) (z ∷ text) (suc k) x y h at same = (h.0, narrowed_agrees narrowing text k x y h.1 at same)
 
     -- where a certificate splits, the item at its place is one of those that it splits by
-    split_item : (narrowing : Narrowing) (k : ℕ) (o : Option Item) (p : Option Pat) (items : List Item) → split_items tables o p ≡ Some items → slice_get (patterns_of r.context) k ≡ p
+    pub split_item : (narrowing : Narrowing) (k : ℕ) (o : Option Item) (p : Option Pat) (items : List Item) → split_items tables o p ≡ Some items → slice_get (patterns_of r.context) k ≡ p
         → Agrees tables values narrowing (taken_items r left) → (x : Item) × (slice_get (taken_items r left) k ≡ Some x) × (list_any (same_item x) items ≡ true)
     split_item narrowing k None (Some (pattern.Any store)) items is at agrees =
         let held = held_parts tables values left press group.using_keys r caught e in
@@ -125,7 +124,8 @@ module _ (tables : Tables) (group : Group) (values : List (List Element)) (left 
       cert_sound : (cert : Cert) (narrowing : Narrowing) → covers_under tables group number r narrowing cert ≡ true → Agrees tables values narrowing (taken_items r left) → HeldBefore number
       cert_sound (By by) narrowing covered agrees =
           let parts = and_parts (nat_lt by number) _ covered in
-          by_held narrowing by (slice_get group.rules by) refl (grind (arith, nat_tests)) parts.1 agrees
+          let one = named_holds narrowing by (slice_get group.rules by) refl (grind (arith, nat_tests)) parts.1 agrees in
+          (by, one.0, one.1, one.2, one.3)
       cert_sound (Split' k shape parts) narrowing covered agrees =
           let some = has_items narrowing k (items_at tables r narrowing k) parts covered in
           let one = split_item narrowing k (option_flatten (slice_get narrowing k)) (slice_get (patterns_of r.context) k) some.0 some.1 refl agrees in
@@ -143,7 +143,7 @@ module _ (tables : Tables) (group : Group) (values : List (List Element)) (left 
             | inr other ↦ row_sound parts narrowing k x items at (sym (ap (λ b. b || list_any (same_item x) items) other) ∙ among) both.1 agrees
           ]
 
-nothing_agrees : (tables : Tables) (values : List (List Element)) (n : ℕ) (text : List Item) → Agrees tables values (replicate n None) text
+pub nothing_agrees : (tables : Tables) (values : List (List Element)) (n : ℕ) (text : List Item) → Agrees tables values (replicate n None) text
 nothing_agrees tables values zero text = tt
 nothing_agrees tables values (suc n) [] = tt
 nothing_agrees tables values (suc n) (x ∷ text) = (tt, nothing_agrees tables values n text)
@@ -186,7 +186,7 @@ none_before p (x ∷ xs) (suc n) (suc k) y e less at passes = elim (cases_Bool (
   | inr no_x ↦ none_before p xs n k y (moved (position p xs) n (sym (passes_later p x xs no_x) ∙ e)) (omega (arith, less)) at passes
 ]
 
-some_caught : (o : Option Caught) → is_some o ≡ true → (c : Caught) × (o ≡ Some c)
+pub some_caught : (o : Option Caught) → is_some o ≡ true → (c : Caught) × (o ≡ Some c)
 some_caught None e = let absurd_case : false ≡ true = e in cc
 some_caught (Some c) e = (c, refl)
 

@@ -1,4 +1,4 @@
--- What a certificate says: other records of a group always come before one.
+-- What a certificate says: wherever a record holds, others of its group do that stand before it.
 use Rattle.std.specs.Prelude.{ℕ, ◌-◌, Bool, true, false, not, ◌&&◌, ◌||◌, is_some, nat_eq, nat_lt, nat_le, if◌then◌else◌, List, [], ◌∷◌, length, drop, replicate, slice_get, slice_set, Option, Some, None}
 use Rattle.std.specs.Option.{option_flatten}
 use Rattle.std.specs.List.{list_all, list_any}
@@ -27,7 +27,7 @@ covers_item tables (pattern.Any store) x = is_fixed tables store && is_some (pla
 covers_item tables (pattern.NotAny store) x = is_fixed tables store && not (is_some (place_of x (elements_of tables.stores store)))
 covers_item tables p x = false
 
--- it matches each item of a range
+-- it matches each item of a range, which may have none
 abbrev pub covers_range : Tables → Pat → Range → Bool
 covers_range tables p (range.One x) = covers_item tables p x
 covers_range tables p (range.Store store) = list_all (covers_item tables p) (items_of tables store)

@@ -1,5 +1,5 @@
--- The law of certificates.
-use Rattle.std.specs.Prelude.{◌≡◌, ◌≢◌, ℕ, true, is_some, List, position, slice_get, Option, Some}
+-- Laws of certificates, and of what is found.
+use Rattle.std.specs.Prelude.{◌≡◌, ◌≢◌, ℕ, ◌<◌, Bool, true, is_some, List, position, slice_get, Option, Some}
 use Rattle.kmn_base.specs.declared.items.Item.{Item}
 use Rattle.kmn_base.specs.declared.items.Element.{Element}
 use Rattle.kmn_base.specs.declared.keys.KeyPress.{KeyPress}
@@ -20,18 +20,37 @@ use Rattle.compile_laws.specs.WellNamed.{IsWellNamed}
 use Rattle.compile_laws.specs.Compiles.{Compiles}
 use Rattle.rule_shadow.specs.declared.cert.Cert.{Cert}
 use Rattle.kmx_format.specs.Writable.{IsWritable}
+use Rattle.rule_shadow.specs.declared.finding.Found.{Found}
+use Rattle.rule_shadow.specs.declared.finding.Found.TheVariants as finding
 use Rattle.rule_shadow.specs.Covers.{covers}
+use Rattle.rule_shadow.specs.Finding.{found}
 
--- the number of the first record of a group that holds, at a moment with these option values
+-- a record of a group holds, at a moment with these option values
+abbrev pub is_held : Tables → Group → List (List Element) → List Item → KeyPress → Rule → Bool
+is_held tables group values left press rule = is_some (holds (content (tab tables).stores values) left press (tab_rule tables.stores group.using_keys rule))
+
+-- the number of the first that does
 abbrev pub first_number : Tables → Group → List (List Element) → List Item → KeyPress → Option ℕ
-first_number tables group values left press =
-    position (λ rule. is_some (holds (content (tab tables).stores values) left press (tab_rule tables.stores group.using_keys rule))) group.rules
+first_number tables group values left press = position (is_held tables group values left press) group.rules
 
 -- a record with a certificate is at no moment and for no press the first that holds
 abbrev pub CoveredNeverGoFirst : Type 0
 CoveredNeverGoFirst =
     (tables : Tables) (n number : ℕ) (group : Group) (cert : Cert) → IsWritable tables → slice_get tables.groups n ≡ Some group → covers tables n number cert ≡ true →
     (values : List (List Element)) (left : List Item) (press : KeyPress) → first_number tables group values left press ≢ Some number
+
+-- a record is one of those that were found
+abbrev pub Names : Found → ℕ → Type 0
+Names finding.NotFound by = ⊥
+Names (finding.ByRule q) by = by ≡ q
+Names (finding.SplitAt place qs) by = (k : ℕ) × (slice_get qs k ≡ Some by)
+
+-- where a record holds for which something is found, one of the records that are found for it stands before it and holds too
+abbrev pub FoundHoldBefore : Type 0
+FoundHoldBefore =
+    (tables : Tables) (n number : ℕ) (group : Group) (r : Rule) → IsWritable tables → slice_get tables.groups n ≡ Some group → slice_get group.rules number ≡ Some r →
+    found tables n number ≢ finding.NotFound → (values : List (List Element)) (left : List Item) (press : KeyPress) → is_held tables group values left press r ≡ true →
+    (by : ℕ) × (q : Rule) × (by < number) × (slice_get group.rules by ≡ Some q) × Names (found tables n number) by × (is_held tables group values left press q ≡ true)
 
 -- a rule in a line of a group is chosen at no moment and for no press; rules of a group have lines of their own
 abbrev pub IsDead : Program → GroupDef → ℕ → Type 0

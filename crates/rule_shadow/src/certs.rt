@@ -9,8 +9,7 @@ use crate::covering::covers_rule;
 use crate::place_list::{is_matched, places};
 use crate::subject::Subject;
 use kmn_base::{Element, Item};
-use rule_model::Pat;
-use store_sets::item_of;
+use rule_model::{Pat, item_of};
 
 /// A pattern of a context by its place.
 fn pattern_at(context: &[Pat], place: u32) -> Option<Pat>

@@ -9,8 +9,7 @@ use crate::flagged::FlaggedTables;
 use crate::key_cover::covers_key;
 use crate::place_list::is_matched;
 use kmn_base::{Element, Item};
-use rule_model::{Pat, Rule};
-use store_sets::{is_item, item_of};
+use rule_model::{Pat, Rule, is_item, item_of};
 
 /// Whether a pattern matches an item whatever the moment.
 fn covers_item(tables: &FlaggedTables, pattern: Pat, item: Item) -> bool

@@ -1,4 +1,4 @@
-ghost use Rattle.std.specs.Prelude.{◌≡◌, IfOk};
+ghost use Rattle.std.specs.Prelude.{◌≡◌, true, IfOk, IfSome};
 ghost use Rattle.kmx_format.specs.Writable.{IsWritable};
 ghost use Rattle.rule_shadow.specs.Covers.{covers};
 ghost use Rattle.rule_shadow.specs.Finding.{Says, found};
@@ -114,9 +114,10 @@ impl<'a> Finder<'a> {
         found_in(alloc, &tables, group, rule)
     }
 
-    /// A certificate that says what is found, None where nothing is.
+    /// A certificate that says what is found, None where nothing is. `covers` accepts it.
     pub fn find(&self, alloc: Global, group: u32, rule: u32) -> Result<Option<Cert>, Memory>
-        ensures { IfOk result (Says (found self.now group rule)) }
+        ensures says { IfOk result (Says (found self.now group rule)) }
+        ensures right { IfOk result (λ found. IfSome found (λ cert. covers self.now group rule cert ≡ true)) }
     {
         let found = self.found(alloc, group, rule)?;
         certificate(alloc, found)
@@ -131,10 +132,12 @@ impl<'a> Finder<'a> {
     }
 }
 
-/// A certificate that says what is found for the record of a number in the group of a number, None where nothing is.
+/// A certificate that says what is found for the record of a number in the group of a number, None where nothing is. `covers`
+/// of the same tables and numbers accepts it.
 pub fn find(alloc: Global, tables: &Tables, group: u32, rule: u32) -> Result<Option<Cert>, Memory>
     requires { IsWritable tables.now }
-    ensures { IfOk result (Says (found tables.now group rule)) }
+    ensures says { IfOk result (Says (found tables.now group rule)) }
+    ensures right { IfOk result (λ found. IfSome found (λ cert. covers tables.now group rule cert ≡ true)) }
 {
     let finder = Finder::new(alloc, tables)?;
     finder.find(alloc, group, rule)

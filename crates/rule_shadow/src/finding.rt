@@ -18,9 +18,8 @@ use crate::place_list::{is_matched, places};
 use crate::subject::Subject;
 use kmn_base::slices::before;
 use kmn_base::{Element, Item, Memory, Seq};
-use rule_model::{Pat, Rule};
+use rule_model::{Pat, Rule, item_of};
 use std::alloc::Global;
-use store_sets::item_of;
 use virtual_keys::Pressed;
 
 /// What is found for a record: a record that covers it, a place with a record for each item, or nothing.

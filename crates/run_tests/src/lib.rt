@@ -1,14 +1,11 @@
-//! The tests of `keyman_run` and of what it takes from outside: `runs` has runs of each command over a folder and a sink in
-//! memory, `folders` has calls of `kmn_outside`, and `loads` the loads of `load_maker`.
+//! The tests of `keyman_run`: `runs` has runs of each command over a folder and a sink in memory.
 //!
-//! They stand here because a crate with tests is proved twice, once with them and once without: so each of those crates is
-//! proved once, and the tests are proved over them. `fixtures` has what they take. No layer stands above.
+//! They stand here because a crate with tests is proved twice, once with them and once without: so `keyman_run` is proved once,
+//! and the tests are proved over it. `fixtures` and `commands` have what they take, and `outside_tests` above, which has the
+//! runs in which something outside fails, takes the same.
 #![tactic(auto)]
 
+pub mod commands;
 pub mod fixtures;
-#[cfg(test)]
-mod folders;
-#[cfg(test)]
-mod loads;
 #[cfg(test)]
 mod runs;

@@ -1,20 +1,19 @@
 //! Runs of the commands over a folder and a sink in memory: the tables of `rows`, `trace_rows`, `shadow_rows` and `host_rows`,
-//! what is too long for a table, and faults and full sizes (`hostile`).
+//! and what is too long for a table.
 
 mod host_rows;
-mod hostile;
 mod rows;
 mod shadow_rows;
 mod trace_rows;
 
+use crate::commands::{FILE, ended, folder, sink, write_piece, written_out};
 use crate::fixtures::seq;
 use host_rows::HOST_RUNS;
-use keyman_run::{Status, run};
-use kmn_base::{Seq, Text};
-use kmn_outside::{Folder, MemoryFolder, MemorySink};
-use rows::{FILE, FILE_RUNS, LAYOUT_RUNS, LONG_RUNS, RUNS, SAMPLE, TEXT};
+use kmn_base::Seq;
+use kmn_outside::MemoryFolder;
+use rows::{FILE_RUNS, LAYOUT_RUNS, LONG_RUNS, RUNS, SAMPLE, TEXT};
 use shadow_rows::SHADOW_RUNS;
-use std::alloc::{Alloc, AllocError, Global};
+use std::alloc::{Alloc, Global};
 use std::process::Abort;
 use std::str;
 use std::test::Fail;
@@ -39,141 +38,9 @@ fn number_at(line: &str, place: usize) -> u32 {
     }
 }
 
-/// The words, which are parted by single spaces.
-fn words(alloc: Global, text: &str) -> Result<Vec<Text>, Fail> {
-    let mut words = Vec::new(alloc);
-    for word in text.split(' ') {
-        words.push(seq(alloc, word.as_bytes())?)?;
-    }
-    Ok(words)
-}
-
-/// Runs the words of a line, of several commands one after the other, and tells how the last one ends.
-fn ended(
-    alloc: Global,
-    line: &str,
-    folder: &mut MemoryFolder,
-    sink: &mut MemorySink,
-) -> Result<Status, Fail> {
-    let mut status = Status::Words;
-    for command in line.split("; ") {
-        let words = words(alloc, command)?;
-        status = run(alloc, words.as_slice(), folder, sink);
-    }
-    Ok(status)
-}
-
-/// Writes a text with its stand-ins replaced.
-fn write_text(out: &mut String, text: &str) -> Result<(), AllocError> {
-    for c in text.chars() {
-        match c {
-            '¶' => out.push('\n')?,
-            '␍' => out.push('\r')?,
-            '⌖' => out.push('\u{FEFF}')?,
-            '@' => out.push_str("begin Unicode > use(main)\ngroup(main) using keys\n")?,
-            _ => out.push(c)?,
-        }
-    }
-    Ok(())
-}
-
-fn write_copies(out: &mut String, text: &str, count: u32) -> Result<(), AllocError> {
-    for _ in 0..count {
-        write_text(out, text)?;
-    }
-    Ok(())
-}
-
-/// Writes a piece of a text: a text, and perhaps copies of another.
-fn write_piece(out: &mut String, piece: &str) -> Result<(), Fail> {
-    match piece.split_once('⟨') {
-        Some((text, copies)) => {
-            write_text(out, text)?;
-            let (copied, count) = copies.split_once('×').ok_or("copies without a count")?;
-            let count = count
-                .parse::<u32>()
-                .ok()
-                .ok_or("a count that is no number")?;
-            Ok(write_copies(out, copied, count)?)
-        }
-        None => Ok(write_text(out, piece)?),
-    }
-}
-
-/// A text with its stand-ins and copies written out.
-fn written_out(alloc: Global, text: &str) -> Result<String, Fail> {
-    let mut out = String::new(alloc);
-    for piece in text.split('⟩') {
-        write_piece(&mut out, piece)?;
-    }
-    Ok(out)
-}
-
-/// A source written out.
-fn source_of(alloc: Global, text: &str) -> Result<String, Fail> {
-    if text == "SAMPLE" {
-        return written_out(alloc, SAMPLE);
-    }
-    written_out(alloc, text)
-}
-
-/// A folder without files, whose call of this number behind so many others fails, and none for 0.
-fn empty_folder(alloc: Global, failing: u32, behind: u32) -> Result<MemoryFolder, AllocError> {
-    let call = match failing {
-        0 => 0,
-        _ => failing.saturating_add(behind),
-    };
-    let fails = Vec::from_slice(alloc, &[call])?;
-    Ok(MemoryFolder::new(alloc, Seq::new(alloc), Seq::from_vec(fails)))
-}
-
-/// A sink whose call of this number fails, and none for 0.
-fn sink(alloc: Global, failing: u32) -> Result<MemorySink, AllocError> {
-    let fails = Vec::from_slice(alloc, &[failing])?;
-    Ok(MemorySink::new(alloc, Seq::from_vec(fails)))
-}
-
-/// How many files `write_files` writes.
-const FILES: u32 = 7;
-
-/// Writes a compiled file `a.kmx`, a script `a.keys`, and the source as `a.kmn` beside a picture of four bytes, and as `d/a.kmn`
-/// beside one of eight.
-fn write_files(
-    alloc: Global,
-    folder: &mut MemoryFolder,
-    source: &[u8],
-    file: &[u8],
-    script: &[u8],
-) -> Result<(), Fail> {
-    folder.write(alloc, b"a.kmn", source)?;
-    folder.write(alloc, b"a.kmx", file)?;
-    folder.write(alloc, b"a.keys", script)?;
-    folder.write(alloc, b"p.ico", &[0, 1, 2, 3])?;
-    folder.write(alloc, b"d/a.kmn", source)?;
-    folder.write(alloc, b"d/p.ico", &[0, 1, 2, 3, 4, 5, 6, 7])?;
-    folder.write(alloc, b"sample.ico", &[0, 1, 2, 3])?;
-    Ok(())
-}
-
-/// A folder with these files. Its call of this number behind them fails, and none for 0.
-fn folder(
-    alloc: Global,
-    source: &str,
-    file: &[u8],
-    script: &str,
-    failing: u32,
-) -> Result<MemoryFolder, Fail> {
-    let source = source_of(alloc, source)?;
-    let script = written_out(alloc, script)?;
-    let mut folder = empty_folder(alloc, failing, FILES)?;
-    write_files(
-        alloc,
-        &mut folder,
-        source.as_bytes(),
-        file,
-        script.as_bytes(),
-    )?;
-    Ok(folder)
+/// The source that a row has or names.
+fn source_of(text: &str) -> &str {
+    if text == "SAMPLE" { SAMPLE } else { text }
 }
 
 /// The file that a source is compiled to.
@@ -204,11 +71,12 @@ fn pieced(alloc: Global, file: &[u8], pieces: &str) -> Result<Seq<u8>, Fail> {
 fn folder_of(alloc: Global, row: Run, failing: u32) -> Result<MemoryFolder, Fail> {
     match row.source.split_once(" ⇒ ") {
         Some((source, pieces)) => {
+            let source = source_of(source);
             let file = compiled(alloc, source)?;
             let file = pieced(alloc, file.as_slice(), pieces)?;
             folder(alloc, source, file.as_slice(), row.script, failing)
         }
-        None => folder(alloc, row.source, b"", row.script, failing),
+        None => folder(alloc, source_of(row.source), b"", row.script, failing),
     }
 }
 
@@ -349,27 +217,5 @@ fn long_texts(rt: HostRuntime) -> Result<(), Fail> {
     assert!(rt; is_refused_behind(rt.alloc(), 243, "[K_A]\n", printed)?);
     let printed = "?244 del=0 ins=- pass=0 beep=0 ent=0 ctx=-¶refused E2 event 245¶";
     assert!(rt; is_refused_behind(rt.alloc(), 245, "", printed)?);
-    Ok(())
-}
-
-/// Whether a picture that passes its limit by one byte is refused, and nothing written.
-fn is_long_picture_refused(alloc: Global) -> Result<bool, Fail> {
-    let source = written_out(alloc, "store(&bitmap) 'p.ico'¶@+ 'a' > 'b'¶")?;
-    let picture = vec![in alloc; 0u8; 1_048_577]?;
-    let mut folder = empty_folder(alloc, 0, 0)?;
-    folder.write(alloc, b"a.kmn", source.as_bytes())?;
-    folder.write(alloc, b"p.ico", picture.as_slice())?;
-    let mut sink = sink(alloc, 0)?;
-    let status = ended(alloc, "compile a.kmn out", &mut folder, &mut sink)?;
-    Ok(
-        status == Status::Refused
-            && sink.written() == b"refused C24 size 1048577\n".as_slice()
-            && folder.file(b"out").is_none(),
-    )
-}
-
-#[test]
-fn long_picture(rt: HostRuntime) -> Result<(), Fail> {
-    assert!(rt; is_long_picture_refused(rt.alloc())?);
     Ok(())
 }

@@ -1,7 +1,7 @@
-//! Which rules of a keyboard can never fire, as text: the line of each such rule with the lines of the rules that come before
-//! it, and how many rules there are.
+//! Which rules of a keyboard can never fire, as text: the line of each such rule with lines of others, of which one comes first
+//! wherever it would hold, and how many rules there are.
 //!
-//! It stands on `rule_shadow`, which finds for a record other records that always come first. The layer above calls
+//! It stands on `rule_shadow`, which finds for a record others of which one comes first wherever it holds. The layer above calls
 //! `dead_text`, which answers the text of tables (`specs/DeadLines`), for at most `SHADOW_RECORDS` records, and cites the law
 //! that each line of `dead_lines` is that of a rule which is chosen at no moment and for no press.
 #![tactic(auto)]

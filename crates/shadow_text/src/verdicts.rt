@@ -11,7 +11,7 @@ use rule_shadow::{Finder, Found};
 use std::alloc::Global;
 use std::collections::BTreeSet;
 
-/// The line of a record, and where something was found for it the lines of the records that come before it, rising.
+/// The line of a record, and where something was found for it the lines of the records that were found, rising.
 #[derive(Drop)]
 pub(crate) struct Verdict {
     pub line: u32,

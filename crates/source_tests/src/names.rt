@@ -193,6 +193,7 @@ type NumberRow = (
 );
 
 const NUMBERS: &[NumberRow] = &[
+    ("", None, None, None, None),
     ("A", Some(1), None, None, None),
     ("b", Some(2), None, None, None),
     ("m", None, Some(0), None, None),

@@ -1,36 +1,22 @@
 -- Whether a set of numbers has an item, as elements have it.
-use Rattle.std.proofs.Common.{◌≡◌, ℕ, zero, suc, ◌+◌, ◌*◌, ◌<◌, Bool, true, false, List, [], ◌∷◌, ◌++◌, length, map, take, get_or, refl, sym, ap, subst, ◌∙◌, arith, if◌then◌else◌}
+use Rattle.std.proofs.Common.{◌≡◌, ℕ, zero, suc, ◌+◌, ◌*◌, ◌<◌, false, List, [], ◌∷◌, ◌++◌, length, map, take, get_or, refl, sym, ap, subst, ◌∙◌, arith}
 use Rattle.std.specs.Prelude.{◌||◌, nat_eq, is_some}
 use Rattle.std.specs.List.{list_any}
 use Rattle.std.proofs.Math.Bool.{or-false}
 use Rattle.std.proofs.lemmas.Bool.Decides.{nat_tests}
 use Rattle.std.proofs.lemmas.List.{map-append, take_more}
-use Rattle.std.proofs.lemmas.List.Folds.{list_any-append, list_any_more}
+use Rattle.std.proofs.lemmas.List.Folds.{list_any_more}
 use Rattle.indexmap.specs.IndexSet.{IndexSet}
 use Rattle.kmn_base.specs.declared.items.Item.{Item}
 use Rattle.kmn_base.specs.declared.items.Item.TheVariants as item
 use Rattle.kmn_base.specs.declared.items.Element.{Element}
 use Rattle.kmn_base.specs.declared.items.Element.TheVariants as element
 use Rattle.virtual_keys.proofs.NamePlaces.{some_place}
+use Rattle.virtual_keys.proofs.NumberSets.{inserted}
 use Rattle.rule_model.specs.declared.tables.Store.{Store}
 use Rattle.rule_model.specs.Match.{is_item, item_of, place_of}
 use Rattle.rule_model.specs.Tab.{elements_of}
 use Rattle.store_sets.specs.Numbers.{number_of, with_item, HasItems, AreSetsOf, set_at}
-
-same_number : (q n : ℕ) → nat_eq q n ≡ true → q ≡ n
-same_number q n e = grind (arith, nat_tests)
-
--- a number that is there already
-known_twice : (set : List ℕ) (n q : ℕ) (same : Bool) → nat_eq q n ≡ same → list_any (nat_eq n) set ≡ true → list_any (nat_eq q) set ≡ (list_any (nat_eq q) set || same)
-known_twice set n q true e there =
-    let found : list_any (nat_eq q) set ≡ true = ap (λ k. list_any (nat_eq k) set) (same_number q n e) ∙ there in
-    found ∙ sym (ap (λ b. b || true) found)
-known_twice set n q false e there = sym (or-false (list_any (nat_eq q) set))
-
-inserted : (set : List ℕ) (n q : ℕ) (there : Bool) → list_any (nat_eq n) set ≡ there
-    → list_any (nat_eq q) (if there then set else set ++ n ∷ []) ≡ (list_any (nat_eq q) set || nat_eq q n)
-inserted set n q true e = known_twice set n q (nat_eq q n) refl e
-inserted set n q false e = list_any-append (nat_eq q) set (n ∷ []) ∙ ap (λ b. list_any (nat_eq q) set || b) (or-false (nat_eq q n))
 
 -- items have one number where they are the same
 char_char : (c d : ℕ) → nat_eq (2 * c) (2 * d) ≡ nat_eq c d
@@ -47,11 +33,11 @@ mark_mark m n = grind (arith, nat_tests)
 
 -- a set with the item of an element more
 with_one : (set : List ℕ) (x : Item) (e : Element) → list_any (nat_eq (number_of x)) (with_item set (item_of e)) ≡ (list_any (nat_eq (number_of x)) set || is_item x e)
-with_one set (item.Char c) (element.Char d) = inserted set (2 * d) (2 * c) (list_any (nat_eq (2 * d)) set) refl ∙ ap (λ b. list_any (nat_eq (2 * c)) set || b) (char_char c d)
-with_one set (item.Char c) (element.Mark m) = inserted set (1 + 2 * m) (2 * c) (list_any (nat_eq (1 + 2 * m)) set) refl ∙ ap (λ b. list_any (nat_eq (2 * c)) set || b) (char_mark c m)
+with_one set (item.Char c) (element.Char d) = inserted set (2 * d) (2 * c) ∙ ap (λ b. list_any (nat_eq (2 * c)) set || b) (char_char c d)
+with_one set (item.Char c) (element.Mark m) = inserted set (1 + 2 * m) (2 * c) ∙ ap (λ b. list_any (nat_eq (2 * c)) set || b) (char_mark c m)
 with_one set (item.Char c) (element.Key flags code) = sym (or-false (list_any (nat_eq (2 * c)) set))
-with_one set (item.Mark m) (element.Char d) = inserted set (2 * d) (1 + 2 * m) (list_any (nat_eq (2 * d)) set) refl ∙ ap (λ b. list_any (nat_eq (1 + 2 * m)) set || b) (mark_char m d)
-with_one set (item.Mark m) (element.Mark n) = inserted set (1 + 2 * n) (1 + 2 * m) (list_any (nat_eq (1 + 2 * n)) set) refl ∙ ap (λ b. list_any (nat_eq (1 + 2 * m)) set || b) (mark_mark m n)
+with_one set (item.Mark m) (element.Char d) = inserted set (2 * d) (1 + 2 * m) ∙ ap (λ b. list_any (nat_eq (1 + 2 * m)) set || b) (mark_char m d)
+with_one set (item.Mark m) (element.Mark n) = inserted set (1 + 2 * n) (1 + 2 * m) ∙ ap (λ b. list_any (nat_eq (1 + 2 * m)) set || b) (mark_mark m n)
 with_one set (item.Mark m) (element.Key flags code) = sym (or-false (list_any (nat_eq (1 + 2 * m)) set))
 
 -- an element more

@@ -11,5 +11,5 @@ mod items;
 mod numbers;
 mod store_sets;
 
-pub use items::{is_among, is_item, item_of};
+pub use items::is_among;
 pub use store_sets::StoreSets;

@@ -5,11 +5,10 @@ ghost use Rattle.rule_model.specs.Match.{item_of, place_of};
 ghost use Rattle.rule_model.specs.Tab.{elements_of};
 ghost use Rattle.store_sets.specs.Numbers.{with_item, HasItems, AreSetsOf, set_at};
 
-use crate::items::item_of;
 use crate::numbers::number_of;
 use indexmap::IndexSet;
 use kmn_base::{Element, Item, Memory};
-use rule_model::Store;
+use rule_model::{Store, item_of};
 use std::alloc::Global;
 use std::marker::Model;
 

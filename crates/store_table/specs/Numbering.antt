@@ -42,6 +42,11 @@ below limit (Some number) = if nat_lt number limit then Some number else None
 abbrev pub number_in : List (List ℕ) → List ℕ → Option ℕ
 number_in names name = below (2 ^ 32) (place_in names name)
 
+-- the number of the store of a name: system stores, for which the empty name stands here, are found by none
+abbrev pub named_store : List (List ℕ) → List ℕ → Option ℕ
+named_store names [] = None
+named_store names (byte ∷ name) = number_in names (byte ∷ name)
+
 -- the number of a mark: its place from 1, where it has 16 bits
 abbrev pub mark_in : List (List ℕ) → List ℕ → Option ℕ
 mark_in marks name = below (2 ^ 16) (option_map (λ place. 1 + place) (place_in marks name))

@@ -7,7 +7,7 @@ ghost use Rattle.store_table.specs.Places.{written};
 
 use indexmap::IndexMap;
 use kmn_base::Memory;
-use kmn_base::names::same_name;
+use kmn_base::names::{in_lower_case, same_name};
 use std::alloc::Global;
 use std::marker::Model;
 
@@ -110,15 +110,6 @@ impl NameTable {
             }
         }
     }
-}
-
-/// A name in lower case.
-fn in_lower_case(alloc: Global, name: &[u8]) -> Result<Vec<u8>, Memory>
-    ensures { IfOk result (λ copy. copy.items ≡ str_to_ascii_lowercase name.now) }
-{
-    let mut copy = Vec::from_slice(alloc, name)?;
-    copy.make_ascii_lowercase();
-    Ok(copy)
 }
 
 /// The place of a name of any length, by comparing.

@@ -1,6 +1,6 @@
-ghost use Rattle.std.specs.Prelude.{◌≡◌};
+ghost use Rattle.std.specs.Prelude.{◌≡◌, []};
 ghost use Rattle.kmn_base.specs.Answers.{Answers};
-ghost use Rattle.store_table.specs.Numbering.{mark_in, number_in, numbered};
+ghost use Rattle.store_table.specs.Numbering.{mark_in, named_store, number_in, numbered};
 
 use crate::appearing::appeared_names;
 use crate::name_table::NameTable;
@@ -31,20 +31,29 @@ impl Model for Names {
 }
 
 impl Names {
-    /// The number in the file of the first store of a name, from 0. Statements that are read and dropped are no stores.
+    /// The number in the file of the first store of a name, from 0. Statements that are read and dropped are no stores, and
+    /// system stores have no name.
     pub fn store(&self, name: &[u8]) -> Option<u32>
-        ensures { result ≡ number_in self.now.stores name.now }
+        ensures { result ≡ named_store self.now.stores name.now }
     {
-        let place = self.stores.place_of(name)?;
-        u32::try_from(place).ok()
+        if name.is_empty() {
+            return None;
+        }
+        number_in(&self.stores, name)
+    }
+
+    /// The number in the file of the first system store, from 0.
+    pub fn system_store(&self) -> Option<u32>
+        ensures { result ≡ number_in self.now.stores [] }
+    {
+        number_in(&self.stores, b"")
     }
 
     /// The number in the file of the first group of a name, from 0.
     pub fn group(&self, name: &[u8]) -> Option<u32>
         ensures { result ≡ number_in self.now.groups name.now }
     {
-        let place = self.groups.place_of(name)?;
-        u32::try_from(place).ok()
+        number_in(&self.groups, name)
     }
 
     /// The number of a mark, from 1. Names past the 65,535th have none.
@@ -61,6 +70,14 @@ impl Names {
     {
         &self.keys
     }
+}
+
+/// The place of the first name of a table that is the same, where it has 32 bits.
+fn number_in(names: &NameTable, name: &[u8]) -> Option<u32>
+    ensures { result ≡ number_in names.now name.now }
+{
+    let place = names.place_of(name)?;
+    u32::try_from(place).ok()
 }
 
 /// The names of a program, or its first refusal for names: C02 to C07 and C15.

@@ -8,7 +8,7 @@ use Rattle.serde_json.specs.Data.{Data, null, boolean, number, string, array, ob
 use Rattle.serde_json.specs.View.{view, items_view}
 use Rattle.serde_json.specs.declared.value.Value.{Value}
 use Rattle.serde_json.specs.Find.{get, get_member, as_object, as_array}
-use Rattle.touch_layout.specs.declared.faults.Place.{Place}
+use Rattle.touch_layout.specs.declared.faults.LayoutPlace.{LayoutPlace}
 use Rattle.touch_layout.specs.Keys.{Key, own_onto, key_onto, list_onto, items_onto, directions_onto, list_member, flick_member, key_member, list_at, flick_at, key_at, directions}
 
 -- a walk over members that looks for a name, and f of what a look-up gives
@@ -18,15 +18,15 @@ at_name Less f d rest more same = same
 at_name Equal f d rest more same = refl
 at_name Greater f d rest more same = same
 
-pub list_found : (place : Place) (name : List ℕ) (found : List Key) (ms : Members) → list_member place name found ms ≡ list_at place found (get_member name ms)
+pub list_found : (place : LayoutPlace) (name : List ℕ) (found : List Key) (ms : Members) → list_member place name found ms ≡ list_at place found (get_member name ms)
 list_found place name found no_members = refl
 list_found place name found (member k d ms) = at_name (slice_cmp nat_cmp name k) (list_at place found) d _ (get_member name ms) (list_found place name found ms)
 
-pub flick_found : (place : Place) (found : List Key) (ms : Members) → flick_member place found ms ≡ flick_at place found (get_member (codes "flick") ms)
+pub flick_found : (place : LayoutPlace) (found : List Key) (ms : Members) → flick_member place found ms ≡ flick_at place found (get_member (codes "flick") ms)
 flick_found place found no_members = refl
 flick_found place found (member k d ms) = at_name (slice_cmp nat_cmp (codes "flick") k) (flick_at place found) d _ (get_member (codes "flick") ms) (flick_found place found ms)
 
-pub direction_found : (place : Place) (name : List ℕ) (found : List Key) (ms : Members) → key_member place name found ms ≡ key_at place found (get_member name ms)
+pub direction_found : (place : LayoutPlace) (name : List ℕ) (found : List Key) (ms : Members) → key_member place name found ms ≡ key_at place found (get_member name ms)
 direction_found place name found no_members = refl
 direction_found place name found (member k d ms) = at_name (slice_cmp nat_cmp name k) (key_at place found) d _ (get_member name ms) (direction_found place name found ms)
 
@@ -36,12 +36,12 @@ chained f g None b same each = subst (λ r. None ≡ option_and_then g r) same r
 chained f g (Some x) b same each = subst (λ r. f x ≡ option_and_then g r) same (each x)
 
 -- what an object gives, by look-ups
-abbrev pub by_look_up : Place → List Key → Data → Option (List Key)
+abbrev pub by_look_up : LayoutPlace → List Key → Data → Option (List Key)
 by_look_up place found d =
     option_and_then (λ found. option_and_then (λ found. option_and_then (λ found. list_at place found (get (codes "multitap") d))
     (flick_at place found (get (codes "flick") d))) (list_at place found (get (codes "sk") d))) (own_onto place found d)
 
-pub key_step : (place : Place) (found : List Key) (d : Data) → key_onto place found d ≡ (if is_some (as_object d) then by_look_up place found d else None)
+pub key_step : (place : LayoutPlace) (found : List Key) (d : Data) → key_onto place found d ≡ (if is_some (as_object d) then by_look_up place found d else None)
 key_step place found null = refl
 key_step place found (boolean b) = refl
 key_step place found (number n) = refl
@@ -51,11 +51,11 @@ key_step place found (object ms) =
     chained _ _ _ _ refl (λ own. chained _ _ _ _ (list_found place (codes "sk") own ms) (λ subs.
     chained _ _ _ _ (flick_found place subs ms) (λ flicks. list_found place (codes "multitap") flicks ms)))
 
-abbrev pub items_at : Place → List Key → Option Items → Option (List Key)
+abbrev pub items_at : LayoutPlace → List Key → Option Items → Option (List Key)
 items_at place found None = None
 items_at place found (Some ds) = items_onto place found ds
 
-pub list_step : (place : Place) (found : List Key) (d : Data) → list_onto place found d ≡ items_at place found (as_array d)
+pub list_step : (place : LayoutPlace) (found : List Key) (d : Data) → list_onto place found d ≡ items_at place found (as_array d)
 list_step place found null = refl
 list_step place found (boolean b) = refl
 list_step place found (number n) = refl
@@ -64,19 +64,19 @@ list_step place found (array ds) = refl
 list_step place found (object ms) = refl
 
 -- the eight directions, by look-ups
-abbrev pub one_direction : Place → Data → List ℕ → Option (List Key) → Option (List Key)
+abbrev pub one_direction : LayoutPlace → Data → List ℕ → Option (List Key) → Option (List Key)
 one_direction place d name sofar = option_and_then (λ found. key_at place found (get name d)) sofar
 
-abbrev pub all_directions : Place → List Key → Data → Option (List Key)
+abbrev pub all_directions : LayoutPlace → List Key → Data → Option (List Key)
 all_directions place found d =
     one_direction place d (codes "nw") (one_direction place d (codes "w") (one_direction place d (codes "sw") (one_direction place d (codes "s")
     (one_direction place d (codes "se") (one_direction place d (codes "e") (one_direction place d (codes "ne") (one_direction place d (codes "n") (Some found))))))))
 
-direction_as : (place : Place) (ms : Members) (name : List ℕ) (a b : Option (List Key)) → a ≡ b
+direction_as : (place : LayoutPlace) (ms : Members) (name : List ℕ) (a b : Option (List Key)) → a ≡ b
     → option_and_then (λ found. key_member place name found ms) a ≡ one_direction place (object ms) name b
 direction_as place ms name a b same = chained _ _ a b same (λ found. direction_found place name found ms)
 
-pub flick_step : (place : Place) (found : List Key) (d : Data) → directions_onto place found d ≡ (if is_some (as_object d) then all_directions place found d else None)
+pub flick_step : (place : LayoutPlace) (found : List Key) (d : Data) → directions_onto place found d ≡ (if is_some (as_object d) then all_directions place found d else None)
 unfolding directions
 flick_step place found null = refl
 flick_step place found (boolean b) = refl

@@ -5,13 +5,13 @@ use Rattle.std.specs.Cmp.Lexicographic.{slice_cmp}
 use Rattle.std.specs.Option.{option_map_or}
 use Rattle.serde_json.specs.Data.{Data, null, boolean, number, string, array, object, Items, no_items, item, Members, no_members, member}
 use Rattle.serde_json.specs.Find.{get, as_str, as_u64}
-use Rattle.touch_layout.specs.declared.faults.Place.{Place}
+use Rattle.touch_layout.specs.declared.faults.LayoutPlace.{LayoutPlace}
 use Rattle.touch_layout.specs.declared.keys.TouchKey.{TouchKey}
 
 -- what a key states: its id and the layer that it leads to, each empty where there is none, and whether its `sp` says
 -- that it is blank or a spacer
 pub record Key : Type 0 where
-  pub place : Place
+  pub place : LayoutPlace
   pub id : List ℕ
   pub next_layer : List ℕ
   pub is_spacer : Bool
@@ -40,14 +40,14 @@ optional_spacer None = Some false
 optional_spacer (Some d) = spacer_of d
 
 -- what an object states of its own key; None where a member has another shape
-abbrev pub own_key : Place → Data → Option Key
+abbrev pub own_key : LayoutPlace → Data → Option Key
 own_key place d =
     option_and_then
     (λ id. option_and_then (λ next. option_map (λ spacer. record { place = place; id = id; next_layer = next; is_spacer = spacer })
     (optional_spacer (get (codes "sp") d))) (optional_text (get (codes "nextlayer") d))) (optional_text (get (codes "id") d))
 
 -- the key of an object behind the keys found before it
-abbrev pub own_onto : Place → List Key → Data → Option (List Key)
+abbrev pub own_onto : LayoutPlace → List Key → Data → Option (List Key)
 own_onto place found d = option_map (λ key. found ++ key ∷ []) (own_key place d)
 
 -- the members of `flick` that are keys, in the order in which they count
@@ -57,7 +57,7 @@ directions = codes "n" ∷ codes "ne" ∷ codes "e" ∷ codes "se" ∷ codes "s"
 abbrev mutual
   -- behind the keys found before: a key, then its subkeys, `sk` first, then `flick`, then `multitap`; None where one of
   -- them has another shape
-  pub key_onto : Place → List Key → Data → Option (List Key)
+  pub key_onto : LayoutPlace → List Key → Data → Option (List Key)
   key_onto place found null = None
   key_onto place found (boolean b) = None
   key_onto place found (number n) = None
@@ -68,7 +68,7 @@ abbrev mutual
       (flick_member place found ms)) (list_member place (codes "sk") found ms)) (own_onto place found (object ms))
 
   -- the keys of a list
-  pub list_onto : Place → List Key → Data → Option (List Key)
+  pub list_onto : LayoutPlace → List Key → Data → Option (List Key)
   list_onto place found null = None
   list_onto place found (boolean b) = None
   list_onto place found (number n) = None
@@ -76,12 +76,12 @@ abbrev mutual
   list_onto place found (array ds) = items_onto place found ds
   list_onto place found (object ms) = None
 
-  pub items_onto : Place → List Key → Items → Option (List Key)
+  pub items_onto : LayoutPlace → List Key → Items → Option (List Key)
   items_onto place found no_items = Some found
   items_onto place found (item d ds) = option_and_then (λ found. items_onto place found ds) (key_onto place found d)
 
   -- the keys of a flick, direction by direction
-  pub directions_onto : Place → List Key → Data → Option (List Key)
+  pub directions_onto : LayoutPlace → List Key → Data → Option (List Key)
   directions_onto place found null = None
   directions_onto place found (boolean b) = None
   directions_onto place found (number n) = None
@@ -91,31 +91,31 @@ abbrev mutual
       fold (λ sofar name. option_and_then (λ found. key_member place name found ms) sofar) (Some found) directions
 
   -- the keys of the list that is the member of a name, of the flick, and of the key that is; none where there is none
-  pub list_member : Place → List ℕ → List Key → Members → Option (List Key)
+  pub list_member : LayoutPlace → List ℕ → List Key → Members → Option (List Key)
   list_member place name found no_members = Some found
   list_member place name found (member k d ms) =
       match_ordering (slice_cmp nat_cmp name k) (list_member place name found ms) (list_onto place found d) (list_member place name found ms)
 
-  pub flick_member : Place → List Key → Members → Option (List Key)
+  pub flick_member : LayoutPlace → List Key → Members → Option (List Key)
   flick_member place found no_members = Some found
   flick_member place found (member k d ms) =
       match_ordering (slice_cmp nat_cmp (codes "flick") k) (flick_member place found ms) (directions_onto place found d) (flick_member place found ms)
 
-  pub key_member : Place → List ℕ → List Key → Members → Option (List Key)
+  pub key_member : LayoutPlace → List ℕ → List Key → Members → Option (List Key)
   key_member place name found no_members = Some found
   key_member place name found (member k d ms) =
       match_ordering (slice_cmp nat_cmp name k) (key_member place name found ms) (key_onto place found d) (key_member place name found ms)
 
 -- the same of what a look-up of the member gives
-abbrev pub list_at : Place → List Key → Option Data → Option (List Key)
+abbrev pub list_at : LayoutPlace → List Key → Option Data → Option (List Key)
 list_at place found None = Some found
 list_at place found (Some d) = list_onto place found d
 
-abbrev pub flick_at : Place → List Key → Option Data → Option (List Key)
+abbrev pub flick_at : LayoutPlace → List Key → Option Data → Option (List Key)
 flick_at place found None = Some found
 flick_at place found (Some d) = directions_onto place found d
 
-abbrev pub key_at : Place → List Key → Option Data → Option (List Key)
+abbrev pub key_at : LayoutPlace → List Key → Option Data → Option (List Key)
 key_at place found None = Some found
 key_at place found (Some d) = key_onto place found d
 

@@ -11,7 +11,7 @@ use Rattle.serde_json.specs.Data.{Data}
 use Rattle.serde_json.specs.Read.{read}
 use Rattle.rule_model.specs.declared.tables.Tables.{Tables}
 use Rattle.rule_model.specs.Tab.{tab}
-use Rattle.touch_layout.specs.declared.faults.Place.{Place}
+use Rattle.touch_layout.specs.declared.faults.LayoutPlace.{LayoutPlace}
 use Rattle.touch_layout.specs.declared.faults.LayoutFault.{LayoutFault}
 use Rattle.touch_layout.specs.Faults.{fault, whole_layout}
 use Rattle.touch_layout.specs.Ids.{is_key_id, is_touch_name, has_record}
@@ -74,7 +74,7 @@ abbrev pub value_of : List ℕ → Option Data
 value_of text = if is_utf8 text then read text else None
 
 -- T2: the layout of a value, or the first place of another shape
-abbrev pub shaped_layout : Result Layout Place → Result Layout LayoutFault
+abbrev pub shaped_layout : Result Layout LayoutPlace → Result Layout LayoutFault
 shaped_layout (Ok layout) = Ok layout
 shaped_layout (Err place) = Err (fault T2 place)
 

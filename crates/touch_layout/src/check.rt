@@ -11,7 +11,7 @@ ghost use Rattle.touch_layout.specs.Layers.{layers_view, layout_view};
 ghost use Rattle.touch_layout.specs.Layout.{leads_nowhere, does_nothing, has_strange_id, key_code, keys_fault, without_mark, value_of, read_layout, rules_fault, count_of, layout_fault, key_count};
 ghost use Rattle.touch_layout.specs.declared.faults.LayoutError.TheVariants.{Refused};
 
-use crate::faults::{LayoutError, LayoutFault, fault_at, whole_layout};
+use crate::faults::{LayoutError, LayoutFault, whole_layout};
 use crate::ids::{is_key_id, is_touch_name};
 use crate::keys::TouchKey;
 use crate::layer_ids::{has_next_layer, layer_ids, layers_fault};
@@ -79,7 +79,10 @@ fn keys_fault<'v>(
 {
     for key in keys {
         if let Some(code) = key_code(names, ids, key) {
-            return Some(fault_at(code, key.place));
+            return Some(LayoutFault {
+                code,
+                place: key.place,
+            });
         }
     }
     None
@@ -160,7 +163,10 @@ fn check_value(
 {
     let found = match layout(alloc, root) {
         Ok(found) => found,
-        Err(Unfit::Shape(place)) => return Err(LayoutError::Refused(fault_at(Code::T2, place))),
+        Err(Unfit::Shape(place)) => return Err(LayoutError::Refused(LayoutFault {
+            code: Code::T2,
+            place,
+        })),
         Err(Unfit::Memory) => return Err(LayoutError::Memory),
     };
     if let Some(fault) = rules_fault(alloc, keyboard, groups, &found)? {
@@ -178,10 +184,16 @@ pub fn check_layout(alloc: Global, bytes: &[u8], tables: &Tables) -> Result<usiz
         → layout_fault bytes.now tables.now ≡ Some fault) }
 {
     if bytes.len() > TEXT_BYTES {
-        return Err(LayoutError::Refused(fault_at(Code::T7, whole_layout())));
+        return Err(LayoutError::Refused(LayoutFault {
+            code: Code::T7,
+            place: whole_layout(),
+        }));
     }
     let Some(root) = read_value(alloc, without_mark(bytes))? else {
-        return Err(LayoutError::Refused(fault_at(Code::T1, whole_layout())));
+        return Err(LayoutError::Refused(LayoutFault {
+            code: Code::T1,
+            place: whole_layout(),
+        }));
     };
     let keyboard = IndexedTables::new(alloc, tables)?;
     check_value(alloc, &root, &keyboard, tables.groups.as_slice())

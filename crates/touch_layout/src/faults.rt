@@ -1,5 +1,5 @@
 ghost use Rattle.std.specs.Prelude.{◌≡◌};
-ghost use Rattle.touch_layout.specs.Faults.{fault, whole_layout};
+ghost use Rattle.touch_layout.specs.Faults.{whole_layout};
 
 use kmn_base::{Code, Memory};
 use thiserror::Error;
@@ -7,28 +7,24 @@ use thiserror::Error;
 /// Where something of a layout stands. Each number counts from 1; 0 says that none of this kind is meant. Platforms 1
 /// to 3 are phone, tablet and desktop.
 #[derive(Clone, Copy, Debug, PartialEq, Eq)]
-pub struct Place {
+pub struct LayoutPlace {
     pub platform: u32,
     pub layer: usize,
     pub row: usize,
     pub key: usize,
 }
 
-/// A rule that a layout breaks, and where: platform, layer, row and key from 1, or 0. A subkey has the number of its
-/// top key.
+/// A rule that a layout breaks, and where. A subkey has the number of its top key.
 #[derive(Clone, Copy, Debug, PartialEq, Eq)]
 pub struct LayoutFault {
     pub code: Code,
-    pub platform: u32,
-    pub layer: usize,
-    pub row: usize,
-    pub key: usize,
+    pub place: LayoutPlace,
 }
 
 /// Why a layout was not accepted.
 #[derive(Debug, Drop, Error)]
 pub enum LayoutError {
-    #[error("refused {} platform {} layer {} row {} key {}", .0.code, .0.platform, .0.layer, .0.row, .0.key)]
+    #[error("refused {} platform {} layer {} row {} key {}", .0.code, .0.place.platform, .0.place.layer, .0.place.row, .0.place.key)]
     Refused(LayoutFault),
     #[error("out of memory")]
     Memory,
@@ -46,26 +42,13 @@ impl From<Memory> for LayoutError {
 }
 
 /// The place of a layout as a whole.
-pub(crate) fn whole_layout() -> Place
+pub(crate) fn whole_layout() -> LayoutPlace
     ensures { result ≡ whole_layout }
 {
-    Place {
+    LayoutPlace {
         platform: 0,
         layer: 0,
         row: 0,
         key: 0,
-    }
-}
-
-/// A broken rule at a place.
-pub(crate) fn fault_at(code: Code, place: Place) -> LayoutFault
-    ensures { result ≡ fault code place }
-{
-    LayoutFault {
-        code,
-        platform: place.platform,
-        layer: place.layer,
-        row: place.row,
-        key: place.key,
     }
 }

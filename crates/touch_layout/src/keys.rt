@@ -6,13 +6,13 @@ ghost use Rattle.serde_json.specs.Find.{get};
 ghost use Rattle.touch_layout.specs.Keys.{keys_view, key_view, own_key, own_onto, key_onto, list_onto, directions_onto, list_at, flick_at, key_at, optional_text, optional_spacer, spacer_of};
 ghost use Rattle.touch_layout.specs.declared.keys.Unread.TheVariants.{Shape};
 
-use crate::faults::Place;
+use crate::faults::LayoutPlace;
 use serde_json::Value;
 
 /// What a key states. A text is empty where it is left out.
 #[derive(Clone, Copy)]
 pub struct TouchKey<'v> {
-    pub place: Place,
+    pub place: LayoutPlace,
     pub id: &'v str,
     pub next_layer: &'v str,
     pub is_spacer: bool,
@@ -60,7 +60,7 @@ fn optional_spacer(member: Option<&Value>) -> Option<bool>
 }
 
 /// What an object states of its own key.
-fn own_key<'v>(value: &'v Value, place: Place) -> Option<TouchKey<'v>>
+fn own_key<'v>(value: &'v Value, place: LayoutPlace) -> Option<TouchKey<'v>>
     ensures { option_map key_view result ≡ own_key place (view value.now) }
 {
     let id = optional_text(value.get("id"))?;
@@ -79,7 +79,7 @@ fn own_key<'v>(value: &'v Value, place: Place) -> Option<TouchKey<'v>>
 #[tactic(auto, using(crate::proofs::Members::key_step))]
 pub(crate) fn add_key<'v>(
     value: &'v Value,
-    place: Place,
+    place: LayoutPlace,
     found: &mut Vec<TouchKey<'v>>,
 ) -> Result<(), Unread>
     ensures { MatchResult result (λ _. key_onto place (keys_view found.old.items) (view value.now)
@@ -96,7 +96,11 @@ pub(crate) fn add_key<'v>(
 }
 
 /// Adds the key itself.
-fn add_own<'v>(value: &'v Value, place: Place, found: &mut Vec<TouchKey<'v>>) -> Result<(), Unread>
+fn add_own<'v>(
+    value: &'v Value,
+    place: LayoutPlace,
+    found: &mut Vec<TouchKey<'v>>,
+) -> Result<(), Unread>
     ensures { MatchResult result (λ _. own_onto place (keys_view found.old.items) (view value.now)
         ≡ Some (keys_view found.new.items))
         (λ e. e ≡ Shape → own_onto place (keys_view found.old.items) (view value.now) ≡ None) }
@@ -112,7 +116,7 @@ fn add_own<'v>(value: &'v Value, place: Place, found: &mut Vec<TouchKey<'v>>) ->
 fn add_list<'v>(
     value: &'v Value,
     name: &str,
-    place: Place,
+    place: LayoutPlace,
     found: &mut Vec<TouchKey<'v>>,
 ) -> Result<(), Unread>
     ensures { MatchResult result (λ _. list_at place (keys_view found.old.items) (get name.now (view value.now))
@@ -128,7 +132,11 @@ fn add_list<'v>(
 /// Adds the keys of a list.
 #[cycle(add_key)]
 #[tactic(auto, using(crate::proofs::Members::list_step))]
-fn add_items<'v>(list: &'v Value, place: Place, found: &mut Vec<TouchKey<'v>>) -> Result<(), Unread>
+fn add_items<'v>(
+    list: &'v Value,
+    place: LayoutPlace,
+    found: &mut Vec<TouchKey<'v>>,
+) -> Result<(), Unread>
     ensures { MatchResult result (λ _. list_onto place (keys_view found.old.items) (view list.now)
         ≡ Some (keys_view found.new.items))
         (λ e. e ≡ Shape → list_onto place (keys_view found.old.items) (view list.now) ≡ None) }
@@ -146,7 +154,7 @@ fn add_items<'v>(list: &'v Value, place: Place, found: &mut Vec<TouchKey<'v>>) -
 #[cycle(add_key)]
 fn add_flick<'v>(
     value: &'v Value,
-    place: Place,
+    place: LayoutPlace,
     found: &mut Vec<TouchKey<'v>>,
 ) -> Result<(), Unread>
     ensures { MatchResult result (λ _. flick_at place (keys_view found.old.items) (get (codes "flick") (view value.now))
@@ -164,7 +172,7 @@ fn add_flick<'v>(
 #[tactic(auto, using(crate::proofs::Members::flick_step))]
 fn add_directions<'v>(
     flick: &'v Value,
-    place: Place,
+    place: LayoutPlace,
     found: &mut Vec<TouchKey<'v>>,
 ) -> Result<(), Unread>
     ensures { MatchResult result (λ _. directions_onto place (keys_view found.old.items) (view flick.now)
@@ -189,7 +197,7 @@ fn add_directions<'v>(
 fn add_direction<'v>(
     flick: &'v Value,
     name: &str,
-    place: Place,
+    place: LayoutPlace,
     found: &mut Vec<TouchKey<'v>>,
 ) -> Result<(), Unread>
     ensures { MatchResult result (λ _. key_at place (keys_view found.old.items) (get name.now (view flick.now))

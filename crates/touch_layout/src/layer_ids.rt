@@ -8,7 +8,7 @@ ghost use Rattle.touch_layout.specs.Layers.{Layer, layer_view, layers_view};
 ghost use Rattle.touch_layout.specs.LayerIds.{FindsSame, folded, is_equal_layer, layer_of};
 ghost use Rattle.touch_layout.specs.Layout.{is_next_layer, layers_fault};
 
-use crate::faults::{LayoutFault, fault_at};
+use crate::faults::LayoutFault;
 use crate::keys::TouchKey;
 use crate::layers::TouchLayer;
 use indexmap::IndexSet;
@@ -81,7 +81,10 @@ pub(crate) fn layers_fault(
     let mut ids = IndexSet::new(alloc);
     for layer in layers {
         if !add_layer(alloc, &mut ids, layer)? {
-            return Ok(Some(fault_at(Code::T6, layer.place)));
+            return Ok(Some(LayoutFault {
+                code: Code::T6,
+                place: layer.place,
+            }));
         }
     }
     Ok(None)

@@ -7,7 +7,7 @@ ghost use Rattle.touch_layout.specs.Keys.{keys_view};
 ghost use Rattle.touch_layout.specs.Layers.{row_keys, layer_rows, layer_onto, platform_layers, platform_onto, list_in, text_in, layout_of, layout_view};
 ghost use Rattle.touch_layout.specs.declared.layers.Unfit.TheVariants.{Shape};
 
-use crate::faults::{Place, whole_layout};
+use crate::faults::{LayoutPlace, whole_layout};
 use crate::keys::{TouchKey, Unread, add_key};
 use serde_json::Value;
 use std::alloc::Global;
@@ -15,14 +15,14 @@ use std::alloc::Global;
 /// Why a layout was not read: something at a place has another shape, or want of memory.
 #[derive(Clone, Copy, Debug, PartialEq, Eq)]
 pub enum Unfit {
-    Shape(Place),
+    Shape(LayoutPlace),
     Memory,
 }
 
 /// A layer at its place.
 #[derive(Clone, Copy)]
 pub struct TouchLayer<'v> {
-    pub place: Place,
+    pub place: LayoutPlace,
     pub id: &'v str,
 }
 
@@ -50,7 +50,7 @@ fn add_row<'v>(
 {
     let mut key = 1;
     for value in keys {
-        let place = Place {
+        let place = LayoutPlace {
             platform,
             layer,
             row,
@@ -83,7 +83,7 @@ fn add_rows<'v>(
     let mut row = 1;
     for value in rows {
         let Some(keys) = list_in(value, "key") else {
-            return Err(Unfit::Shape(Place {
+            return Err(Unfit::Shape(LayoutPlace {
                 platform,
                 layer,
                 row,
@@ -117,7 +117,7 @@ fn add_layer<'v>(
         layer_onto platform layer (layout_view found.old.layers.items found.old.keys.items) (view value.now)
         ≡ Err place) }
 {
-    let place = Place {
+    let place = LayoutPlace {
         platform,
         layer,
         row: 0,
@@ -183,7 +183,7 @@ fn add_platform<'v>(
     };
     match list_in(value, "layer") {
         Some(layers) => add_layers(layers, platform, found),
-        None => Err(Unfit::Shape(Place {
+        None => Err(Unfit::Shape(LayoutPlace {
             platform,
             layer: 0,
             row: 0,

@@ -15,4 +15,4 @@ mod layers;
 mod ruled;
 
 pub use check::check_layout;
-pub use faults::{LayoutError, LayoutFault};
+pub use faults::{LayoutError, LayoutFault, LayoutPlace};

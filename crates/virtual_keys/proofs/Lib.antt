@@ -3,4 +3,5 @@ pub mod GroupLemmas
 pub mod HexLemmas
 pub mod PositionLemmas
 pub mod NamePlaces
+pub mod NumberSets
 pub mod WordBytes

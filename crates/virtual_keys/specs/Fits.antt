@@ -3,37 +3,38 @@ use Rattle.std.specs.Prelude.{ℕ, ◌+◌, Bool, true, false, ◌&&◌, ◌||�
 use Rattle.std.specs.Option.{option_map_or}
 use Rattle.std.specs.Bool.{beq}
 use Rattle.kmn_base.specs.declared.keys.KeyPress.{KeyPress}
+use Rattle.kmn_base.specs.declared.keys.TheConstants.{LEFT_CONTROL, RIGHT_CONTROL, LEFT_ALT, RIGHT_ALT, SHIFT, EITHER_CONTROL, EITHER_ALT, CAPS, NO_CAPS}
 use Rattle.kmn_base.specs.declared.keys.RuleKey.{RuleKey}
 use Rattle.kmn_base.specs.declared.keys.RuleKey.TheVariants.{Any, Char, Virtual}
 use Rattle.virtual_keys.specs.Keys.{us_characters}
 
 -- the bits of shift flags; a press has the sides, shift and caps lock at the same bits
 abbrev pub left_control : ℕ
-left_control = 0x0001
+left_control = LEFT_CONTROL
 
 abbrev pub right_control : ℕ
-right_control = 0x0002
+right_control = RIGHT_CONTROL
 
 abbrev pub left_alt : ℕ
-left_alt = 0x0004
+left_alt = LEFT_ALT
 
 abbrev pub right_alt : ℕ
-right_alt = 0x0008
+right_alt = RIGHT_ALT
 
 abbrev pub shift : ℕ
-shift = 0x0010
+shift = SHIFT
 
 abbrev pub either_control : ℕ
-either_control = 0x0020
+either_control = EITHER_CONTROL
 
 abbrev pub either_alt : ℕ
-either_alt = 0x0040
+either_alt = EITHER_ALT
 
 abbrev pub caps : ℕ
-caps = 0x0100
+caps = CAPS
 
 abbrev pub no_caps : ℕ
-no_caps = 0x0200
+no_caps = NO_CAPS
 
 -- whether a bit is set
 abbrev pub has : ℕ → ℕ → Bool

@@ -2,6 +2,7 @@
 use Rattle.std.specs.Prelude.{ℕ, List, [], ◌∷◌, Option, option_map, find, codes, nat_eq}
 use Rattle.std.specs.Str.{byte}
 use Rattle.kmn_base.specs.Names.{named_in}
+use Rattle.kmn_base.specs.declared.keys.TheConstants.{LEFT_CONTROL, RIGHT_CONTROL, LEFT_ALT, RIGHT_ALT, SHIFT, EITHER_CONTROL, EITHER_ALT, CAPS, NO_CAPS}
 
 -- each key by its name, with its code
 unfoldable pub key_codes : List (List ℕ × ℕ)
@@ -29,8 +30,9 @@ key_codes =
 -- each word of a shift flag, with the flag
 unfoldable pub shift_flags : List (List ℕ × ℕ)
 shift_flags =
-    (codes "LCTRL", 0x0001) ∷ (codes "RCTRL", 0x0002) ∷ (codes "LALT", 0x0004) ∷ (codes "RALT", 0x0008) ∷ (codes "SHIFT", 0x0010) ∷
-    (codes "CTRL", 0x0020) ∷ (codes "ALT", 0x0040) ∷ (codes "CAPS", 0x0100) ∷ (codes "NCAPS", 0x0200) ∷ []
+    (codes "LCTRL", LEFT_CONTROL) ∷ (codes "RCTRL", RIGHT_CONTROL) ∷ (codes "LALT", LEFT_ALT) ∷ (codes "RALT", RIGHT_ALT) ∷
+    (codes "SHIFT", SHIFT) ∷ (codes "CTRL", EITHER_CONTROL) ∷ (codes "ALT", EITHER_ALT) ∷ (codes "CAPS", CAPS) ∷
+    (codes "NCAPS", NO_CAPS) ∷ []
 
 -- each key that gives a character but the letters: its code, the character that it gives, and the one with shift
 unfoldable pub us_characters : List (ℕ × ℕ × ℕ)

@@ -1,12 +1,11 @@
 ghost use Rattle.std.specs.Prelude.{◌≡◌, ◌+◌, ◌<◌, ◌≤◌, [], ◌∷◌, ◌++◌, Some, None, length, nat_le, option_copied, MatchResult, IfSome, IfOk};
-ghost use Rattle.std.specs.Str.{str_to_ascii_lowercase};
 ghost use Rattle.virtual_keys.specs.Dictionary.{AreDistinct, place_in, code_in, name_in, with_name};
 ghost use Rattle.virtual_keys.specs.Entries.{written, AreEntries};
 
 use indexmap::IndexMap;
 use kmn_base::Memory;
 use kmn_base::limits::KEY_NAMES;
-use kmn_base::names::same_name;
+use kmn_base::names::{in_lower_case, same_name};
 use std::alloc::Global;
 use std::marker::Model;
 
@@ -116,15 +115,6 @@ impl KeyDictionary {
             hashed_place(&self.names, name)
         }
     }
-}
-
-/// A name in lower case.
-fn in_lower_case(alloc: Global, name: &[u8]) -> Result<Vec<u8>, Memory>
-    ensures { IfOk result (λ copy. copy.items ≡ str_to_ascii_lowercase name.now) }
-{
-    let mut copy = Vec::from_slice(alloc, name)?;
-    copy.make_ascii_lowercase();
-    Ok(copy)
 }
 
 /// The place of a name of any length, by comparing.

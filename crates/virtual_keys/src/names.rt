@@ -1,7 +1,7 @@
 ghost use Rattle.std.specs.Prelude.{◌≡◌, map, option_map};
 ghost use Rattle.virtual_keys.specs.Keys.{name_numbered, key_code, key_name, shift_flag};
 
-use crate::tables::{KEYS, SHIFT_FLAGS};
+use crate::tables::{KEYS, MODIFIERS};
 use kmn_base::names::named_in;
 
 /// The name that a table has for a number.
@@ -29,7 +29,7 @@ pub fn key_named(name: &[u8]) -> Option<u16>
 pub fn modifier_named(word: &[u8]) -> Option<u16>
     ensures { result ≡ shift_flag word.now }
 {
-    named_in(&SHIFT_FLAGS, word)
+    named_in(&MODIFIERS, word)
 }
 
 /// The name of the key of a code.

@@ -4,35 +4,20 @@ ghost use Rattle.virtual_keys.specs.Keys.{us_characters};
 
 use crate::tables::US_CHARACTERS;
 use kmn_base::KeyPress;
-
-// The bits of shift flags. A press has the sides, shift and caps lock at the same bits.
-const LEFT_CONTROL: u32 = 0x0001;
-
-const RIGHT_CONTROL: u32 = 0x0002;
-
-const LEFT_ALT: u32 = 0x0004;
-
-const RIGHT_ALT: u32 = 0x0008;
-
-const SHIFT: u32 = 0x0010;
-
-const EITHER_CONTROL: u32 = 0x0020;
-
-const EITHER_ALT: u32 = 0x0040;
-
-const CAPS: u32 = 0x0100;
-
-const NO_CAPS: u32 = 0x0200;
+use kmn_base::keys::{
+    CAPS, EITHER_ALT, EITHER_CONTROL, LEFT_ALT, LEFT_CONTROL, NO_CAPS, RIGHT_ALT, RIGHT_CONTROL,
+    SHIFT,
+};
 
 /// Whether a bit is set.
-fn has(bits: u32, bit: u32) -> bool
+fn has(bits: u32, bit: u16) -> bool
     ensures { result ≡ has bits bit }
 {
-    bits & bit != 0
+    bits & u32::from(bit) != 0
 }
 
 /// Whether one of two bits is set.
-fn has_either(bits: u32, left: u32, right: u32) -> bool
+fn has_either(bits: u32, left: u16, right: u16) -> bool
     ensures { result ≡ has_either bits left right }
 {
     has(bits, left) || has(bits, right)
@@ -115,7 +100,7 @@ fn caps_fit(flags: u32, mods: u32) -> bool
 }
 
 /// Whether the held sides of control or alt are those that the shift flags want.
-fn sides_fit(either: u32, left: u32, right: u32, flags: u32, mods: u32) -> bool
+fn sides_fit(either: u16, left: u16, right: u16, flags: u32, mods: u32) -> bool
     ensures { result ≡ sides_fit either left right flags mods }
 {
     if has(flags, either) {

@@ -1,4 +1,8 @@
 use crate::codes::{K_BKSP, K_DEL, K_END, K_ENTER, K_HOME, K_LEFT, K_RIGHT, K_TAB};
+use kmn_base::keys::{
+    CAPS, EITHER_ALT, EITHER_CONTROL, LEFT_ALT, LEFT_CONTROL, NO_CAPS, RIGHT_ALT, RIGHT_CONTROL,
+    SHIFT,
+};
 
 /// Each key's name and code.
 pub(crate) static KEYS: [(&str, u16); 90] = [
@@ -95,16 +99,16 @@ pub(crate) static KEYS: [(&str, u16); 90] = [
 ];
 
 /// The words of the shift flags.
-pub(crate) static SHIFT_FLAGS: [(&str, u16); 9] = [
-    ("LCTRL", 0x0001),
-    ("RCTRL", 0x0002),
-    ("LALT", 0x0004),
-    ("RALT", 0x0008),
-    ("SHIFT", 0x0010),
-    ("CTRL", 0x0020),
-    ("ALT", 0x0040),
-    ("CAPS", 0x0100),
-    ("NCAPS", 0x0200),
+pub(crate) static MODIFIERS: [(&str, u16); 9] = [
+    ("LCTRL", LEFT_CONTROL),
+    ("RCTRL", RIGHT_CONTROL),
+    ("LALT", LEFT_ALT),
+    ("RALT", RIGHT_ALT),
+    ("SHIFT", SHIFT),
+    ("CTRL", EITHER_CONTROL),
+    ("ALT", EITHER_ALT),
+    ("CAPS", CAPS),
+    ("NCAPS", NO_CAPS),
 ];
 
 /// What each key but the letters gives on the US layout: its code, the character without shift, and the one with it.

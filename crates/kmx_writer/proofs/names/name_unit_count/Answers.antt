@@ -12,7 +12,8 @@ overflow_add-count c =
       units_step (chars_rest c.loop-c.c-iterator) (chars_rest c.next.new.self) c.in-Some.c c.loop-c.invariant.0 c.in-Some.ensures.steps.0,
       c.loop-c.invariant.1,
       c.requires.fits,
-      c.char_unit_count-count.ensures,
+      c.from-count.ensures,
+      c.char_unit_count.ensures.units,
     )
 
 pub loop-c-preserved : goal.loop-c-preserved
@@ -23,7 +24,8 @@ loop-c-preserved c =
         arith,
         units_step (chars_rest c.loop-c.c-iterator) (chars_rest c.next.new.self) c.in-Some.c c.loop-c.invariant.0 c.in-Some.ensures.steps.0,
         c.loop-c.invariant.1,
-        c.char_unit_count-count.ensures,
+        c.from-count.ensures,
+        c.char_unit_count.ensures.units,
       ),
     )
 

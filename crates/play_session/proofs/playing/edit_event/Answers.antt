@@ -7,7 +7,7 @@ use Rattle.play_session.proofs.playing.edit_event.Goals as goal
 
 pub returns-clause-together : goal.returns-clause-together
 returns-clause-together c =
-    let done = edit_done c.args.engine.now c.args.editor.now c.edit.new.self c.args.from c.args.to c.args.text.now c.requires.together c.in_ok-edit.ensures.answer c.in_ok-edit.ensures.becomes in
+    let done = edit_done c.args.engine.now c.args.editor.now c.edit.new.self c.args.places.from c.args.places.to c.args.text.now c.requires.together c.in_ok-edit.ensures.answer c.in_ok-edit.ensures.becomes in
     let read : c.sync.new.self ≡ synced c.edit.new.self.left c.args.engine.now
     = c.sync.ensures ∙ ap (λ (t : List ℕ). synced t c.args.engine.now) c.left.ensures in
     let few : length c.edit.new.self.left + length c.edit.new.self.right ≤ 1_000_000
@@ -17,7 +17,7 @@ returns-clause-together c =
 
 pub returns-clause-state : goal.returns-clause-state
 returns-clause-state c =
-    let done = edit_done c.args.engine.now c.args.editor.now c.edit.new.self c.args.from c.args.to c.args.text.now c.requires.together c.in_ok-edit.ensures.answer c.in_ok-edit.ensures.becomes in
+    let done = edit_done c.args.engine.now c.args.editor.now c.edit.new.self c.args.places.from c.args.places.to c.args.text.now c.requires.together c.in_ok-edit.ensures.answer c.in_ok-edit.ensures.becomes in
     let read : c.sync.new.self ≡ synced c.edit.new.self.left c.args.engine.now
     = c.sync.ensures ∙ ap (λ (t : List ℕ). synced t c.args.engine.now) c.left.ensures in
     let few : length c.edit.new.self.left + length c.edit.new.self.right ≤ 1_000_000

@@ -48,10 +48,10 @@ loop-k-preserved c = record {
   ];
 }
 
-pub returns-then-least-eq131072-clause-next : goal.returns-then-least-eq131072-clause-next
-returns-then-least-eq131072-clause-next c = λ classes index stand.
+pub returns-then-least-eq-NO_ROW-clause-next : goal.returns-then-least-eq-NO_ROW-clause-next
+returns-then-least-eq-NO_ROW-clause-next c = λ classes index stand.
     first_is_none c.args.rows.now c.args.heads.now c.args.from c.loop-k.least c.loop-k.limit c.loop-k.first (all c.loop-k.k c.loop-k.invariant.first (omega arith)) stand
-    c.if-least-eq131072.true classes index
+    c.if-least-eq-NO_ROW.true classes index
 
 pub overflow_add-first : goal.overflow_add-first
 overflow_add-first c = let few = c.loop-k.invariant.first.few.0 in let within = c.loop-k.invariant.first.within (omega arith) in search (arith, rules)

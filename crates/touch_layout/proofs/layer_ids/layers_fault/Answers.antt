@@ -5,8 +5,7 @@ use Rattle.touch_layout.proofs.layer_ids.layers_fault.Goals as goal
 pub returns-then-not-branch : goal.returns-then-not-branch
 returns-then-not-branch c =
     let inside = c.loop-layer-test.true in
-    ap Some c.fault_at.ensures
-    ∙ sym (fault_here c.args.layers.now c.loop-layer.layer-index (get_or c.args.layers.now c.loop-layer.layer-index no_layer) _ _
+    sym (fault_here c.args.layers.now c.loop-layer.layer-index (get_or c.args.layers.now c.loop-layer.layer-index no_layer) _ _
     c.loop-layer.invariant.ids c.in_ok-add_layer.ensures.new (grind (arith, c.if-not-branch.true))
     (omega (arith, inside)) (held c.args.layers.now c.loop-layer.layer-index (omega (arith, inside))))
     ∙ c.loop-layer.invariant.first

@@ -1,0 +1,250 @@
+//! Presses of keys on an engine, texts that it reads again, and the options that it finds by name.
+
+use kmn_base::{Item, Memory, Outcome, Seq};
+use kmn_compiler::compile;
+use kmx_verifier::verify;
+use meaning_tests::events::{press, sign};
+use rule_engine::Engine;
+use std::alloc::Global;
+use std::fmt::Write;
+use std::test::Fail;
+
+/// On each line a keyboard's records, each with its context, a comma, its key and its output, and behind ` ; ` its steps.
+/// A step is a key, and how many characters it deletes, what it inserts, whether it is passed on, and the context then; or
+/// `=` and a text that is read again, and the context then. `*` is a mark.
+const CASES: &str = "\
+a,c>y ,c>x ; K_A 0 a 0 a ; K_C 1 y 0 y ; K_F5 0  1 y
+,`>* *,a>à ; K_BKQUOTE 0  0 * ; K_A 0 à 0 à
+,`>* *,a>à ; K_X 0 x 0 x ; K_BKQUOTE 0  0 x* ; = ; =x x ; K_A 0 a 0 xa
+,`>* ; K_X 0 x 0 x ; K_BKQUOTE 0  0 x* ; =x x* ; =yx yx
+,s>\u{1F600} \u{1F600},a>\u{10FFFF} ; K_S 0 \u{1F600} 0 \u{1F600} ; K_A 1 \u{10FFFF} 0 \u{10FFFF}
+a,b>ab ; K_A 0 a 0 a ; K_B 0 b 0 ab";
+
+/// Appends the items of a context or an output.
+fn put_items(text: &mut String, items: &str) -> Result<(), Memory> {
+    for c in items.chars() {
+        if c == '*' {
+            text.push_str("dk(1) ")?;
+        } else {
+            write!(text, "U+{:04X} ", c as u32)?;
+        }
+    }
+    Ok(())
+}
+
+/// Appends the statement of a record.
+fn put_rule(text: &mut String, record: &str) -> Result<(), Memory> {
+    let (input, output) = record.split_once('>').unwrap_or((record, ""));
+    let (context, key) = input.split_once(',').unwrap_or(("", input));
+    put_items(text, context)?;
+    text.push_str("+ ")?;
+    put_items(text, key)?;
+    text.push_str("> ")?;
+    put_items(text, output)?;
+    text.push('\n')?;
+    Ok(())
+}
+
+/// The file of a source.
+fn compiled(alloc: Global, source: &str) -> Result<Seq<u8>, Fail> {
+    Ok(compile(alloc, source.as_bytes(), &[])?.bytes)
+}
+
+/// The file of a keyboard of one group, which uses keys, with these records.
+fn keyboard(alloc: Global, records: &str) -> Result<Seq<u8>, Fail> {
+    let mut text = String::from_str(alloc, "begin Unicode > use(main)\ngroup(main) using keys\n")?;
+    for record in records.split(' ') {
+        put_rule(&mut text, record)?;
+    }
+    compiled(alloc, text.as_str())
+}
+
+/// Appends the context.
+fn show_context(text: &mut String, engine: &Engine) -> Result<(), Memory> {
+    for item in engine.context() {
+        text.push(sign(*item))?;
+    }
+    Ok(())
+}
+
+/// What a press did, as the table writes it.
+fn shown(alloc: Global, outcome: Outcome, engine: &Engine) -> Result<String, Memory> {
+    let mut text = String::new(alloc);
+    write!(text, "{} ", outcome.delete)?;
+    for c in engine.inserted() {
+        text.push(*c)?;
+    }
+    write!(text, " {} ", u8::from(outcome.pass))?;
+    show_context(&mut text, engine)?;
+    Ok(text)
+}
+
+/// Reads another text before the caret; what the table writes of it.
+fn read_again(
+    alloc: Global,
+    engine: &mut Engine,
+    text: &mut Vec<char>,
+    new: &str,
+) -> Result<String, Fail> {
+    let mut line = String::new(alloc);
+    *text = new.chars().collect(alloc)?;
+    if text.len() < 0x1_0000_0000 {
+        engine.sync(text.as_slice());
+        show_context(&mut line, engine)?;
+    }
+    Ok(line)
+}
+
+/// Presses a key; what the table writes of it.
+fn pressed(
+    alloc: Global,
+    engine: &mut Engine,
+    text: &mut Vec<char>,
+    word: &str,
+) -> Result<String, Fail> {
+    if text.len() >= 0x1_0000_0000 {
+        return Ok(String::new(alloc));
+    }
+    let outcome = engine.key(text.as_slice(), press(word.as_bytes()));
+    text.truncate(text.len().saturating_sub(outcome.delete as usize));
+    text.extend_from_slice(engine.inserted())?;
+    Ok(shown(alloc, outcome, engine)?)
+}
+
+/// Does one step on an engine and the text before the caret; whether it shows what is wanted.
+fn shows(
+    alloc: Global,
+    engine: &mut Engine,
+    text: &mut Vec<char>,
+    step: &str,
+) -> Result<bool, Fail> {
+    let (word, wanted) = step.split_once(' ').unwrap_or((step, ""));
+    let line = match word.strip_prefix('=') {
+        Some(new) => read_again(alloc, engine, text, new)?,
+        None => pressed(alloc, engine, text, word)?,
+    };
+    Ok(line.as_str() == wanted)
+}
+
+/// The first step that ends otherwise.
+fn wrong_step(
+    alloc: Global,
+    engine: &mut Engine,
+    steps: &'static str,
+) -> Result<Option<&'static str>, Fail> {
+    let mut text = Vec::new(alloc);
+    for step in steps.split(" ; ") {
+        if !shows(alloc, engine, &mut text, step)? {
+            return Ok(Some(step));
+        }
+    }
+    Ok(None)
+}
+
+/// The engine of a file, which stays when the check of the file is gone.
+fn started(alloc: Global, bytes: &[u8]) -> Result<Engine<'_>, Fail> {
+    let file = verify(alloc, bytes)?;
+    Ok(Engine::start(alloc, &file)?)
+}
+
+/// The first step of a case that ends otherwise.
+fn wrong_in_case(alloc: Global, case: &'static str) -> Result<Option<&'static str>, Fail> {
+    let (records, steps) = case.split_once(" ; ").unwrap_or((case, ""));
+    let bytes = keyboard(alloc, records)?;
+    let mut engine = started(alloc, bytes.as_slice())?;
+    wrong_step(alloc, &mut engine, steps)
+}
+
+#[test]
+fn worked_keyboards(rt: HostRuntime) -> Result<(), Fail> {
+    for case in CASES.lines() {
+        let wrong = wrong_in_case(rt.alloc(), case)?;
+        assert!(rt; wrong.is_none(), "{}", wrong.unwrap_or(""));
+    }
+    Ok(())
+}
+
+/// A keyboard that has an option `o` and another store `s`.
+const WITH_AN_OPTION: &str = "store(o) '0'\nstore(s) '0'\n\
+    begin Unicode > use(main)\ngroup(main) using keys\n+ 'a' > save(o)\n";
+
+/// Names, and whether an option of that keyboard has them.
+const NAMES: &[(&str, bool)] = &[
+    ("o", true),
+    ("O", true),
+    ("s", false),
+    ("", false),
+    ("&layer", true),
+    ("&LAYER", true),
+    ("layer", false),
+    ("&Platform", true),
+    ("platform", false),
+    ("&layers", false),
+    ("&bitmap", false),
+];
+
+/// The first name of which a setting answers otherwise.
+fn wrong_name(alloc: Global, engine: &mut Engine) -> Result<Option<&'static str>, Fail> {
+    for &(name, is_option) in NAMES {
+        if engine.setting(alloc, name.as_bytes(), &['x'])? != is_option {
+            return Ok(Some(name));
+        }
+    }
+    Ok(None)
+}
+
+/// The first wrong name with that keyboard.
+fn wrong_option(alloc: Global) -> Result<Option<&'static str>, Fail> {
+    let bytes = compiled(alloc, WITH_AN_OPTION)?;
+    let mut engine = started(alloc, bytes.as_slice())?;
+    wrong_name(alloc, &mut engine)
+}
+
+#[test]
+fn names_of_options(rt: HostRuntime) -> Result<(), Fail> {
+    let wrong = wrong_option(rt.alloc())?;
+    assert!(rt; wrong.is_none(), "{}", wrong.unwrap_or(""));
+    Ok(())
+}
+
+/// A keyboard whose key Q puts `z` 70 times and enters a group that takes 60 of them, then one that takes the other 10.
+const TAKES_WHAT_IT_PUTS: &str = "begin Unicode > use(main)\ngroup(main) using keys\n\
+    + 'q' > 'zzzzzzzzzzzzzzzzzzzzzzzzzzzzzzzzzzzzzzzzzzzzzzzzzzzzzzzzzzzzzzzzzzzzzz' use(t) use(n)\n\
+    group(t)\n'zzzzzzzzzzzzzzzzzzzzzzzzzzzzzzzzzzzzzzzzzzzzzzzzzzzzzzzzzzzz' > nul\n\
+    group(n)\n'zzzzzzzzzz' > 'N'\n";
+
+/// Whether a press on an empty text leaves the last character alone.
+fn takes_all(engine: &mut Engine) -> bool {
+    let outcome = engine.key(&[], press(b"K_Q"));
+    outcome.delete == 0
+        && outcome.entered == 3
+        && engine.inserted() == ['N'].as_slice()
+        && engine.context() == [Item::Char('N')].as_slice()
+}
+
+/// Whether the first press of a fresh engine on the file of another does so.
+fn fresh_takes_all(alloc: Global, engine: &Engine) -> Result<bool, Fail> {
+    let mut fresh = engine.fresh(alloc)?;
+    Ok(takes_all(&mut fresh))
+}
+
+/// Whether the first press of an engine does so, and the first of a fresh one too.
+fn both_take_all(alloc: Global, engine: &mut Engine) -> Result<bool, Fail> {
+    if takes_all(engine) {
+        return fresh_takes_all(alloc, engine);
+    }
+    Ok(false)
+}
+
+/// Whether engines with that keyboard do so.
+fn takes_all_that_it_puts(alloc: Global) -> Result<bool, Fail> {
+    let bytes = compiled(alloc, TAKES_WHAT_IT_PUTS)?;
+    let mut engine = started(alloc, bytes.as_slice())?;
+    both_take_all(alloc, &mut engine)
+}
+
+#[test]
+fn more_taken_than_the_window(rt: HostRuntime) -> Result<(), Fail> {
+    assert!(rt; takes_all_that_it_puts(rt.alloc())?);
+    Ok(())
+}

@@ -1,0 +1,3 @@
+pub mod Seen
+pub mod Status
+pub mod Tells

@@ -1,0 +1,12 @@
+//! How a run ends: its status, and the line that is printed before it.
+//!
+//! It stands on `play_transcript`, which puts a line whole, and on `kmn_outside` for the sink. The runs above end by `tell_line`,
+//! whose clause `Tells` (`specs/Tells`) says by status what was printed, and by `write_status`; `specs/Seen` is what their
+//! contracts see of a folder and a sink.
+#![tactic(auto)]
+
+mod printing;
+mod status;
+
+pub use printing::{tell_line, write_status};
+pub use status::Status;

@@ -1,0 +1,28 @@
+ghost use Rattle.std.specs.Prelude.{◌≡◌, ◌⊎◌};
+ghost use Rattle.keyman_status.specs.Tells.{Tells, write_status};
+
+use crate::status::Status;
+use kmn_outside::{Sink, WriteError};
+use play_transcript::put_all;
+
+/// Prints a line, or several, and ends with this status. A write fault comes where the sink failed, and nothing was printed or a
+/// first part.
+pub fn tell_line<S: Sink>(line: &[u8], status: Status, out: &mut S) -> Status
+    requires { (status ≡ Status.Done) ⊎ (status ≡ Status.Refused) }
+    ensures { Tells status line.now S.Sink out.old out.new result }
+{
+    match put_all(out, line) {
+        Ok(()) => status,
+        Err(error) => write_status(error),
+    }
+}
+
+/// The status of a run that ends with a write or a put that didn't succeed.
+pub fn write_status(error: WriteError) -> Status
+    ensures { result ≡ write_status error }
+{
+    match error {
+        WriteError::Failed => Status::WriteFault,
+        WriteError::Memory => Status::Memory,
+    }
+}

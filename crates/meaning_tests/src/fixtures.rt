@@ -1,0 +1,28 @@
+//! What the tests of meanings take: tables of one group.
+
+ghost use Rattle.std.specs.Prelude.{◌≡◌, IfOk};
+ghost use Rattle.kmx_format.specs.WorkedFiles.{main_tables};
+
+use kmn_base::{Memory, Seq, Text};
+use rule_model::{Group, Rule, Store, Tables};
+use std::alloc::Global;
+
+/// Tables of the version 10.0 with one group, which is called main and uses keys.
+pub fn tables(alloc: Global, stores: Seq<Store>, rules: Seq<Rule>) -> Result<Tables, Memory>
+    ensures { IfOk result (λ tables. tables ≡ main_tables stores rules) }
+{
+    let group = Group {
+        name: Text::from_slice(alloc, b"main")?,
+        using_keys: true,
+        rules,
+        on_match: Seq::new(alloc),
+        on_nomatch: Seq::new(alloc),
+    };
+    Ok(Tables {
+        version: 0x0A00,
+        start_ansi: 0xFFFF_FFFF,
+        start_unicode: 0,
+        stores,
+        groups: Seq::from_vec(vec![in alloc; group]?),
+    })
+}

@@ -1,0 +1,16 @@
+//! The tests of what a keyboard means: `meaning` of `plain_event`, and `tracing` of `rule_trace`.
+//!
+//! They stand here because a crate with tests is proved twice, once with them and once without: so each of those crates is
+//! proved once, and the tests are proved over them, beside those of `script_tests`. `events` has the events of words and the
+//! signs of items, which `engine_tests` and `play_tests` take too, `fixtures` the tables of one group, and `states` the states
+//! that keyboards are played in.
+#![tactic(auto)]
+
+pub mod events;
+pub mod fixtures;
+#[cfg(test)]
+mod meaning;
+#[cfg(test)]
+mod states;
+#[cfg(test)]
+mod tracing;

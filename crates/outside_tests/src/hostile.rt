@@ -1,0 +1,224 @@
+//! Runs in which a call of the folder or the sink fails, lines that the sink gets as one piece, and files of the greatest size
+//! and of one byte more.
+
+use crate::fixtures::equal_bytes;
+use keyman_run::Status;
+use kmn_base::Seq;
+use kmn_outside::{Folder, MemoryFolder, MemorySink};
+use run_tests::commands::{FILE, empty_folder, ended, folder, sink, written_out};
+use run_tests::fixtures::seq;
+use std::alloc::{AllocError, Global};
+use std::test::Fail;
+
+/// The first run with a fault: what can't be read or written, by the numbers from 1 of the folder's and of the sink's call that
+/// fail, 0 for none; how it ends, what is printed, and how many bytes of the file stand in `out`, None where it isn't there.
+const FAULTS: &[(&str, (u32, u32), Status, &str, Option<usize>)] = &[
+    ("the source", (1, 0), Status::ReadFault, "", None),
+    ("the script", (2, 0), Status::ReadFault, "", None),
+    ("the file", (3, 0), Status::WriteFault, "", Some(61)),
+    ("the first line", (0, 1), Status::WriteFault, "", Some(122)),
+    (
+        "the second line",
+        (0, 2),
+        Status::WriteFault,
+        "1 del=0 ins=0062 pass=0 beep=0 ent=1 ctx=0062\n",
+        Some(122),
+    ),
+];
+
+/// A source and a script, and the lines of the play of each kind but a refusal's.
+const EACH_KIND: (&str, &str) = (
+    "store(o) \"0\"¶@+ 'a' > 'y'¶+ 's' > set(o = \"1\") save(o)¶",
+    "[K_A] [K_S]¶expect 'z'¶caret 0¶",
+);
+
+const LINES: &[&str] = &[
+    "1 del=0 ins=0079 pass=0 beep=0 ent=1 ctx=0079\n",
+    "2 del=0 ins=- pass=0 beep=0 ent=1 ctx=0079\n",
+    "opt o 0031\n",
+    "save o 0031\n",
+    "expect failed line=2\n",
+    "3 del=0 ins=- pass=0 beep=0 ent=0 ctx=-\n",
+    "text -|0079\n",
+    "end events=3 failed=1\n",
+];
+
+/// A command on a file `a` of so many equal bytes, and the line that refuses it.
+const SIZES: &[(&str, u8, usize, &str)] = &[
+    ("compile a out", b' ', 4_194_304, "refused C01 line 1\n"),
+    ("compile a out", b' ', 4_194_305, "refused L05 line 1\n"),
+    ("verify a", 0, 67_108_864, "refused V02 at 0\n"),
+    ("verify a", 0, 67_108_865, "refused V15 at 0\n"),
+];
+
+/// How a run ends, what it prints, and what then stands in `out`.
+#[derive(Clone, Copy)]
+struct Ending<'a> {
+    status: Status,
+    printed: &'a str,
+    out: Option<&'a [u8]>,
+}
+
+/// Whether the words of a line end so.
+fn ends_so(
+    alloc: Global,
+    line: &str,
+    folder: &mut MemoryFolder,
+    sink: &mut MemorySink,
+    wanted: Ending,
+) -> Result<bool, Fail> {
+    let status = ended(alloc, line, folder, sink)?;
+    Ok(
+        status == wanted.status
+            && sink.written() == wanted.printed.as_bytes()
+            && folder.file(b"out") == wanted.out,
+    )
+}
+
+/// Whether the first run ends so where these calls fail.
+fn is_fault(alloc: Global, calls: (u32, u32), wanted: Ending) -> Result<bool, Fail> {
+    let mut sink = sink(alloc, calls.1)?;
+    let mut folder = folder(alloc, "@+ 'a' > 'b'¶", b"", "[K_A]¶", calls.0)?;
+    ends_so(
+        alloc,
+        "test a.kmn out a.keys",
+        &mut folder,
+        &mut sink,
+        wanted,
+    )
+}
+
+/// What fails in the first row of `FAULTS` that isn't right.
+fn wrong_fault(alloc: Global) -> Result<Option<&'static str>, Fail> {
+    for &(what, calls, status, printed, size) in FAULTS {
+        let out = match size {
+            Some(size) => FILE.get(..size),
+            None => None,
+        };
+        let wanted = Ending {
+            status,
+            printed,
+            out,
+        };
+        if !is_fault(alloc, calls, wanted)? {
+            return Ok(Some(what));
+        }
+    }
+    Ok(None)
+}
+
+/// Whether just this is printed of that play where the sink's call of a number fails, 0 for none.
+fn is_begun(alloc: Global, failing: u32, printed: &str) -> Result<bool, Fail> {
+    let (source, script) = EACH_KIND;
+    let mut folder = folder(alloc, source, b"", script, 0)?;
+    let mut sink = sink(alloc, failing)?;
+    ended(alloc, "test a.kmn out a.keys", &mut folder, &mut sink)?;
+    Ok(sink.written() == printed.as_bytes())
+}
+
+/// The first of its lines that the sink doesn't get as one piece, behind those before it.
+fn broken_line(alloc: Global) -> Result<Option<&'static str>, Fail> {
+    let mut lines = String::new(alloc);
+    for (number, line) in (1..).zip(LINES) {
+        if !is_begun(alloc, number, lines.as_str())? {
+            return Ok(Some(line));
+        }
+        lines.push_str(line)?;
+    }
+    let whole = is_begun(alloc, 0, lines.as_str())?;
+    Ok(if whole { None } else { Some("") })
+}
+
+/// A folder with a file `a` of these bytes.
+fn folder_of_one(alloc: Global, bytes: Seq<u8>) -> Result<MemoryFolder, AllocError> {
+    let name = seq(alloc, b"a")?;
+    let files = vec![in alloc; (name, bytes)]?;
+    Ok(MemoryFolder::new(alloc, Seq::from_vec(files), Seq::new(alloc)))
+}
+
+/// Whether a command is refused with this line, and nothing is written.
+fn is_refused(
+    alloc: Global,
+    command: &str,
+    folder: &mut MemoryFolder,
+    line: &str,
+) -> Result<bool, Fail> {
+    let wanted = Ending {
+        status: Status::Refused,
+        printed: line,
+        out: None,
+    };
+    let mut sink = sink(alloc, 0)?;
+    ends_so(alloc, command, folder, &mut sink, wanted)
+}
+
+/// Whether a command on a file `a` of so many equal bytes is refused so.
+fn is_size_refused(
+    alloc: Global,
+    command: &str,
+    byte: u8,
+    size: usize,
+    line: &str,
+) -> Result<bool, Fail> {
+    let bytes = equal_bytes(alloc, byte, size)?;
+    let mut folder = folder_of_one(alloc, bytes)?;
+    is_refused(alloc, command, &mut folder, line)
+}
+
+/// The line of the first row of `SIZES` that isn't right.
+fn wrong_size(alloc: Global) -> Result<Option<&'static str>, Fail> {
+    for &(command, byte, size, line) in SIZES {
+        if !is_size_refused(alloc, command, byte, size, line)? {
+            return Ok(Some(line));
+        }
+    }
+    Ok(None)
+}
+
+#[test]
+fn faults(rt: HostRuntime) -> Result<(), Fail> {
+    let wrong = wrong_fault(rt.alloc())?;
+    assert!(rt; wrong.is_none(), "{}", wrong.unwrap_or(""));
+    Ok(())
+}
+
+#[test]
+fn whole_lines(rt: HostRuntime) -> Result<(), Fail> {
+    let broken = broken_line(rt.alloc())?;
+    assert!(rt; broken.is_none(), "{}", broken.unwrap_or(""));
+    Ok(())
+}
+
+#[test]
+fn sizes(rt: HostRuntime) -> Result<(), Fail> {
+    let wrong = wrong_size(rt.alloc())?;
+    assert!(rt; wrong.is_none(), "{}", wrong.unwrap_or(""));
+    Ok(())
+}
+
+/// Writes a source `a.kmn` with a picture that passes its limit by one byte.
+fn write_long_picture(alloc: Global, folder: &mut MemoryFolder) -> Result<(), Fail> {
+    let source = written_out(alloc, "store(&bitmap) 'p.ico'¶@+ 'a' > 'b'¶")?;
+    folder.write(alloc, b"a.kmn", source.as_bytes())?;
+    let picture = equal_bytes(alloc, 0, 1_048_577)?;
+    folder.write(alloc, b"p.ico", picture.as_slice())?;
+    Ok(())
+}
+
+/// Whether such a picture is refused, and nothing written.
+fn is_long_picture_refused(alloc: Global) -> Result<bool, Fail> {
+    let mut folder = empty_folder(alloc, 0, 0)?;
+    write_long_picture(alloc, &mut folder)?;
+    is_refused(
+        alloc,
+        "compile a.kmn out",
+        &mut folder,
+        "refused C24 size 1048577\n",
+    )
+}
+
+#[test]
+fn long_picture(rt: HostRuntime) -> Result<(), Fail> {
+    assert!(rt; is_long_picture_refused(rt.alloc())?);
+    Ok(())
+}

@@ -1,6 +1,0 @@
-use Rattle.std.proofs.Common.{◌≡◌, ◌++◌, drop}
-use Rattle.kmn_base.specs.Lists.{characters}
-use Rattle.play_tests.proofs.shared.characters.Given as goal
-
-abbrev pub invariant-loop-item : goal.invariant-loop-item
-invariant-loop-item l = l.text.items ++ characters (drop l.item-index l.items) ≡ characters l.items
