@@ -1,10 +1,9 @@
 //! The tests of the crates that read sources and of those below them: `refusals` of `kmn_base`, `keys` of `virtual_keys`,
-//! `lines` of `kmn_lines`, `tokens` of `kmn_tokens`, `items` of `kmn_items`, `statements` of `kmn_parser`, and `names` of
-//! `store_table`.
+//! `lines` of `kmn_lines`, `tokens` of `kmn_tokens`, `items` of `kmn_items`, and `names` of `store_table`.
 //!
 //! They stand here because a crate with tests is proved twice, once with them and once without: so each of those crates is
-//! proved once, and the tests are proved over them, beside those of `compile_tests`. `fixtures` has what several of them
-//! take. No layer stands above.
+//! proved once, and the tests are proved over them. `fixtures` has what several of them take; `statement_tests` takes of it
+//! what reads the signs of its rows.
 #![tactic(auto)]
 
 pub mod fixtures;
@@ -18,7 +17,5 @@ mod lines;
 mod names;
 #[cfg(test)]
 mod refusals;
-#[cfg(test)]
-mod statements;
 #[cfg(test)]
 mod tokens;
