@@ -2,6 +2,7 @@
 use Rattle.std.specs.Prelude.{ℕ, ◌+◌, true, false, nat_eq, if◌then◌else◌, List, [], ◌∷◌, ◌++◌, length, drop, map, find, codes, Option, Some, None, unwrap_or, option_map, slice_get}
 use Rattle.std.specs.List.{range_with_len}
 use Rattle.std.specs.Fmt.{decimal}
+use Rattle.kmn_base.specs.declared.keys.TheConstants.{VIRTUAL_KEY}
 use Rattle.rule_model.specs.declared.system.TheConstants.{NO_GROUP}
 use Rattle.rule_model.specs.declared.program.SrcItem.{SrcItem}
 use Rattle.rule_model.specs.declared.program.SrcItem.TheVariants as source
@@ -88,7 +89,7 @@ mark_store name count = if nat_eq count 0 then [] else stated_marks name count �
 
 -- a store of the dictionary's keys, where there are any
 abbrev pub stated_key : List ℕ → SrcItem
-stated_key name = source.Key (record { flags = 0x4000; code = 0; name = name })
+stated_key name = source.Key (record { flags = VIRTUAL_KEY; code = 0; name = name })
 
 abbrev pub stated_keys : List ℕ → List (List ℕ) → ℕ → StoreDef
 stated_keys name keys line = record { line = line; system = 0; name = name; items = map stated_key keys }

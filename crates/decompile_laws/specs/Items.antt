@@ -6,6 +6,7 @@ use Rattle.kmn_base.specs.declared.items.Element.{Element}
 use Rattle.kmn_base.specs.declared.items.Element.TheVariants as element
 use Rattle.kmn_base.specs.declared.keys.RuleKey.{RuleKey}
 use Rattle.kmn_base.specs.declared.keys.RuleKey.TheVariants as key
+use Rattle.kmn_base.specs.declared.keys.TheConstants.{VIRTUAL_KEY}
 use Rattle.virtual_keys.specs.Dictionary.{name_in}
 use Rattle.rule_model.specs.declared.program.SrcItem.{SrcItem}
 use Rattle.rule_model.specs.declared.program.SrcItem.TheVariants as source
@@ -37,10 +38,10 @@ value_called names n = filter_map element_char (elements_of names.elements n)
 
 -- a virtual key by its code, and by its name in the dictionary; a source's has the flag of virtual keys
 abbrev pub key_by_code : ℕ → ℕ → KeyName
-key_by_code flags code = record { flags = bit_or flags 0x4000; code = code; name = [] }
+key_by_code flags code = record { flags = bit_or flags VIRTUAL_KEY; code = code; name = [] }
 
 abbrev pub key_by_name : Names → ℕ → ℕ → KeyName
-key_by_name names flags code = record { flags = bit_or flags 0x4000; code = 0; name = unwrap_or (name_in names.keys code) [] }
+key_by_name names flags code = record { flags = bit_or flags VIRTUAL_KEY; code = 0; name = unwrap_or (name_in names.keys code) [] }
 
 abbrev pub key_called : Names → ℕ → ℕ → KeyName
 key_called names flags code = if nat_lt code FIRST_OWN_CODE then key_by_code flags code else key_by_name names flags code

@@ -2,6 +2,7 @@
 
 ghost use Rattle.std.specs.Prelude.{◌≡◌, ◌++◌, ◌∷◌, [], map, bit_or, OnOk};
 ghost use Rattle.std.specs.Fmt.{decimal};
+ghost use Rattle.kmn_base.specs.declared.keys.TheConstants.{VIRTUAL_KEY};
 ghost use Rattle.virtual_keys.specs.Keys.{shift_flags};
 ghost use Rattle.decompile_text.specs.Pages.{with_text};
 ghost use Rattle.decompile_text.specs.OneByOne.{with_flag_words};
@@ -11,23 +12,24 @@ use crate::characters::{put_character, put_quoted};
 use crate::page::Page;
 use crate::system::option_name;
 use decompile_names::Called;
+use kmn_base::keys::{
+    CAPS, EITHER_ALT, EITHER_CONTROL, LEFT_ALT, LEFT_CONTROL, NO_CAPS, RIGHT_ALT, RIGHT_CONTROL,
+    SHIFT, VIRTUAL_KEY,
+};
 use kmn_base::{Element, Memory, RuleKey};
 use rule_model::{Out, Pat};
 
-/// The flag of a virtual key, which a text always says.
-const VIRTUAL: u32 = 0x4000;
-
 /// The modifier words with the shift flags that they stand for.
-static MODIFIERS: [(&str, u32); 9] = [
-    ("LCTRL", 0x0001),
-    ("RCTRL", 0x0002),
-    ("LALT", 0x0004),
-    ("RALT", 0x0008),
-    ("SHIFT", 0x0010),
-    ("CTRL", 0x0020),
-    ("ALT", 0x0040),
-    ("CAPS", 0x0100),
-    ("NCAPS", 0x0200),
+static MODIFIERS: [(&str, u16); 9] = [
+    ("LCTRL", LEFT_CONTROL),
+    ("RCTRL", RIGHT_CONTROL),
+    ("LALT", LEFT_ALT),
+    ("RALT", RIGHT_ALT),
+    ("SHIFT", SHIFT),
+    ("CTRL", EITHER_CONTROL),
+    ("ALT", EITHER_ALT),
+    ("CAPS", CAPS),
+    ("NCAPS", NO_CAPS),
 ];
 
 /// Puts a word with a name in parentheses.
@@ -118,22 +120,22 @@ fn put_flag(page: &mut Page, flags: u32, word: &[u8], flag: u32) -> Result<(), M
 fn put_flags(
     page: &mut Page,
     flags: u32,
-    table: &'static [(&'static str, u32)],
+    table: &'static [(&'static str, u16)],
 ) -> Result<(), Memory>
     ensures { OnOk result (page.new ≡ with_flag_words flags page.old (map (λ row. (row.0.now, row.1)) table.now)) }
 {
     for row in table {
-        put_flag(page, flags, row.0.as_bytes(), row.1)?;
+        put_flag(page, flags, row.0.as_bytes(), u32::from(row.1))?;
     }
     Ok(())
 }
 
-/// Puts the modifier words of a virtual key's flags.
+/// Puts the modifier words of a virtual key's flags, among which a text always says that of a virtual key.
 #[tactic(auto, unfolding(virtual_keys::specs::Keys::shift_flags))]
 fn put_modifiers(page: &mut Page, flags: u32) -> Result<(), Memory>
-    ensures { OnOk result (page.new ≡ with_flag_words (bit_or flags 0x4000) page.old shift_flags) }
+    ensures { OnOk result (page.new ≡ with_flag_words (bit_or flags VIRTUAL_KEY) page.old shift_flags) }
 {
-    put_flags(page, flags | VIRTUAL, &MODIFIERS)
+    put_flags(page, flags | u32::from(VIRTUAL_KEY), &MODIFIERS)
 }
 
 /// Puts a virtual key.

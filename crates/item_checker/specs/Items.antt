@@ -7,6 +7,7 @@ use Rattle.kmn_base.specs.declared.codes.Code.TheVariants.{C08, C09, C10, C11, C
 use Rattle.kmn_base.specs.declared.items.Element.{Element}
 use Rattle.kmn_base.specs.declared.items.Element.TheVariants as element
 use Rattle.kmn_base.specs.declared.refusals.Refusal.{Refusal}
+use Rattle.kmn_base.specs.declared.keys.TheConstants.{VIRTUAL_KEY}
 use Rattle.rule_model.specs.declared.program.SrcItem.{SrcItem}
 use Rattle.rule_model.specs.declared.program.SrcItem.TheVariants as source
 use Rattle.rule_model.specs.declared.program.StoreDef.{StoreDef}
@@ -138,7 +139,7 @@ brings_no_character known item = list_any is_no_character (brought known item)
 
 -- C25: an element of `&casedkeys` is no virtual key of the key table without modifiers
 abbrev pub is_no_plain_key : Element → Bool
-is_no_plain_key (element.Key flags code) = not (nat_eq flags 0x4000 && nat_lt code FIRST_OWN_CODE)
+is_no_plain_key (element.Key flags code) = not (nat_eq flags VIRTUAL_KEY && nat_lt code FIRST_OWN_CODE)
 is_no_plain_key other = true
 
 abbrev pub wants_plain_keys : StoreDef → Bool

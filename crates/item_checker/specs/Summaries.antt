@@ -5,6 +5,7 @@ use Rattle.std.specs.List.{list_any, list_all}
 use Rattle.std.specs.Str.{bytes_eq}
 use Rattle.kmn_base.specs.declared.items.Element.{Element}
 use Rattle.kmn_base.specs.declared.items.Element.TheVariants as element
+use Rattle.kmn_base.specs.declared.keys.TheConstants.{VIRTUAL_KEY}
 use Rattle.virtual_keys.specs.Dictionary.{place_in, code_in}
 use Rattle.rule_model.specs.declared.program.KeyName.{KeyName}
 use Rattle.rule_model.specs.declared.program.SrcItem.{SrcItem}
@@ -87,7 +88,7 @@ found_summary stores name = summary_at stores.summaries (place_in stores.names n
 
 -- a key of a source is no plain key; the keyboard's own keys have no code in a source, and one from 256 on in a file
 abbrev pub is_other_key : KeyName → Bool
-is_other_key key = not (nat_eq key.flags 0x4000 && (nat_lt 0 key.code && nat_lt key.code FIRST_OWN_CODE))
+is_other_key key = not (nat_eq key.flags VIRTUAL_KEY && (nat_lt 0 key.code && nat_lt key.code FIRST_OWN_CODE))
 
 -- keys of the keyboard's own, which items name, are among its names
 abbrev pub is_found_key : SourceNames → SrcItem → Bool

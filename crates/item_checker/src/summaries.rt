@@ -5,6 +5,7 @@ ghost use Rattle.std.specs.Prelude.{◌≡◌, ◌||◌, ◌&&◌, true, false, 
 ghost use Rattle.std.specs.Option.{option_copied};
 ghost use Rattle.item_checker.specs.Summaries.{found_summary, is_other_key, joined, joined_found, no_summaries, summary, with_character, with_characters, with_item, with_items, with_store, with_stores};
 
+use kmn_base::keys::VIRTUAL_KEY;
 use kmn_base::{Memory, Seq};
 use rule_model::system::DROPPED;
 use rule_model::{KeyName, SrcItem, StoreDef};
@@ -14,9 +15,6 @@ use virtual_keys::FIRST_OWN_CODE;
 
 /// How many characters are kept of elements: one more than the longest text that a store is compared with.
 pub const FRONT_CHARACTERS: usize = 5;
-
-/// The flags of a virtual key without modifiers.
-const PLAIN_KEY: u16 = 0x4000;
 
 /// What is kept of elements: whether there are any, whether a mark, a virtual key, a character past U+FFFF or anything
 /// but a plain key is among them, and of their characters the first few.
@@ -123,7 +121,7 @@ fn add_element_character(sum: &mut Summary, character: char) -> Result<(), Memor
 pub fn is_other_key(key: &KeyName) -> bool
     ensures { result ≡ is_other_key key.now }
 {
-    !(key.flags == PLAIN_KEY && (key.code > 0 && key.code < FIRST_OWN_CODE))
+    !(key.flags == VIRTUAL_KEY && (key.code > 0 && key.code < FIRST_OWN_CODE))
 }
 
 /// Adds the elements that an item of a store stands for.

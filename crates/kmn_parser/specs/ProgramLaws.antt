@@ -1,7 +1,7 @@
 -- What holds of each program that is read from a source, statement by statement.
 use Rattle.std.specs.Prelude.{◌≡◌, ◌≢◌, ℕ, ◌^◌, ◌<◌, ◌≤◌, Bool, true, nat_eq, bit_and, List, [], length, None, is_some, IfSome, Ok, IsUtf8, chars, All}
 use lib.Utf8.{scalar}
-use Rattle.kmn_base.specs.declared.keys.TheConstants.{SHIFT_FLAGS}
+use Rattle.kmn_base.specs.declared.keys.TheConstants.{SHIFT_FLAGS, VIRTUAL_KEY}
 use Rattle.kmn_base.specs.declared.limits.TheConstants.{SOURCE_NAME_CHARS}
 use Rattle.kmn_lines.specs.Laws.{IsPlain}
 use Rattle.rule_model.specs.declared.program.KeyName.{KeyName}
@@ -40,7 +40,7 @@ pub record IsOwnKey (name : List ℕ) : Type 0 where
 -- a virtual key: a code of the table, or one of the keyboard's own keys, and flags of control, alt, shift and caps lock
 -- above that of a virtual key
 pub record IsReadKey (key : KeyName) : Type 0 where
-  pub virtual : bit_and key.flags 0x4000 ≡ 0x4000
+  pub virtual : bit_and key.flags VIRTUAL_KEY ≡ VIRTUAL_KEY
   pub flags : bit_and key.flags SHIFT_FLAGS ≡ key.flags
   pub code : key.code < 2 ^ 16
   pub named : key.code ≡ 0 → IsOwnKey key.name

@@ -2,7 +2,7 @@
 use Rattle.std.specs.Prelude.{◌≡◌, ◌≢◌, ℕ, ◌+◌, ◌^◌, ◌<◌, ◌≤◌, ◌==◌, nat_eq, Bool, true, false, ◌&&◌, bit_and, List, [], ◌∷◌, map, length, Option, Some, None, is_some, find, All}
 use Rattle.std.specs.List.{list_all, list_any}
 use Rattle.std.specs.Str.{byte, is_utf8}
-use Rattle.kmn_base.specs.declared.keys.TheConstants.{SHIFT_FLAGS}
+use Rattle.kmn_base.specs.declared.keys.TheConstants.{SHIFT_FLAGS, VIRTUAL_KEY}
 use Rattle.kmn_base.specs.declared.limits.TheConstants.{TEXT_BYTES}
 use Rattle.virtual_keys.specs.Keys.{key_name}
 use Rattle.rule_model.specs.declared.program.KeyName.{KeyName}
@@ -53,7 +53,7 @@ IsSpelledOffset offset = offset < 10 ^ 9
 
 -- a virtual key: known flags, and a code that has a name, or a name of the keyboard's own
 pub record IsSpelledKey (key : KeyName) : Type 0 where
-  pub virtual : bit_and key.flags 0x4000 ≡ 0x4000
+  pub virtual : bit_and key.flags VIRTUAL_KEY ≡ VIRTUAL_KEY
   pub flags : bit_and key.flags SHIFT_FLAGS ≡ key.flags
   pub own : key.code ≡ 0 → (is_own_key key.name ≡ true) × IsSpelledName key.name
   pub known : key.code ≢ 0 → (is_some (key_name key.code) ≡ true) × (key.name ≡ [])

@@ -7,17 +7,13 @@ ghost use Rattle.virtual_keys.specs.Fits.{caps, has, no_caps};
 ghost use Rattle.limit_checker.specs.Counting.{count_at, count_in, count_named, count_of, no_counts, output_count_of, records_named, records_of, total, virtual_count_of, with_store, with_stores};
 
 use crate::key_codes::KeyCodes;
+use kmn_base::keys::{CAPS, NO_CAPS};
 use kmn_base::limits::OUTPUT_ITEMS;
 use kmn_base::{Memory, Seq};
 use rule_model::system::DROPPED;
 use rule_model::{KeyName, SrcItem, StoreDef};
 use std::alloc::Global;
 use store_table::NameTable;
-
-/// The bits of shift flags for a key that wants caps lock, and for one that wants it off.
-const CAPS: u16 = 0x0100;
-
-const NO_CAPS: u16 = 0x0200;
 
 /// The codes of the cased keys, and the names of stores with how many elements each has, and how many records a rule with its
 /// key from there; a count stays at the end of its type.

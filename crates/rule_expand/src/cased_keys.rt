@@ -9,19 +9,17 @@ ghost use Rattle.rule_expand.specs.CasedCodes.{cased_codes, codes_among, with_co
 
 use crate::lookups::Lookups;
 use indexmap::IndexSet;
-use kmn_base::{Element, Memory, RuleKey};
+use kmn_base::{Element, Memory, RuleKey, keys};
 use rule_model::Store;
 use rule_model::system::CASED_KEYS;
 use std::alloc::Global;
 
-/// The bit of flags that names SHIFT.
-const SHIFT: u32 = 0x0010;
-/// The bit of flags that names CAPS.
-const CAPS: u32 = 0x0100;
-/// The bit of flags that names NCAPS.
-const NO_CAPS: u32 = 0x0200;
-/// All bits of flags but that of SHIFT.
-const ALL_BUT_SHIFT: u32 = 0xFFFF_FFEF;
+// The bits of flags as a compiled key has them.
+const SHIFT: u32 = keys::SHIFT as u32;
+
+const CAPS: u32 = keys::CAPS as u32;
+
+const NO_CAPS: u32 = keys::NO_CAPS as u32;
 
 /// The elements of the first `&casedkeys`.
 fn cased_elements(stores: &[Store]) -> &[Element]
@@ -82,7 +80,7 @@ fn with_other_shift(flags: u32) -> u32
     if flags & SHIFT == 0 {
         flags | SHIFT
     } else {
-        flags & ALL_BUT_SHIFT
+        flags & !SHIFT
     }
 }
 
