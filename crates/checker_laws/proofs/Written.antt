@@ -17,7 +17,7 @@ use Rattle.rule_model.specs.Match.{same_value}
 use Rattle.rule_model.specs.Naming.{stores_of, rule_items, all_rules as program_rules}
 use Rattle.rule_model.specs.Src.{is_unicode, value_elements}
 use Rattle.rule_model.specs.OwnLines.{have_own_lines}
-use Rattle.compile_laws.specs.Numbers.{numbers_of, number_of_group, number_of_start, file_versions, stated_version, is_version as is_version_store, compiled_stores}
+use Rattle.compile_laws.specs.Numbers.{numbers_of, number_of_group, number_of_start, stated_version, is_version as is_version_store, compiled_stores}
 use Rattle.compile_laws.specs.Compiles.{Compiles, file_group, is_ansi}
 use Rattle.compile_laws.specs.Ordered.{ordered_group, compiled_tables}
 use Rattle.compile_laws.specs.WellNamed.{is_known_rule, is_known_group}
@@ -25,7 +25,9 @@ use Rattle.compile_laws.proofs.Known.{has_values}
 use Rattle.compile_laws.proofs.Values.{values_known}
 use Rattle.compile_laws.proofs.Ordered.{tables_are_only_ones}
 use Rattle.kmx_format.specs.File.{all_rules}
-use Rattle.kmx_format.specs.Writable.{is_version, IsWritable, IsWritableGroup}
+use Rattle.kmx_format.specs.Versions.{is_version, file_versions}
+use Rattle.kmx_format.specs.declared.versions.TheConstants.{OWN_VERSION}
+use Rattle.kmx_format.specs.Writable.{IsWritable, IsWritableGroup}
 use Rattle.kmn_parser.specs.ProgramLaws.{IsReadRule, IsReadGroup}
 use Rattle.store_table.specs.Names.{stated, is_named, is_begun, begins_no_group, begin_code, begin_refusal}
 use Rattle.store_table.specs.Known.{known}
@@ -55,7 +57,7 @@ has_found P f test (x ∷ xs) other all h = by (test x) (has_found P f test xs o
 version_written : (store : Option Store) → is_version (stated_version store) ≡ true
 version_written None = refl
 version_written (Some store) =
-    has_found (λ (version : ℕ). is_version version ≡ true) (λ (row : List ℕ × ℕ). row.1) (λ (row : List ℕ × ℕ). same_value (value_elements row.0) store.elements) file_versions 0x0A00
+    has_found (λ (version : ℕ). is_version version ≡ true) (λ (row : List ℕ × ℕ). row.1) (λ (row : List ℕ × ℕ). same_value (value_elements row.0) store.elements) file_versions OWN_VERSION
     (refl, (refl, (refl, (refl, (refl, (refl, (refl, (refl, (refl, tt))))))))) refl
 
 module _ (program : Program) (read : IsRead program) (accepted : refused program ≡ None) where

@@ -1,5 +1,5 @@
 -- The numbers that a program's stores, groups and values have in its compiled file, and the stores added there.
-use Rattle.std.specs.Prelude.{ℕ, ◌+◌, Bool, nat_eq, List, [], ◌∷◌, ◌++◌, length, map, flat_map, find, position, codes, Option, Some, None, option_map, unwrap_or}
+use Rattle.std.specs.Prelude.{ℕ, ◌+◌, Bool, nat_eq, List, [], ◌∷◌, ◌++◌, length, map, flat_map, find, position, Option, Some, None, option_map, unwrap_or}
 use Rattle.std.specs.List.{join_with_byte}
 use Rattle.std.specs.Str.{bytes_eq, chars}
 use Rattle.kmn_base.specs.declared.items.Element.TheVariants as element
@@ -14,6 +14,8 @@ use Rattle.rule_model.specs.Match.{same_value}
 use Rattle.rule_model.specs.Tab.{distinct_onto}
 use Rattle.rule_model.specs.Naming.{SourceNames, names_of, stores_of, rule_items, all_rules}
 use Rattle.rule_model.specs.Src.{value_elements, cased_keys}
+use Rattle.kmx_format.specs.Versions.{file_versions}
+use Rattle.kmx_format.specs.declared.versions.TheConstants.{OWN_VERSION}
 use Rattle.rule_model.specs.declared.system.TheConstants.{KEY_DICTIONARY, VERSION, NO_GROUP}
 
 -- the value that an item compares with or sets
@@ -77,21 +79,11 @@ number_of_group numbers name = unwrap_or (position (λ known. same_name known na
 abbrev pub number_of_value : Numbers → List ℕ → ℕ
 number_of_value numbers value = numbers.first_value + unwrap_or (position (λ known. bytes_eq known value) numbers.values) 0
 
--- each version that `&version` may state, with the number that a file has for it
-abbrev pub file_versions : List (List ℕ × ℕ)
-file_versions =
-    (codes "6.0", 0x0600) ∷ (codes "7.0", 0x0700) ∷ (codes "8.0", 0x0800) ∷ (codes "9.0", 0x0900) ∷ (codes "10.0", 0x0A00) ∷
-    (codes "14.0", 0x0E00) ∷ (codes "15.0", 0x0F00) ∷ (codes "16.0", 0x1000) ∷ (codes "17.0", 0x1100) ∷ []
-
--- the version of a file whose program states none: 10.0
-abbrev pub own_version : ℕ
-own_version = 0x0A00
-
 -- the version that a store of `&version` states, or that of a program that states none
 abbrev pub stated_version : Option Store → ℕ
-stated_version None = own_version
+stated_version None = OWN_VERSION
 stated_version (Some store) =
-    unwrap_or (option_map (λ row. row.1) (find (λ row. same_value (value_elements row.0) store.elements) file_versions)) own_version
+    unwrap_or (option_map (λ row. row.1) (find (λ row. same_value (value_elements row.0) store.elements) file_versions)) OWN_VERSION
 
 -- whether a store is `&version`
 abbrev pub is_version : Store → Bool

@@ -6,7 +6,7 @@ use Rattle.kmn_base.specs.declared.codes.Code.TheVariants.{V01, V02, V03, V04, V
 use Rattle.kmn_base.specs.declared.limits.TheConstants.{STORES, GROUPS, PICTURE_BYTES, FILE_BYTES}
 use Rattle.kmx_format.specs.declared.places.TheConstants.{FLAGS_AT, GROUPS_AT, GROUP_COUNT_AT, IDENTIFIER_AT, PICTURE_AT, PICTURE_SIZE_AT, START_ANSI_AT, START_UNICODE_AT, STORES_AT, STORE_COUNT_AT, VERSION_AT}
 use Rattle.kmx_format.specs.TablesOf.{half_at, word_at, string_at, stores_from, groups_from, tables_of}
-use Rattle.kmx_format.specs.Writable.{is_version}
+use Rattle.kmx_format.specs.Versions.{is_version}
 use Rattle.kmx_parts.specs.View.{is_ended, store_count, group_count}
 use Rattle.kmx_verifier.specs.FaultOf.{or_else, broken, size_fault, header_fault, arrays_fault, stores_fault, groups_fault, fault_of, IsValid, no_group}
 use Rattle.kmx_verifier.proofs.Sound.{or_else-none, broken-none}

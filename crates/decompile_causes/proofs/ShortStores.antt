@@ -13,10 +13,10 @@ use Rattle.rule_model.specs.declared.program.SrcItem.TheVariants as source
 use Rattle.rule_model.specs.declared.program.StoreDef.{StoreDef}
 use Rattle.rule_model.specs.declared.tables.Store.{Store}
 use Rattle.rule_model.specs.Naming.{SourceNames, item_elements}
-use Rattle.kmx_format.specs.Writable.{is_version}
+use Rattle.kmx_format.specs.Versions.{is_version, version_text, version_numbers}
 use Rattle.kmx_format.specs.Playable.{IsPlayableStore}
 use Rattle.decompile_laws.specs.Items.{Names, back_element}
-use Rattle.decompile_laws.specs.Back.{back_stores, numbered, stated_marks, stated_key, mark_store, key_store, version_text}
+use Rattle.decompile_laws.specs.Back.{back_stores, numbered, stated_marks, stated_key, mark_store, key_store}
 use Rattle.decompile_laws.proofs.OptionNames.{member-has}
 
 module _ (names : SourceNames) where
@@ -36,7 +36,7 @@ module _ (names : SourceNames) where
   version_short version is =
       let count = singles source.Char (λ c. refl) (version_text version) in
       let few = member-has (λ (v : ℕ). length (version_text v) ≤ 4)
-      (0x0600 ∷ 0x0700 ∷ 0x0800 ∷ 0x0900 ∷ 0x0A00 ∷ 0x0E00 ∷ 0x0F00 ∷ 0x1000 ∷ 0x1100 ∷ []) version
+      version_numbers version
       (three, (three, (three, (three, (four, (four, (four, (four, (four, tt))))))))) is in
       omega (arith, count, few)
     where

@@ -28,11 +28,11 @@ use Rattle.kmn_text.specs.Spelled.{IsStoreName, IsSpelledValue, is_system_id, Is
 use Rattle.decompile_laws.specs.Names.{written_ids, named_stores}
 use Rattle.decompile_laws.specs.Marks.{element_marks, pattern_marks, output_marks, rule_marks, group_marks, store_marks, table_marks, greatest_mark}
 use Rattle.decompile_laws.specs.Items.{Names, group_called, back_element}
-use Rattle.compile_laws.specs.Numbers.{file_versions}
+use Rattle.kmx_format.specs.Versions.{file_versions, version_text}
 use Rattle.virtual_keys.specs.Dictionary.{is_nameable}
 use Rattle.kmn_parser.specs.ProgramLaws.{IsCharacter}
 use Rattle.kmn_text.specs.Names.{is_inner}
-use Rattle.decompile_laws.specs.Back.{back_stores, numbered, stated_marks, stated_key, mark_store, key_store, version_text, version_store, back_begins, free_stores, mark_stores, key_stores, front_stores, names_for, written_stores, written_begins, back}
+use Rattle.decompile_laws.specs.Back.{back_stores, numbered, stated_marks, stated_key, mark_store, key_store, version_store, back_begins, free_stores, mark_stores, key_stores, front_stores, names_for, written_stores, written_begins, back}
 use Rattle.decompile_laws.specs.WrittenOut.{CanBeWrittenOut}
 use Rattle.decompile_laws.proofs.Lines.{numbered-length}
 use Rattle.decompile_laws.proofs.FrontCounts.{free-size, marks-few}

@@ -10,7 +10,7 @@ use Rattle.kmn_base.specs.declared.items.Element.TheVariants as element
 use Rattle.rule_model.specs.declared.program.SrcItem.{SrcItem}
 use Rattle.rule_model.specs.declared.program.SrcItem.TheVariants as source
 use Rattle.rule_model.specs.declared.program.StoreDef.{StoreDef}
-use Rattle.kmx_format.specs.Writable.{is_version}
+use Rattle.kmx_format.specs.Versions.{is_version, version_numbers}
 use Rattle.store_table.specs.First.{first_code}
 use Rattle.store_table.specs.Known.{Known, brought, statement_elements}
 use Rattle.item_checker.specs.Items.{is_option, is_no_character, is_left_out, is_layout_text, is_system_text, is_other_text, puts_option, wants_characters, wants_plain_keys, brings_no_character, brings_no_plain_key, store_item_code, store_head_code, store_code}
@@ -39,7 +39,7 @@ module _ (known : Known) where
   pub version_fine : (version line : ℕ) → is_version version ≡ true → IsFineStore (version_store version line)
   version_fine version line is =
       member-has (λ (v : ℕ). IsFineStore (version_store v line))
-      (0x0600 ∷ 0x0700 ∷ 0x0800 ∷ 0x0900 ∷ 0x0A00 ∷ 0x0E00 ∷ 0x0F00 ∷ 0x1000 ∷ 0x1100 ∷ []) version
+      version_numbers version
       (refl, (refl, (refl, (refl, (refl, (refl, (refl, (refl, (refl, tt))))))))) is
 
   -- the stores of deadkeys and keys are no options

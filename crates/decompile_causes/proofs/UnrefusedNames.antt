@@ -23,7 +23,8 @@ use Rattle.store_table.specs.Names.{is_named, kept_name, store_names, group_name
 use Rattle.decompile_laws.specs.Names.{named_stores, free_names}
 use Rattle.decompile_laws.specs.Marks.{greatest_mark}
 use Rattle.decompile_laws.specs.Items.{Names, store_called, group_called}
-use Rattle.decompile_laws.specs.Back.{back_stores, back_groups, back_begins, numbered, stated_marks, stated_key, mark_store, key_store, version_text, mark_stores, key_stores, front_stores, free_stores, names_for, written_stores, written_begins, written_groups, back}
+use Rattle.kmx_format.specs.Versions.{version_text}
+use Rattle.decompile_laws.specs.Back.{back_stores, back_groups, back_begins, numbered, stated_marks, stated_key, mark_store, key_store, mark_stores, key_stores, front_stores, free_stores, names_for, written_stores, written_begins, written_groups, back}
 use Rattle.decompile_laws.specs.WrittenOut.{is_ordinary, CanBeWrittenOut}
 use Rattle.decompile_laws.proofs.Apart.{Differs, AreFree, AreApart, own_name, later, free-differs, names_apart, same-turned, source-some}
 use Rattle.virtual_keys.proofs.NamePlaces.{same_name-self}

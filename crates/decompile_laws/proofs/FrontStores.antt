@@ -10,7 +10,8 @@ use Rattle.rule_model.specs.declared.tables.Tables.{Tables}
 use Rattle.rule_model.specs.Naming.{SourceNames, is_dropped}
 use Rattle.rule_model.specs.Tab.{tab_dictionary}
 use Rattle.decompile_laws.specs.Marks.{greatest_mark}
-use Rattle.decompile_laws.specs.Back.{numbered, mark_store, key_store, stated_marks, stated_keys, stated_key, version_store, version_text, mark_stores, key_stores, front_stores, free_stores}
+use Rattle.kmx_format.specs.Versions.{version_text}
+use Rattle.decompile_laws.specs.Back.{numbered, mark_store, key_store, stated_marks, stated_keys, stated_key, version_store, mark_stores, key_stores, front_stores, free_stores}
 use Rattle.decompile_laws.proofs.Linking.{IsSimple}
 use Rattle.decompile_laws.proofs.Calls.{IsAlone, elements-alone}
 use Rattle.decompile_laws.proofs.Choosing.{all_join}

@@ -20,7 +20,8 @@ use Rattle.rule_model.specs.Naming.{names_of, rule_items, store_items, source_it
 use Rattle.kmx_format.specs.Playable.{IsPlayable}
 use Rattle.decompile_laws.specs.Marks.{greatest_mark, table_marks}
 use Rattle.decompile_laws.specs.Items.{key_by_code, key_by_name, key_called}
-use Rattle.decompile_laws.specs.Back.{back_stores, numbered, mark_store, key_store, stated_marks, stated_key, version_text, mark_stores, key_stores, front_stores, free_stores, names_for, written_stores, written_begins, written_groups, back}
+use Rattle.kmx_format.specs.Versions.{version_text}
+use Rattle.decompile_laws.specs.Back.{back_stores, numbered, mark_store, key_store, stated_marks, stated_key, mark_stores, key_stores, front_stores, free_stores, names_for, written_stores, written_begins, written_groups, back}
 use Rattle.decompile_laws.specs.WrittenOut.{CanBeWrittenOut}
 use Rattle.decompile_laws.proofs.Apart.{same-turned}
 use Rattle.virtual_keys.proofs.NamePlaces.{same_name-self}

@@ -1,5 +1,5 @@
 -- The program that a decompiled text of tables is, statement by statement, each in a line of its own.
-use Rattle.std.specs.Prelude.{ℕ, ◌+◌, true, false, nat_eq, if◌then◌else◌, List, [], ◌∷◌, ◌++◌, length, drop, map, find, codes, Option, Some, None, unwrap_or, option_map, slice_get}
+use Rattle.std.specs.Prelude.{ℕ, ◌+◌, true, false, nat_eq, if◌then◌else◌, List, [], ◌∷◌, ◌++◌, length, drop, map, codes, Option, Some, None, unwrap_or, slice_get}
 use Rattle.std.specs.List.{range_with_len}
 use Rattle.std.specs.Fmt.{decimal}
 use Rattle.kmn_base.specs.declared.keys.TheConstants.{VIRTUAL_KEY}
@@ -19,7 +19,7 @@ use Rattle.rule_model.specs.declared.tables.Store.{Store}
 use Rattle.rule_model.specs.declared.tables.Group.{Group}
 use Rattle.rule_model.specs.declared.tables.Tables.{Tables}
 use Rattle.rule_model.specs.Tab.{tab_dictionary}
-use Rattle.compile_laws.specs.Numbers.{file_versions}
+use Rattle.kmx_format.specs.Versions.{version_text}
 use Rattle.decompile_laws.specs.Names.{named_stores, free_names, store_names, group_names}
 use Rattle.decompile_laws.specs.Marks.{greatest_mark}
 use Rattle.decompile_laws.specs.Items.{Names, group_called, back_element, back_pattern, back_output, back_key, some_items}
@@ -97,10 +97,6 @@ stated_keys name keys line = record { line = line; system = 0; name = name; item
 abbrev pub key_store : List ℕ → List (List ℕ) → List (ℕ → StoreDef)
 key_store name [] = []
 key_store name (key ∷ keys) = stated_keys name (key ∷ keys) ∷ []
-
--- the text of a version
-abbrev pub version_text : ℕ → List ℕ
-version_text version = unwrap_or (option_map (λ row. row.0) (find (λ row. nat_eq row.1 version) file_versions)) []
 
 abbrev pub version_store : ℕ → ℕ → StoreDef
 version_store version line = record { line = line; system = VERSION; name = []; items = map source.Char (version_text version) }

@@ -8,8 +8,8 @@ ghost use Rattle.decompile_text.specs.OneByOne.{with_keys};
 
 use crate::items::put_call;
 use crate::page::Page;
-use crate::system::version_text;
 use kmn_base::{Memory, Text};
+use kmx_format::version_text;
 
 /// Puts the line of the version.
 #[tactic(auto, using(crate::proofs::MoreText::with_text_append, crate::proofs::MoreText::with_no_text))]

@@ -4,19 +4,20 @@ ghost use Rattle.std.specs.Prelude.{◌≡◌, ◌++◌, ◌∷◌, [], map, bit
 ghost use Rattle.std.specs.Fmt.{decimal};
 ghost use Rattle.kmn_base.specs.declared.keys.TheConstants.{VIRTUAL_KEY};
 ghost use Rattle.virtual_keys.specs.Keys.{shift_flags};
+ghost use Rattle.kmn_text.specs.Items.{option_name};
 ghost use Rattle.decompile_text.specs.Pages.{with_text};
 ghost use Rattle.decompile_text.specs.OneByOne.{with_flag_words};
 ghost use Rattle.decompile_text.specs.Texts.{call_text, index_text, compared_text, flag_text, virtual_text, element_text, pattern_text, output_text, key_text};
 
 use crate::characters::{put_character, put_quoted};
 use crate::page::Page;
-use crate::system::option_name;
 use decompile_names::Called;
 use kmn_base::keys::{
     CAPS, EITHER_ALT, EITHER_CONTROL, LEFT_ALT, LEFT_CONTROL, NO_CAPS, RIGHT_ALT, RIGHT_CONTROL,
     SHIFT, VIRTUAL_KEY,
 };
 use kmn_base::{Element, Memory, RuleKey};
+use rule_model::system::PLATFORM;
 use rule_model::{Out, Pat};
 
 /// The modifier words with the shift flags that they stand for.
@@ -31,6 +32,17 @@ static MODIFIERS: [(&str, u16); 9] = [
     ("CAPS", CAPS),
     ("NCAPS", NO_CAPS),
 ];
+
+/// The name of a system option by its id, with its `&`.
+fn option_name(id: u32) -> &'static [u8]
+    ensures { result.now ≡ option_name id }
+{
+    if id == PLATFORM {
+        b"&platform"
+    } else {
+        b"&layer"
+    }
+}
 
 /// Puts a word with a name in parentheses.
 #[tactic(auto, using(crate::proofs::MoreText::with_text_append, crate::proofs::MoreText::with_no_text))]

@@ -9,9 +9,9 @@ ghost use Rattle.decompile_text.specs.Texts.{outputs_text, some_outputs_text, ru
 
 use crate::items::{put_call, put_element, put_key_part, put_output, put_pattern};
 use crate::page::Page;
-use crate::system::system_name;
 use decompile_names::Called;
 use kmn_base::{Element, Memory};
+use kmn_parser::system_store_name;
 use rule_model::system::NO_GROUP;
 use rule_model::{Group, Out, Pat, Rule, Store};
 
@@ -147,6 +147,16 @@ pub(crate) fn put_groups(
     Ok(())
 }
 
+/// Puts the word and the name of a system store, with its `&`.
+#[tactic(auto, using(crate::proofs::MoreText::with_text_append, crate::proofs::MoreText::with_no_text))]
+fn put_system_name(page: &mut Page, system: u32) -> Result<(), Memory>
+    ensures { OnOk result (page.new ≡ with_text page.old (call_text (codes "store") (system_name system))) }
+{
+    page.put(b"store(&")?;
+    page.put(system_store_name(system))?;
+    page.put(b")")
+}
+
 /// Puts the word and the name of a store, that of its system id where it has one.
 fn put_store_name(page: &mut Page, name: &[u8], system: u32) -> Result<(), Memory>
     ensures { OnOk result (page.new ≡ with_text page.old (call_text (codes "store") (if nat_eq system 0 then name.now else system_name system))) }
@@ -154,7 +164,7 @@ fn put_store_name(page: &mut Page, name: &[u8], system: u32) -> Result<(), Memor
     if system == 0 {
         put_call(page, b"store", name)
     } else {
-        put_call(page, b"store", system_name(system))
+        put_system_name(page, system)
     }
 }
 

@@ -12,7 +12,7 @@ use Rattle.rule_model.specs.declared.tables.Store.{Store}
 use Rattle.rule_model.specs.Match.{same_value}
 use Rattle.rule_model.specs.Tab.{store_elements}
 use Rattle.rule_model.specs.Src.{value_elements}
-use Rattle.compile_laws.specs.Numbers.{file_versions}
+use Rattle.kmx_format.specs.Versions.{file_versions}
 use Rattle.item_checker.specs.declared.summaries.Summary.{Summary}
 use Rattle.item_checker.specs.declared.summaries.Summaries.{Summaries}
 use Rattle.store_table.specs.Known.{Known, statement_elements}

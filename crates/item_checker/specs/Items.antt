@@ -19,7 +19,7 @@ use Rattle.rule_model.specs.declared.program.Program.{Program}
 use Rattle.rule_model.specs.Match.{same_value}
 use Rattle.rule_model.specs.Naming.{elements_named}
 use Rattle.rule_model.specs.Src.{value_elements}
-use Rattle.compile_laws.specs.Numbers.{file_versions}
+use Rattle.kmx_format.specs.Versions.{file_versions}
 use Rattle.store_table.specs.First.{or_else, broken, first_code, at_line, earlier, first_of}
 use Rattle.store_table.specs.Known.{Known, known, brought, statement_elements}
 use Rattle.store_table.specs.Names.{is_named}

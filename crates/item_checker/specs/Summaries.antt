@@ -13,7 +13,7 @@ use Rattle.rule_model.specs.declared.program.SrcItem.TheVariants as source
 use Rattle.rule_model.specs.declared.program.StoreDef.{StoreDef}
 use Rattle.rule_model.specs.declared.tables.Store.{Store}
 use Rattle.rule_model.specs.Naming.{SourceNames, is_dropped}
-use Rattle.compile_laws.specs.Numbers.{file_versions}
+use Rattle.kmx_format.specs.Versions.{file_versions}
 use Rattle.item_checker.specs.declared.summaries.Summary.{Summary}
 use Rattle.item_checker.specs.declared.summaries.Summaries.{Summaries}
 use Rattle.item_checker.specs.declared.summaries.TheConstants.{FRONT_CHARACTERS}

@@ -1,7 +1,7 @@
 //! What the items of a program are looked at with.
 
-ghost use Rattle.std.specs.Prelude.{◌≡◌, ◌&&◌, not, true, ◌++◌, IfOk, OnOk, option_to_list};
-ghost use Rattle.std.specs.List.{flat_map};
+ghost use Rattle.std.specs.Prelude.{◌≡◌, ℕ, List, ◌&&◌, not, true, ◌++◌, IfOk, OnOk, map, option_to_list};
+ghost use Rattle.std.specs.List.{flat_map, list_any};
 ghost use Rattle.std.specs.Option.{option_copied};
 ghost use Rattle.rule_model.specs.declared.program.GroupDef.{GroupDef};
 ghost use Rattle.std.specs.Str.{bytes_eq};
@@ -10,6 +10,7 @@ ghost use Rattle.item_checker.specs.Summaries.{are_found_keys, found_lacks_chara
 
 use crate::summaries::{Summaries, Summary, found_summary, items_summary, stores_summaries};
 use kmn_base::Memory;
+use kmx_format::file_versions;
 use rule_model::system::{MNEMONIC_LAYOUT, VERSION};
 use rule_model::{GroupDef, Program, RuleDef, SrcItem, StoreDef};
 use std::alloc::Global;
@@ -158,26 +159,36 @@ fn found_lacks_characters(found: Option<&Summary>) -> bool
     }
 }
 
-/// Whether characters are a text.
-fn is_text(text: &[char], front: &[char]) -> bool
+/// Whether characters are an ASCII text.
+fn is_text(text: &[u8], front: &[char]) -> bool
     ensures { result ≡ bytes_eq text.now front.now }
 {
-    text == front
+    match text {
+        [] => front.is_empty(),
+        [byte, rest @ ..] => match front {
+            [c, others @ ..] => char::from(*byte) == *c && is_text(rest, others),
+            [] => false,
+        },
+    }
+}
+
+/// Whether characters are a text of a table.
+fn is_text_in(table: &[(&str, u16)], front: &[char]) -> bool
+    ensures { result ≡ list_any (λ (row : List ℕ × ℕ). bytes_eq row.0 front.now) (map (λ row. (row.0.now, row.1)) table.now) }
+{
+    for row in table {
+        if is_text(row.0.as_bytes(), front) {
+            return true;
+        }
+    }
+    false
 }
 
 /// Whether the first characters are a version that a file can have.
 fn is_version_front(front: &[char]) -> bool
     ensures { result ≡ is_version_front front.now }
 {
-    is_text(&['6', '.', '0'], front)
-        || is_text(&['7', '.', '0'], front)
-        || is_text(&['8', '.', '0'], front)
-        || is_text(&['9', '.', '0'], front)
-        || is_text(&['1', '0', '.', '0'], front)
-        || is_text(&['1', '4', '.', '0'], front)
-        || is_text(&['1', '5', '.', '0'], front)
-        || is_text(&['1', '6', '.', '0'], front)
-        || is_text(&['1', '7', '.', '0'], front)
+    is_text_in(file_versions(), front)
 }
 
 /// Whether the first characters are what a system store may have.
@@ -186,7 +197,7 @@ fn is_system_front(system: u32, front: &[char]) -> bool
 {
     match system {
         VERSION => is_version_front(front),
-        MNEMONIC_LAYOUT => is_text(&['0'], front),
+        MNEMONIC_LAYOUT => is_text(b"0", front),
         _ => true,
     }
 }

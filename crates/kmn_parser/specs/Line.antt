@@ -1,5 +1,5 @@
 -- The statement of a logical line's tokens, or the first fault in it.
-use Rattle.std.specs.Prelude.{ℕ, ◌+◌, ◌-◌, ◌==◌, nat_lt, Bool, true, false, not, ◌&&◌, ◌||◌, if◌then◌else◌, List, [], ◌∷◌, length, take, drop, codes, Option, None, Some, is_some, unwrap_or, option_map, Result, Ok, Err}
+use Rattle.std.specs.Prelude.{ℕ, ◌+◌, ◌-◌, ◌==◌, nat_eq, nat_lt, Bool, true, false, not, ◌&&◌, ◌||◌, if◌then◌else◌, List, [], ◌∷◌, length, take, drop, find, codes, Option, None, Some, is_some, unwrap_or, option_map, Result, Ok, Err}
 use Rattle.std.specs.List.{list_any, position_or_len}
 use Rattle.std.specs.Ordering.{nat_cmp, is_lt}
 use Rattle.std.specs.Cmp.Lexicographic.{slice_cmp}
@@ -76,6 +76,10 @@ system_stores =
     (codes "language", DROPPED) ∷ (codes "layout", DROPPED) ∷ (codes "languagename", DROPPED) ∷ (codes "displaymap", DROPPED) ∷
     (codes "kmw_rtl", DROPPED) ∷ (codes "kmw_helpfile", DROPPED) ∷ (codes "kmw_helptext", DROPPED) ∷
     (codes "kmw_embedjs", DROPPED) ∷ (codes "kmw_embedcss", DROPPED) ∷ []
+
+-- the name without & of a system store by its id: the first that a source can state for it
+abbrev pub system_store_name : ℕ → List ℕ
+system_store_name id = unwrap_or (option_map (λ row. row.0) (find (λ row. nat_eq row.1 id) system_stores)) []
 
 -- the id of a store by its name: 0 for one without &, None for a system store that there isn't
 abbrev pub store_system : List ℕ → Option ℕ

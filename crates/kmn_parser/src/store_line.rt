@@ -1,9 +1,9 @@
 //! Store statements.
 
-ghost use Rattle.std.specs.Prelude.{◌≡◌, ◌+◌, ◌<◌, ◌^◌, length, is_some, IfOk};
+ghost use Rattle.std.specs.Prelude.{◌≡◌, ℕ, List, [], ◌+◌, ◌<◌, ◌^◌, find, length, map, nat_eq, option_map, unwrap_or, is_some, IfOk};
 ghost use Rattle.kmn_base.specs.Names.{named_in};
 ghost use Rattle.kmn_items.specs.TokenTexts.{texts, Reads};
-ghost use Rattle.kmn_parser.specs.Line.{system_stores, store_system, store_form, store_fault, store_def, read_store};
+ghost use Rattle.kmn_parser.specs.Line.{system_stores, system_store_name, store_system, store_form, store_fault, store_def, read_store};
 
 use crate::statement::{Line, Statement};
 use kmn_base::names::named_in;
@@ -53,6 +53,26 @@ fn system_id(name: &[u8]) -> Option<u32>
     ensures { result ≡ named_in system_stores name.now }
 {
     named_in(&SYSTEM_STORES, name)
+}
+
+/// The name that a table has for an id; empty where it has none.
+fn name_in(table: &[(&'static str, u32)], id: u32) -> &'static [u8]
+    ensures { result.now ≡ unwrap_or (option_map (λ (row : List ℕ × ℕ). row.0) (find (λ (row : List ℕ × ℕ). nat_eq row.1 id) (map (λ row. (row.0.now, row.1)) table.now))) [] }
+{
+    for row in table {
+        if row.1 == id {
+            return row.0.as_bytes();
+        }
+    }
+    b""
+}
+
+/// The name without `&` of a system store by its id: the first that a source can state for it; empty where there is none.
+#[tactic(auto, unfolding(crate::specs::Line::system_stores))]
+pub fn system_store_name(id: u32) -> &'static [u8]
+    ensures { result.now ≡ system_store_name id }
+{
+    name_in(&SYSTEM_STORES, id)
 }
 
 /// The id of a store by its name: 0 for one without `&`, None for a system store that there isn't.

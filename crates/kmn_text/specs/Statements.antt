@@ -1,5 +1,5 @@
 -- The statements of programs as they are written, each in a line.
-use Rattle.std.specs.Prelude.{ℕ, nat_eq, if◌then◌else◌, List, [], ◌∷◌, ◌++◌, filter_map, codes, unwrap_or, option_map, find, Option, Some, None}
+use Rattle.std.specs.Prelude.{ℕ, nat_eq, if◌then◌else◌, List, [], ◌∷◌, ◌++◌, filter_map, codes, Option, Some, None}
 use Rattle.rule_model.specs.declared.program.SrcItem.{SrcItem}
 use Rattle.rule_model.specs.declared.program.SrcItem.TheVariants as source
 use Rattle.rule_model.specs.declared.program.StoreDef.{StoreDef}
@@ -9,14 +9,14 @@ use Rattle.rule_model.specs.declared.program.RuleDef.{RuleDef}
 use Rattle.rule_model.specs.declared.program.GroupDef.{GroupDef}
 use Rattle.rule_model.specs.declared.program.BeginDef.{BeginDef}
 use Rattle.kmn_items.specs.TokenTexts.{LineToken}
-use Rattle.kmn_parser.specs.Line.{system_stores}
+use Rattle.kmn_parser.specs.Line.{system_store_name}
 use Rattle.kmn_text.specs.Texts.{word, name_token, opening, closing, plus, arrow}
 use Rattle.kmn_text.specs.Items.{item_pieces, spaced_items, joined_items, value_token}
 use Rattle.rule_model.specs.declared.system.TheConstants.{VERSION}
 
 -- the name of a system store of an id, with its &
 abbrev pub system_name : ℕ → List ℕ
-system_name id = 38 ∷ unwrap_or (option_map (λ row. row.0) (find (λ row. nat_eq row.1 id) system_stores)) []
+system_name id = 38 ∷ system_store_name id
 
 -- the name of a store in a text
 abbrev pub store_name : StoreDef → List ℕ

@@ -20,7 +20,8 @@ use Rattle.kmx_format.specs.Writable.{elements_of}
 use Rattle.checker_laws.proofs.Lists.{All-distinct}
 use Rattle.decompile_laws.specs.Marks.{greatest_mark, table_marks}
 use Rattle.decompile_laws.specs.Items.{Names, value_called}
-use Rattle.decompile_laws.specs.Back.{version_text, names_for}
+use Rattle.kmx_format.specs.Versions.{version_text, version_numbers}
+use Rattle.decompile_laws.specs.Back.{names_for}
 use Rattle.decompile_laws.specs.WrittenOut.{table_values}
 use Rattle.decompile_laws.proofs.Choosing.{all_join}
 use Rattle.decompile_laws.proofs.OptionNames.{member-has}
@@ -36,7 +37,7 @@ use Rattle.kmx_decompiler.proofs.ValueSets.{all_values}
 version-few : (tables : Tables) → IsPlayable tables → length (version_text tables.version) ≤ 4
 version-few tables can =
     member-has (λ (v : ℕ). length (version_text v) ≤ 4)
-    (0x0600 ∷ 0x0700 ∷ 0x0800 ∷ 0x0900 ∷ 0x0A00 ∷ 0x0E00 ∷ 0x0F00 ∷ 0x1000 ∷ 0x1100 ∷ []) tables.version
+    version_numbers tables.version
     (three, (three, (three, (three, (four, (four, (four, (four, (four, tt))))))))) can.version
   where
     three : 3 ≤ 4

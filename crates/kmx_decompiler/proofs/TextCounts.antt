@@ -14,7 +14,8 @@ use Rattle.kmx_format.specs.Writable.{elements_of}
 use Rattle.kmx_format.specs.Playable.{IsPlayable}
 use Rattle.compile_laws.specs.Numbers.{dictionary_stores, value_store, values_of, compiled_stores}
 use Rattle.decompile_laws.specs.Marks.{greatest_mark}
-use Rattle.decompile_laws.specs.Back.{version_text, names_for, written_stores, back}
+use Rattle.kmx_format.specs.Versions.{version_text}
+use Rattle.decompile_laws.specs.Back.{names_for, written_stores, back}
 use Rattle.decompile_laws.specs.WrittenOut.{table_values, CanBeWrittenOut}
 use Rattle.decompile_laws.proofs.Linking.{stores-mapped}
 use Rattle.decompile_laws.proofs.Numbering.{keys-are}

@@ -5,7 +5,8 @@ use Rattle.rule_model.specs.declared.tables.Store.{Store}
 use Rattle.rule_model.specs.declared.tables.Tables.{Tables}
 use Rattle.rule_model.specs.Tab.{tab_dictionary}
 use Rattle.decompile_laws.specs.Marks.{greatest_mark}
-use Rattle.decompile_laws.specs.Back.{version_text, names_for}
+use Rattle.kmx_format.specs.Versions.{version_text}
+use Rattle.decompile_laws.specs.Back.{names_for}
 use Rattle.decompile_laws.specs.WrittenOut.{table_values}
 use Rattle.kmx_decompiler.specs.declared.counts.WrittenCounts.{WrittenCounts}
 use Rattle.kmx_decompiler.specs.Values.{with_values}

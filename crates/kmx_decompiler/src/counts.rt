@@ -14,10 +14,11 @@ ghost use Rattle.kmx_decompiler.specs.Counting.{capped, none_counted, with_lengt
 use crate::values::{WrittenValues, values_of};
 use decompile_causes::NoSpelling;
 use decompile_names::Called;
-use decompile_text::{Front, version_text};
+use decompile_text::Front;
 use kmn_base::limits::{ALL_ELEMENTS, STORES};
 use kmn_base::texts::character_count;
 use kmn_base::{Memory, Text};
+use kmx_format::version_text;
 use rule_model::{Store, Tables};
 use std::alloc::Global;
 

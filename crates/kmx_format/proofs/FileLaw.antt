@@ -7,7 +7,8 @@ use Rattle.rule_model.specs.declared.tables.Group.{Group}
 use Rattle.rule_model.specs.declared.tables.Tables.{Tables}
 use Rattle.kmx_format.specs.File.{half, word, offset_of, store_strings, group_strings, rule_strings, store_record, store_records, group_record, group_records, rule_records, rules_of, all_rules, stores_place, groups_place, rules_place, store_strings_place, group_strings_place, rule_strings_place, picture_place, header_words, header, file_of}
 use Rattle.kmx_format.specs.TablesOf.{half_at, word_at, stores_from, groups_from, tables_of, group_without_places}
-use Rattle.kmx_format.specs.Writable.{is_version, IsWritableStore, IsWritableGroup, IsWritable}
+use Rattle.kmx_format.specs.Versions.{is_version, version_numbers}
+use Rattle.kmx_format.specs.Writable.{IsWritableStore, IsWritableGroup, IsWritable}
 use Rattle.kmx_format.specs.FileLaws.{ReadingGivesBack}
 use Rattle.kmx_format.proofs.FileStands.{StandsAt, whole, front, back, same_place, length-words, nth_word_at, nth_word, half_at-stands}
 use Rattle.kmx_format.proofs.FileRecords.{offset_of-le, length-store_record, stores_from-stands, length-rule_records}
@@ -42,7 +43,7 @@ any_below n limit (m ∷ ms) h e =
 
 pub version-small : (version : ℕ) → is_version version ≡ true → version < 2 ^ 16
 version-small version h =
-    any_below version (2 ^ 16) (0x0600 ∷ 0x0700 ∷ 0x0800 ∷ 0x0900 ∷ 0x0A00 ∷ 0x0E00 ∷ 0x0F00 ∷ 0x1000 ∷ 0x1100 ∷ [])
+    any_below version (2 ^ 16) version_numbers
     (lit< tt, (lit< tt, (lit< tt, (lit< tt, (lit< tt, (lit< tt, (lit< tt, (lit< tt, (lit< tt, tt))))))))) h
 
 -- an array that has records stands at its offset

@@ -3,5 +3,6 @@ pub mod FileLaws
 pub mod FileUnits
 pub mod Playable
 pub mod TablesOf
+pub mod Versions
 pub mod WorkedFiles
 pub mod Writable

@@ -10,7 +10,8 @@ use Rattle.rule_model.specs.declared.tables.Group.{Group}
 use Rattle.rule_model.specs.declared.tables.Tables.{Tables}
 use Rattle.kmx_format.specs.FileUnits.{unit_item_of_element}
 use Rattle.kmx_format.specs.File.{all_rules}
-use Rattle.kmx_format.specs.Writable.{is_version, elements_of, IsWritableName, IsWritableRule, IsWritableMatchOutput, IsWritable}
+use Rattle.kmx_format.specs.Versions.{is_version}
+use Rattle.kmx_format.specs.Writable.{elements_of, IsWritableName, IsWritableRule, IsWritableMatchOutput, IsWritable}
 
 -- each element of a store has a spelling, and there aren't too many
 pub record IsPlayableStore (store : Store) : Type 0 where

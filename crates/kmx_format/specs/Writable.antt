@@ -1,6 +1,6 @@
 -- Which tables a file can have.
 use Rattle.std.specs.Prelude.{◌||◌, ◌≡◌, ◌≢◌, ℕ, zero, suc, ◌^◌, ◌<◌, ◌≤◌, ◌⊎◌, Bool, true, false, nat_eq, bit_and, List, [], ◌∷◌, length, take, slice_get, slice_index_or, IsSomeAnd}
-use Rattle.std.specs.List.{All, flat_map, list_any}
+use Rattle.std.specs.List.{All, flat_map}
 use Rattle.std.specs.Str.{IsUtf8, chars}
 use Rattle.kmn_base.specs.declared.keys.TheConstants.{SHIFT_FLAGS}
 use Rattle.kmn_base.specs.declared.limits.TheConstants.{FILE_NAME_UNITS, STORE_ELEMENTS, CONTEXT_ITEMS, OUTPUT_ITEMS, STORES, GROUPS, RECORDS, ALL_ELEMENTS, PICTURE_BYTES, FILE_BYTES}
@@ -16,13 +16,10 @@ use Rattle.rule_model.specs.declared.tables.Rule.{Rule}
 use Rattle.rule_model.specs.declared.tables.Store.{Store}
 use Rattle.rule_model.specs.declared.tables.Group.{Group}
 use Rattle.rule_model.specs.declared.tables.Tables.{Tables}
+use Rattle.kmx_format.specs.Versions.{is_version}
 use Rattle.kmx_format.specs.FileUnits.{unit_item_of_element, unit_item_of_pattern, unit_item_of_output, name_units}
 use Rattle.kmx_format.specs.File.{all_rules, file_of}
 use Rattle.rule_model.specs.declared.system.TheConstants.{LAYER, NO_GROUP, PLATFORM}
-
--- the versions of the format: 6.0, 7.0, 8.0, 9.0, 10.0, 14.0, 15.0, 16.0, 17.0
-abbrev pub is_version : ℕ → Bool
-is_version version = list_any (nat_eq version) (0x0600 ∷ 0x0700 ∷ 0x0800 ∷ 0x0900 ∷ 0x0A00 ∷ 0x0E00 ∷ 0x0F00 ∷ 0x1000 ∷ 0x1100 ∷ [])
 
 -- a name is UTF-8 without U+0000 and U+FFFF, and not too long
 pub record IsWritableName (name : List ℕ) : Type 0 where

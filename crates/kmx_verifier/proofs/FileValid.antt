@@ -15,7 +15,8 @@ use Rattle.rule_model.specs.declared.tables.Tables.{Tables}
 use Rattle.kmx_format.specs.FileUnits.{unit_item_of_element, unit_item_of_pattern, unit_item_of_output, element_units, pattern_units, output_units, name_units}
 use Rattle.kmx_format.specs.File.{half, words, string, offset_of, store_strings, group_strings, rule_strings, store_record, store_records, flag, group_record, group_records, key_code, key_flags, rule_record, rule_records, rules_of, stores_place, groups_place, rules_place, store_strings_place, group_strings_place, rule_strings_place, picture_place, header_words, header, file_of}
 use Rattle.kmx_format.specs.TablesOf.{word_at, uses_keys_at}
-use Rattle.kmx_format.specs.Writable.{is_version, elements_of, IsWritableStore, IsWritableKey, IsWritableRule, IsWritableGroup, IsWritable, IsFile}
+use Rattle.kmx_format.specs.Versions.{is_version}
+use Rattle.kmx_format.specs.Writable.{elements_of, IsWritableStore, IsWritableKey, IsWritableRule, IsWritableGroup, IsWritable, IsFile}
 use Rattle.kmx_format.proofs.FileStands.{StandsAt, end_within, front, back, same_place, same_bytes, length-half, length-words, first_word_at, nth_word_at}
 use Rattle.kmx_format.proofs.FileRecords.{key_flags-small, offset_of-le, length-store_record, length-rule_record, length-rule_records, rule_records-append}
 use Rattle.kmx_format.proofs.FileGroups.{flag-read, flag-small, length-group_record}

@@ -12,7 +12,7 @@ use Rattle.kmn_base.specs.declared.limits.TheConstants.{FILE_NAME_UNITS, CONTEXT
 use Rattle.kmn_base.specs.declared.units.UnitItem.{UnitItem}
 use Rattle.item_codec.specs.Walk.{spelled_size, results_of}
 use Rattle.kmx_format.specs.TablesOf.{word_at, before_zero, string_at, items_of, uses_keys_at}
-use Rattle.kmx_format.specs.Writable.{is_version}
+use Rattle.kmx_format.specs.Versions.{is_version}
 use Rattle.kmx_parts.specs.View.{has_zero, is_ended, store_count, group_count}
 use Rattle.kmx_verifier.specs.declared.faults.StringKind.{StringKind}
 use Rattle.kmx_verifier.specs.declared.faults.StringKind.TheVariants as of

@@ -12,7 +12,8 @@ use Rattle.rule_model.specs.declared.tables.Out.{Out}
 use Rattle.kmx_format.specs.FileUnits.{unit_item_of_output}
 use Rattle.kmx_format.specs.File.{rules_of}
 use Rattle.kmx_format.specs.TablesOf.{half_at, word_at, string_at, patterns_at, outputs_at, store_at, stores_from, key_of, rule_at, rules_from, uses_keys_at, group_at, groups_from, tables_of}
-use Rattle.kmx_format.specs.Writable.{is_version, elements_of, needs_context, PointsInto, IsWritableMatchOutput, IsWritableKey, IsWritableRule}
+use Rattle.kmx_format.specs.Versions.{is_version}
+use Rattle.kmx_format.specs.Writable.{elements_of, needs_context, PointsInto, IsWritableMatchOutput, IsWritableKey, IsWritableRule}
 use Rattle.kmx_format.specs.Playable.{IsPlayableStore, IsPlayableGroup, IsPlayable}
 use Rattle.kmx_format.proofs.FileLaw.{version-small}
 use Rattle.kmx_parts.specs.View.{store_count, group_count}

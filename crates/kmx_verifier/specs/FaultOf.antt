@@ -14,7 +14,7 @@ use Rattle.item_codec.specs.Walk.{results_of, spelled_size}
 use Rattle.kmx_format.specs.declared.places.TheConstants.{FLAGS_AT, GROUPS_AT, GROUP_COUNT_AT, GROUP_MATCH_AT, GROUP_NOMATCH_AT, GROUP_RULES_AT, GROUP_RULE_COUNT_AT, IDENTIFIER, IDENTIFIER_AT, PICTURE_AT, PICTURE_SIZE_AT, RULE_CONTEXT_AT, RULE_FLAGS_AT, RULE_OUTPUT_AT, START_ANSI_AT, START_UNICODE_AT, STORES_AT, STORE_COUNT_AT, STORE_ELEMENTS_AT, STORE_NAME_AT, VERSION_AT}
 use Rattle.kmx_format.specs.declared.sizes.TheConstants.{GROUP_BYTES, HEADER_BYTES, RULE_BYTES, STORE_BYTES}
 use Rattle.kmx_format.specs.TablesOf.{word_at, string_at, items_of, uses_keys_at}
-use Rattle.kmx_format.specs.Writable.{is_version}
+use Rattle.kmx_format.specs.Versions.{is_version}
 use Rattle.kmn_base.specs.declared.keys.TheConstants.{SHIFT_FLAGS}
 use Rattle.rule_model.specs.declared.system.TheConstants.{NO_GROUP}
 use Rattle.kmx_verifier.specs.declared.faults.Fault.{Fault}

@@ -3,12 +3,12 @@
 ghost use Rattle.std.specs.Prelude.{◌≡◌, ◌<◌, ◌≤◌, ◌^◌, ◌*◌, length};
 ghost use Rattle.kmx_parts.specs.View.{is_within};
 ghost use Rattle.kmx_format.specs.declared.sizes.TheConstants.{GROUP_BYTES};
-ghost use Rattle.kmx_format.specs.Writable.{is_version};
 ghost use Rattle.kmx_verifier.specs.FaultOf.{size_fault, header_fault, arrays_fault, Tells};
 
 use crate::faults::Fault;
 use kmn_base::Code;
 use kmn_base::limits::{FILE_BYTES, GROUPS, PICTURE_BYTES, STORES};
+use kmx_format::is_version;
 use kmx_format::places::{
     FLAGS_AT, GROUP_COUNT_AT, GROUPS_AT, IDENTIFIER, IDENTIFIER_AT, PICTURE_AT, PICTURE_SIZE_AT,
     START_ANSI_AT, START_UNICODE_AT, STORE_COUNT_AT, STORES_AT, VERSION_AT,
@@ -28,15 +28,6 @@ pub(crate) fn check_size(bytes: &[u8]) -> Result<(), Fault>
         return Err(Fault::of(Code::V01, bytes.len() as u32));
     }
     Ok(())
-}
-
-fn is_version(version: u32) -> bool
-    ensures { result ≡ is_version version }
-{
-    matches!(
-        version,
-        0x0600 | 0x0700 | 0x0800 | 0x0900 | 0x0A00 | 0x0E00 | 0x0F00 | 0x1000 | 0x1100
-    )
 }
 
 #[tactic(auto, unfolding(crate::specs::FaultOf::header_fault))]

@@ -1,28 +1,15 @@
 //! The version that a program states.
 
 ghost use Rattle.std.specs.Prelude.{◌≡◌, ℕ, List, find, map, option_map, unwrap_or};
+ghost use Rattle.kmx_format.specs.declared.versions.TheConstants.{OWN_VERSION};
 ghost use Rattle.rule_model.specs.Match.{same_value};
 ghost use Rattle.rule_model.specs.Src.{value_elements};
 ghost use Rattle.compile_laws.specs.Numbers.{is_version, stated_version};
 
 use kmn_base::Element;
+use kmx_format::{OWN_VERSION, file_versions};
 use rule_model::Store;
 use rule_model::system::VERSION;
-
-/// The number of version 10.0, which a file has where none is stated.
-const OWN_VERSION: u16 = 0x0A00;
-/// Each version that `&version` may state, with the number that a file has for it.
-static VERSIONS: [(&'static str, u16); 9] = [
-    ("6.0", 0x0600),
-    ("7.0", 0x0700),
-    ("8.0", 0x0800),
-    ("9.0", 0x0900),
-    ("10.0", 0x0A00),
-    ("14.0", 0x0E00),
-    ("15.0", 0x0F00),
-    ("16.0", 0x1000),
-    ("17.0", 0x1100),
-];
 
 /// Whether elements are the characters of an ASCII text.
 fn is_text(text: &[u8], elements: &[Element]) -> bool
@@ -39,7 +26,7 @@ fn is_text(text: &[u8], elements: &[Element]) -> bool
 
 /// The number of the version that elements state, in a table.
 fn version_in(table: &[(&str, u16)], elements: &[Element]) -> u16
-    ensures { result ≡ unwrap_or (option_map (λ (row : List ℕ × ℕ). row.1) (find (λ (row : List ℕ × ℕ). same_value (value_elements row.0) elements.now) (map (λ row. (row.0.now, row.1)) table.now))) 0x0A00 }
+    ensures { result ≡ unwrap_or (option_map (λ (row : List ℕ × ℕ). row.1) (find (λ (row : List ℕ × ℕ). same_value (value_elements row.0) elements.now) (map (λ row. (row.0.now, row.1)) table.now))) OWN_VERSION }
 {
     for row in table {
         if is_text(row.0.as_bytes(), elements) {
@@ -55,7 +42,7 @@ pub fn version_of(stores: &[Store]) -> u16
 {
     for store in stores {
         if store.system == VERSION {
-            return version_in(&VERSIONS, store.elements.as_slice());
+            return version_in(file_versions(), store.elements.as_slice());
         }
     }
     OWN_VERSION
