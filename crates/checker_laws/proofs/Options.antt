@@ -19,14 +19,11 @@ use Rattle.rule_model.specs.Naming.{stores_of, rule_items, all_rules}
 use Rattle.rule_model.specs.Src.{pattern_uses, output_uses, rule_uses, group_uses, numbers_named, src_options, is_plain, is_on_match, is_on_nomatch}
 use Rattle.rule_model.specs.Tab.{with_options}
 use Rattle.compile_laws.specs.WellNamed.{is_fixed}
+use Rattle.compile_laws.proofs.Options.{any_flat_map}
 use Rattle.store_table.specs.Names.{is_named}
 use Rattle.store_table.specs.Known.{known, option_named, rule_options}
 use Rattle.item_checker.specs.Items.{is_option}
 use Rattle.virtual_keys.proofs.NamePlaces.{position_cons, some_place}
-
-any_flat_map : {X Y : Type 0} (q : Y → Bool) (f : X → List Y) (xs : List X) → list_any q (flat_map f xs) ≡ list_any (λ x. list_any q (f x)) xs
-any_flat_map q f [] = refl
-any_flat_map q f (x ∷ xs) = list_any-append q (f x) (flat_map f xs) ∙ ap (λ b. list_any q (f x) || b) (any_flat_map q f xs)
 
 -- of two tests the second holds wherever the first does
 abbrev Implies : Bool → Bool → Type 0

@@ -8,6 +8,7 @@ use Rattle.std.proofs.lemmas.List.FromFn.{length-range_with_len}
 use Rattle.kmn_base.specs.declared.items.Element.{Element}
 use Rattle.kmn_base.specs.declared.items.Element.TheVariants as element
 use Rattle.kmn_base.specs.declared.limits.TheConstants.{STORE_ELEMENTS, DEADKEYS}
+use Rattle.kmn_base.proofs.StandingItems.{listed}
 use Rattle.rule_model.specs.declared.program.SrcItem.{SrcItem}
 use Rattle.rule_model.specs.declared.program.SrcItem.TheVariants as source
 use Rattle.rule_model.specs.declared.program.StoreDef.{StoreDef}
@@ -17,7 +18,6 @@ use Rattle.kmx_format.specs.Versions.{is_version, version_text, version_numbers}
 use Rattle.kmx_format.specs.Playable.{IsPlayableStore}
 use Rattle.decompile_laws.specs.Items.{Names, back_element}
 use Rattle.decompile_laws.specs.Back.{back_stores, numbered, stated_marks, stated_key, mark_store, key_store}
-use Rattle.decompile_laws.proofs.OptionNames.{member-has}
 
 module _ (names : SourceNames) where
   -- the elements that the items of a store statement stand for are not too many
@@ -35,7 +35,7 @@ module _ (names : SourceNames) where
   pub version_short : (version : ℕ) → is_version version ≡ true → length (flat_map (item_elements names []) (map source.Char (version_text version))) ≤ STORE_ELEMENTS
   version_short version is =
       let count = singles source.Char (λ c. refl) (version_text version) in
-      let few = member-has (λ (v : ℕ). length (version_text v) ≤ 4)
+      let few = listed (λ (v : ℕ). length (version_text v) ≤ 4)
       version_numbers version
       (three, (three, (three, (three, (four, (four, (four, (four, (four, tt))))))))) is in
       omega (arith, count, few)

@@ -7,6 +7,7 @@ use Rattle.std.proofs.lemmas.Bool.{or_parts, not-false, not_from_true, and_right
 use Rattle.kmn_base.specs.declared.codes.Code.TheVariants.{C12, C13, C14, C25}
 use Rattle.kmn_base.specs.declared.items.Element.{Element}
 use Rattle.kmn_base.specs.declared.items.Element.TheVariants as element
+use Rattle.kmn_base.proofs.StandingItems.{listed}
 use Rattle.rule_model.specs.declared.program.SrcItem.{SrcItem}
 use Rattle.rule_model.specs.declared.program.SrcItem.TheVariants as source
 use Rattle.rule_model.specs.declared.program.StoreDef.{StoreDef}
@@ -17,7 +18,6 @@ use Rattle.item_checker.specs.Items.{is_option, is_no_character, is_left_out, is
 use Rattle.decompile_laws.specs.Items.{Names, back_element}
 use Rattle.decompile_laws.specs.Names.{written_ids}
 use Rattle.decompile_laws.specs.Back.{numbered, stated_marks, stated_key, mark_store, key_store, version_store}
-use Rattle.decompile_laws.proofs.OptionNames.{member-has}
 use Rattle.decompile_causes.specs.Causes.{is_unspelled_system}
 use Rattle.decompile_causes.proofs.UnrefusedRules.{no-else, no-broken}
 
@@ -38,7 +38,7 @@ module _ (known : Known) where
   -- the version of a file is one that a source can state
   pub version_fine : (version line : ℕ) → is_version version ≡ true → IsFineStore (version_store version line)
   version_fine version line is =
-      member-has (λ (v : ℕ). IsFineStore (version_store v line))
+      listed (λ (v : ℕ). IsFineStore (version_store v line))
       version_numbers version
       (refl, (refl, (refl, (refl, (refl, (refl, (refl, (refl, (refl, tt))))))))) is
 
@@ -134,7 +134,7 @@ module _ (known : Known) where
 
     pub system_fine : (system : ℕ) (name : List ℕ) (es : List Element) → list_any (nat_eq system) written_ids ≡ true → SystemFine name es system
     system_fine system name es is =
-        member-has (SystemFine name es) written_ids system (
+        listed (SystemFine name es) written_ids system (
           (λ line h. back-fine line 1 name es refl refl refl (λ t. (or_parts (list_any is_no_character es) false h).0)),
           (
             (λ line h. back-fine line 2 name es refl refl refl (λ t. unwanted t)),

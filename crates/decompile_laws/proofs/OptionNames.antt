@@ -15,15 +15,6 @@ use Rattle.rule_model.specs.Tab.{tab_options, pattern_options, output_options, r
 use Rattle.decompile_laws.specs.Names.{named_by_pattern, named_by_output, named_by_rule, named_by_group, named_stores}
 use Rattle.decompile_laws.proofs.Good.{IsNamed, IsOption}
 
--- a member of a list has what all of them have
-pub member-has : (P : ℕ → Type 0) (xs : List ℕ) (n : ℕ) → AllByRecursion P xs → list_any (nat_eq n) xs ≡ true → P n
-member-has P [] n h e = let bad : false ≡ true = e in absurd cc
-member-has P (x ∷ xs) n h e =
-    elim (nat_eq n x) as (λ b. nat_eq n x ≡ b → (b || list_any (nat_eq n) xs) ≡ true → P n) [
-      | true ↦ λ k f. subst P (sym (eqb-true n x k)) h.0
-      | false ↦ λ k f. member-has P xs n h.1 f
-    ] refl e
-
 -- options are among the stores that items name
 or-sub : (a b c d : Bool) → (a ≡ true → c ≡ true) → (b ≡ true → d ≡ true) → (a || b) ≡ true → (c || d) ≡ true
 or-sub true b c d f g h = ap (λ x. x || d) (f refl)

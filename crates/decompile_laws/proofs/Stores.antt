@@ -8,6 +8,7 @@ use Rattle.std.proofs.lemmas.Option.{same_Some}
 use Rattle.kmn_base.specs.declared.items.Element.{Element}
 use Rattle.kmn_base.specs.declared.items.Element.TheVariants as element
 use Rattle.kmn_base.specs.Names.{same_name}
+use Rattle.kmn_base.proofs.StandingItems.{listed}
 use Rattle.rule_model.specs.declared.program.StoreDef.{StoreDef}
 use Rattle.rule_model.specs.declared.tables.Store.{Store}
 use Rattle.rule_model.specs.declared.tables.Tables.{Tables}
@@ -33,7 +34,7 @@ use Rattle.decompile_laws.proofs.Numbering.{mark-number, key-number}
 use Rattle.decompile_laws.proofs.Renamed.{same_flags}
 use Rattle.decompile_laws.proofs.Uses.{groups_uses}
 use Rattle.decompile_laws.proofs.Choosing.{all_join, all_weaker}
-use Rattle.decompile_laws.proofs.OptionNames.{member-has, option-named}
+use Rattle.decompile_laws.proofs.OptionNames.{option-named}
 use Rattle.decompile_laws.proofs.FreshNames.{IsFresh, fresh-at, drop-free, all-taken}
 use Rattle.decompile_laws.proofs.FrontStores.{front-simple, numbered-simple}
 use Rattle.decompile_laws.proofs.FrontCounts.{marks-few, front-size, free-all, free-size, behind-size}
@@ -80,7 +81,7 @@ module _ (t : Tables) (p : IsPlayable t) (c : CanBeWrittenOut t) where
 
   pub ready : (n : ℕ) → IsNamed t n → Ready n
   ready n named =
-      let found = ordinary (slice_get t.stores n) (member-has (λ n. is_ordinary (slice_get t.stores n) ≡ true) (named_stores t) n (recursion_from_All (λ n. is_ordinary (slice_get t.stores n) ≡ true) (named_stores t) c.named) named) in
+      let found = ordinary (slice_get t.stores n) (listed (λ n. is_ordinary (slice_get t.stores n) ≡ true) (named_stores t) n (recursion_from_All (λ n. is_ordinary (slice_get t.stores n) ≡ true) (named_stores t) c.named) named) in
       let zero_more : 0 + n ≡ n = omega arith in
       let called = called-at (named_stores t) 0 n calls t.stores found.0 the-calls found.1 found.2 (ap (λ (k : ℕ). list_any (nat_eq k) (named_stores t)) zero_more ∙ named) in
       record {
@@ -209,8 +210,8 @@ module _ (t : Tables) (p : IsPlayable t) (c : CanBeWrittenOut t) where
       let zero_more : n ≡ 0 + n = omega arith in
       let option : IsOption t n = ap (λ (k : ℕ). list_any (nat_eq k) (tab_options t)) zero_more ∙ option_here in
       let r = ready n (option-named t n option) in
-      let own : KeepsName t n = member-has (KeepsName t) (tab_options t) n (recursion_from_All (KeepsName t) (tab_options t) c.options) option in
-      let chars : has_characters t n ≡ true = member-has (λ n. has_characters t n ≡ true) (tab_options t) n (recursion_from_All (λ n. has_characters t n ≡ true) (tab_options t) c.option_elements) option in
+      let own : KeepsName t n = listed (KeepsName t) (tab_options t) n (recursion_from_All (KeepsName t) (tab_options t) c.options) option in
+      let chars : has_characters t n ≡ true = listed (λ n. has_characters t n ≡ true) (tab_options t) n (recursion_from_All (λ n. has_characters t n ≡ true) (tab_options t) c.option_elements) option in
       let elements : elements_of t.stores n ≡ store.elements = ap store_elements at in (
         same_Some call (Some r.name) (sym call_at ∙ r.at) ∙ ap (λ (x : List ℕ). Some x) (sym r.called ∙ own store at),
         same-characters store.elements (ap (list_all (λ (e : Element). is_some (element_char e))) (sym elements) ∙ chars),

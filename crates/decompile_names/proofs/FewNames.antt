@@ -51,10 +51,6 @@ words-few : (parts : List (List ℕ)) → 2 * words_among parts ≤ taken parts
 words-few [] = omega arith
 words-few (part ∷ parts) = let one = one-few part in omega (arith, one)
 
-onto-taken : (b : ℕ) (parts : List (List ℕ)) → taken (onto_first b parts) ≡ taken_begun parts
-onto-taken b [] = omega arith
-onto-taken b (part ∷ parts) = omega arith
-
 onto-begun : (b : ℕ) (parts : List (List ℕ)) → taken_begun (onto_first b parts) ≡ taken_begun parts
 onto-begun b [] = omega arith
 onto-begun b (part ∷ parts) = omega arith

@@ -11,6 +11,7 @@ use Rattle.play_script.specs.Answers.{Leaves, Answers}
 use Rattle.play_script.specs.Lines.{text_lines, without_mark}
 use Rattle.play_script.specs.declared.errors.ScriptError.{ScriptError}
 use Rattle.play_script.specs.declared.errors.ScriptError.TheVariants as error
+use Rattle.play_script.proofs.TextLaws.{form_kept, form_broken}
 use Rattle.host_script.specs.declared.script.HostScript.{HostScript}
 use Rattle.host_script.specs.HostEntries.{breaks, with_line, with_lines, first_script, host_entries}
 
@@ -25,16 +26,6 @@ pub refused_line : (error : ScriptError) (first : Result HostScript Refusal) (ne
 refused_line error.Memory first next whole after is e = tt
 refused_line (error.Refused refusal) first next whole after is e =
     ap (λ all. and_then all (λ script. Ok script.entries)) (sym e ∙ ap (λ s. and_then s next) is)
-
-form_kept : {A : Type 0} (over form : Bool) (long other read : A) → over ≡ false → form ≡ true → (if over then long else (if not form then other else read)) ≡ read
-form_kept true form long other read is ok = absurd (cc)
-form_kept false true long other read is ok = refl
-form_kept false false long other read is ok = absurd (cc)
-
-form_broken : {A : Type 0} (over form : Bool) (long other read : A) → over ≡ false → ¬ (form ≡ true) → (if over then long else (if not form then other else read)) ≡ other
-form_broken true form long other read is ok = absurd (cc)
-form_broken false true long other read is ok = absurd (ok refl)
-form_broken false false long other read is ok = refl
 
 -- a script that is UTF-8 is read by its lines, and no other is
 pub script_text : (dictionary : List (List ℕ)) (bytes : List ℕ) → nat_lt TEXT_BYTES (length bytes) ≡ false → IsUtf8 bytes

@@ -4,6 +4,7 @@ use Rattle.std.specs.Prelude.{◌||◌, ◌&&◌, nat_le, flat_map, find, option
 use Rattle.std.specs.List.{list_any, list_all}
 use Rattle.std.specs.Str.{bytes_eq}
 use Rattle.std.proofs.lemmas.Bool.Decides.{nat_tests}
+use Rattle.std.proofs.lemmas.Bool.{and_parts}
 use Rattle.kmn_base.specs.declared.items.Element.{Element}
 use Rattle.kmn_base.specs.declared.items.Element.TheVariants as element
 use Rattle.kmn_base.specs.Names.{same_name}
@@ -105,14 +106,6 @@ front_text (suc n) (a ∷ text) (element.Char c ∷ elements) short all =
 front_text n (a ∷ text) (element.Mark mark ∷ elements) short all = grind (arith, all)
 front_text n (a ∷ text) (element.Key flags code ∷ elements) short all = grind (arith, all)
 
-first_of_both : (a b : Bool) → (a && b) ≡ true → a ≡ true
-first_of_both true b h = refl
-first_of_both false b h = h
-
-second_of_both : (a b : Bool) → (a && b) ≡ true → b ≡ true
-second_of_both true b h = h
-second_of_both false b h = grind (arith, h)
-
 abbrev is_short : List ℕ × ℕ → Bool
 is_short row = nat_le (length row.0) 4
 
@@ -124,8 +117,9 @@ texts : (rows : List (List ℕ × ℕ)) (elements : List Element) → list_any i
     → list_any (λ row. same_value (value_elements row.0) elements) rows ≡ list_any (λ row. bytes_eq row.0 (front_of elements)) rows
 texts [] elements all short = refl
 texts (row ∷ rows) elements all short =
-    let first = short_text row.0 elements (first_of_both (is_short row) (list_all is_short rows) short) all in
-    let others = texts rows elements all (second_of_both (is_short row) (list_all is_short rows) short) in
+    let both = and_parts (is_short row) (list_all is_short rows) short in
+    let first = short_text row.0 elements both.0 all in
+    let others = texts rows elements all both.1 in
     λ j. first j || others j
 
 system_text : (system : ℕ) (elements : List Element) → list_any is_no_character elements ≡ false → is_system_text system elements ≡ is_system_front system (front_of elements)

@@ -11,7 +11,7 @@ use Rattle.kmn_base.specs.Spelling.{spelling, IsSpellable, unit_bytes, whole_uni
 use Rattle.kmn_base.proofs.UnitBytes.{unit_bytes-append}
 use Rattle.kmn_base.proofs.Spelling.{spellings_are_short}
 use Rattle.kmn_base.proofs.Faults.{spelled_item_is_no_fault}
-use Rattle.kmn_base.proofs.FirstFaults.{spelled_through_or_bad}
+use Rattle.kmn_base.proofs.FirstFaults.{spelled_through_or_bad, spelled-cons}
 use Rattle.item_codec.specs.Laws.{SpelledIsReadAgain, SpelledGivesItsItems, BadGivesItsFault, GivenFaultIsBad, ItemsHaveOneSpelling}
 use Rattle.kmn_base.specs.FirstItem.{first_item}
 use Rattle.item_codec.specs.Walk.{spelled_size, results_at, results_from, items_given, results_of}
@@ -61,10 +61,6 @@ pub fault_comes : (at : ℕ) (bytes : List ℕ) (kind : BadKind) (code : ℕ) �
 fault_comes at [] kind code is = absurd (cc)
 fault_comes at (byte ∷ bytes) kind code is =
     ap (λ fault. results_at (λ passed. results_from passed (at + 1) bytes) at fault (first_item (whole_units (byte ∷ bytes)))) is
-
-spelled-cons : (i : UnitItem) (items : List UnitItem) (rest : List ℕ)
-    → unit_bytes (flat_map spelling (i ∷ items)) ++ rest ≡ unit_bytes (spelling i) ++ (unit_bytes (flat_map spelling items) ++ rest)
-spelled-cons i items rest = ap (λ bs. bs ++ rest) (unit_bytes-append (spelling i) (flat_map spelling items)) ∙ append_assoc (unit_bytes (spelling i)) (unit_bytes (flat_map spelling items)) rest
 
 length-cons : (i : UnitItem) (items : List UnitItem)
     → length (unit_bytes (flat_map spelling (i ∷ items))) ≡ spelled_size i + length (unit_bytes (flat_map spelling items))

@@ -36,7 +36,7 @@ a_fault_begins_with_none bytes fault is item rest h e =
     cc
 
 -- the bytes of an item, and then those of the others
-spelled-cons : (i : UnitItem) (items : List UnitItem) (rest : List ℕ)
+pub spelled-cons : (i : UnitItem) (items : List UnitItem) (rest : List ℕ)
     → unit_bytes (flat_map spelling (i ∷ items)) ++ rest ≡ unit_bytes (spelling i) ++ (unit_bytes (flat_map spelling items) ++ rest)
 spelled-cons i items rest = ap (λ bs. bs ++ rest) (unit_bytes-append (spelling i) (flat_map spelling items)) ∙ append_assoc (unit_bytes (spelling i)) (unit_bytes (flat_map spelling items)) rest
 

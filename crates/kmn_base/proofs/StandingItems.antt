@@ -34,7 +34,7 @@ abbrev three_codes : List ℕ
 three_codes = 0x0A ∷ 0x14 ∷ 0x17 ∷ []
 
 -- what holds of each number of a list holds of one that the test finds in it
-listed : (P : ℕ → Type 0) (codes : List ℕ) (code : ℕ) → AllByRecursion P codes → list_any (nat_eq code) codes ≡ true → P code
+pub listed : (P : ℕ → Type 0) (codes : List ℕ) (code : ℕ) → AllByRecursion P codes → list_any (nat_eq code) codes ≡ true → P code
 listed P [] code h e = absurd (cc)
 listed P (c ∷ codes) code h e = elim (cases_Bool (nat_eq code c)) [
   | inl same ↦ subst P (sym (eqb-true code c same)) h.0

@@ -1,6 +1,6 @@
 -- The statements of a source stand in the order of their lines, each in a line of its own.
 use Rattle.std.proofs.Common.{◌≡◌, ℕ, ◌+◌, ◌==◌, ◌<◌, ◌≤◌, Bool, true, false, not, ◌||◌, ◌&&◌, if◌then◌else◌, nat_eq, nat_lt, List, [], ◌∷◌, ◌++◌, drop, length, Option, None, Some, Result, Ok, Err, inl, inr, refl, sym, ap, subst, ◌∙◌, append_assoc, arith}
-use Rattle.std.proofs.lemmas.Bool.{ne_eqb}
+use Rattle.std.proofs.lemmas.Bool.{and_parts, ne_eqb}
 use Rattle.std.proofs.lemmas.Bool.Decides.{eqb_tells}
 use Rattle.std.proofs.lemmas.List.{map-append, append-nil}
 use Rattle.std.proofs.lemmas.List.Folds.{list_any-append}
@@ -101,14 +101,6 @@ pub rule_lines-open : (groups : List GroupDef) (group : GroupDef) → group.rule
 rule_lines-open [] group none = ap (λ rules. lines_of_rules rules ++ []) none
 rule_lines-open (first ∷ groups) group none = ap (λ lines. lines_of_rules first.rules ++ lines) (rule_lines-open groups group none)
 
-and-first : (a b : Bool) → (a && b) ≡ true → a ≡ true
-and-first true b both = refl
-and-first false b both = both
-
-and-second : (a b : Bool) → (a && b) ≡ true → b ≡ true
-and-second true b both = both
-and-second false b both = absurd (cc)
-
 or-last : (a b : Bool) → b ≡ false → (a || (b || false)) ≡ a
 or-last true b none = refl
 or-last false b none = λ j. none j || false
@@ -121,25 +113,25 @@ own-push [] rule below own = refl
 own-push (first ∷ rules) rule (here, below) own =
     let other : nat_eq rule.line first.line ≡ false = ne_eqb rule.line first.line (λ e. omega (arith, here, e)) in
     let same = list_any-append (at_line_of first) rules (rule ∷ []) ∙ or-last (list_any (at_line_of first) rules) (nat_eq rule.line first.line) other in
-    let rest = own-push rules rule below (and-second _ _ own) in
-    let none = and-first _ _ own in
+    let rest = own-push rules rule below (and_parts _ _ own).1 in
+    let none = (and_parts _ _ own).0 in
     (λ j. not (same j) && rest j) ∙ (λ j. none j && true)
 
 pub own-with_rule : (groups : List GroupDef) (rule : RuleDef) → AllBelow rule.line (rule_lines groups) → list_all has_own_lines groups ≡ true → list_all has_own_lines (with_rule groups rule) ≡ true
 own-with_rule [] rule below own = refl
 own-with_rule (group ∷ []) rule below own =
-    let here = own-push group.rules rule (AllBelow-front rule.line (lines_of_rules group.rules) [] below) (and-first (have_own_lines group.rules) true own) in
+    let here = own-push group.rules rule (AllBelow-front rule.line (lines_of_rules group.rules) [] below) (and_parts (have_own_lines group.rules) true own).0 in
     λ j. here j && true
 own-with_rule (group ∷ next ∷ groups) rule below own =
-    let here = and-first (have_own_lines group.rules) _ own in
-    let rest = own-with_rule (next ∷ groups) rule (AllBelow-back rule.line (lines_of_rules group.rules) (rule_lines (next ∷ groups)) below) (and-second (have_own_lines group.rules) _ own) in
+    let here = (and_parts (have_own_lines group.rules) _ own).0 in
+    let rest = own-with_rule (next ∷ groups) rule (AllBelow-back rule.line (lines_of_rules group.rules) (rule_lines (next ∷ groups)) below) (and_parts (have_own_lines group.rules) _ own).1 in
     λ j. here j && rest j
 
 pub own-open : (groups : List GroupDef) (group : GroupDef) → group.rules ≡ [] → list_all has_own_lines groups ≡ true → list_all has_own_lines (groups ++ group ∷ []) ≡ true
 own-open [] group none own = λ j. have_own_lines (none j) && true
 own-open (first ∷ groups) group none own =
-    let here = and-first (have_own_lines first.rules) _ own in
-    let rest = own-open groups group none (and-second (have_own_lines first.rules) _ own) in
+    let here = (and_parts (have_own_lines first.rules) _ own).0 in
+    let rest = own-open groups group none (and_parts (have_own_lines first.rules) _ own).1 in
     λ j. here j && rest j
 
 -- a program whose statements are in order, all before a line

@@ -12,6 +12,7 @@ use Rattle.std.proofs.lemmas.Map.Keys.{IsDistinct-head, IsDistinct-tail, IsDisti
 use Rattle.std.proofs.lemmas.Map.Made.{length-le_from_is_member}
 use Rattle.std.proofs.lemmas.Slice.Eq.{bytes_eq-Decides}
 use Rattle.kmn_base.specs.declared.limits.TheConstants.{STORE_ELEMENTS}
+use Rattle.kmn_base.proofs.StandingItems.{listed}
 use Rattle.rule_model.specs.declared.tables.Store.{Store}
 use Rattle.rule_model.specs.declared.tables.Tables.{Tables}
 use Rattle.rule_model.specs.Tab.{distinct_onto, element_char, elements_of as elements_at, tab_dictionary}
@@ -24,7 +25,6 @@ use Rattle.kmx_format.specs.Versions.{version_text, version_numbers}
 use Rattle.decompile_laws.specs.Back.{names_for}
 use Rattle.decompile_laws.specs.WrittenOut.{table_values}
 use Rattle.decompile_laws.proofs.Choosing.{all_join}
-use Rattle.decompile_laws.proofs.OptionNames.{member-has}
 use Rattle.decompile_laws.proofs.SmallMarks.{IsSmall, small_marks}
 use Rattle.decompile_causes.proofs.DictionarySizes.{total, dictionary-total}
 use Rattle.decompile_causes.proofs.ShortValues.{IsShortValue, values_short}
@@ -36,7 +36,7 @@ use Rattle.kmx_decompiler.proofs.ValueSets.{all_values}
 
 version-few : (tables : Tables) → IsPlayable tables → length (version_text tables.version) ≤ 4
 version-few tables can =
-    member-has (λ (v : ℕ). length (version_text v) ≤ 4)
+    listed (λ (v : ℕ). length (version_text v) ≤ 4)
     version_numbers tables.version
     (three, (three, (three, (three, (four, (four, (four, (four, (four, tt))))))))) can.version
   where

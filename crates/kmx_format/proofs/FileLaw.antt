@@ -2,6 +2,7 @@
 use Rattle.std.proofs.Common.{◌≡◌, ℕ, ◌+◌, ◌*◌, ◌/◌, ◌%◌, ◌^◌, ◌<◌, true, nat_eq, List, [], ◌∷◌, ◌++◌, length, map, refl, ap₂, ◌∙◌, length-append, arith, lit<, inl, inr}
 use Rattle.std.specs.List.{All, flat_map, list_any, AllByRecursion as ByRecursion}
 use Rattle.std.proofs.lemmas.Bool.{or_cases, eqb-true, false≢true}
+use Rattle.kmn_base.proofs.StandingItems.{listed}
 use Rattle.rule_model.specs.declared.tables.Store.{Store}
 use Rattle.rule_model.specs.declared.tables.Group.{Group}
 use Rattle.rule_model.specs.declared.tables.Tables.{Tables}
@@ -33,17 +34,9 @@ unfolding half word
 half_of_word bytes place n below h =
     half_at-stands bytes place n below (front bytes place (half n) ((n / 256 ^ 2 % 256) ∷ (n / 256 ^ 3 % 256) ∷ []) h)
 
-any_below : (n limit : ℕ) (ms : List ℕ) → ByRecursion (λ m. m < limit) ms → list_any (nat_eq n) ms ≡ true → n < limit
-any_below n limit [] h e = absurd (false≢true e)
-any_below n limit (m ∷ ms) h e =
-    elim (or_cases (nat_eq n m) (list_any (nat_eq n) ms) e) [
-      | inl here ↦ omega (arith, eqb-true n m here, h.0)
-      | inr behind ↦ any_below n limit ms h.1 behind
-    ]
-
 pub version-small : (version : ℕ) → is_version version ≡ true → version < 2 ^ 16
 version-small version h =
-    any_below version (2 ^ 16) version_numbers
+    listed (λ m. m < 2 ^ 16) version_numbers version
     (lit< tt, (lit< tt, (lit< tt, (lit< tt, (lit< tt, (lit< tt, (lit< tt, (lit< tt, (lit< tt, tt))))))))) h
 
 -- an array that has records stands at its offset

@@ -3,16 +3,10 @@ use Rattle.std.proofs.Common.{◌≡◌, ◌≢◌, ℕ, ◌+◌, ◌*◌, ◌/�
 use Rattle.std.specs.List.{All}
 use Rattle.std.proofs.lemmas.List.Elements.{All-head, All-tail}
 use Rattle.kmn_base.specs.Spelling.{unit_bytes, whole_units}
+use Rattle.kmn_base.proofs.UnitBytes.{whole_units-unit_bytes}
 use Rattle.kmx_format.specs.File.{string, offset_of}
 use Rattle.kmx_format.specs.TablesOf.{before_zero, string_at}
 use Rattle.kmx_format.proofs.FileStands.{StandsAt}
-
--- units as bytes are whole units again, whatever bytes follow
-pub whole_units-append : (units rest : List ℕ) → whole_units (unit_bytes units ++ rest) ≡ units ++ whole_units rest
-whole_units-append [] rest = refl
-whole_units-append (unit ∷ units) rest =
-    let joined : unit % 256 + 256 * (unit / 256) ≡ unit = omega arith in
-    rw (joined, whole_units-append units rest) refl
 
 pub before_zero-append : (units rest : List ℕ) → All (λ unit. unit ≢ 0) units → before_zero (units ++ 0 ∷ rest) ≡ units
 before_zero-append [] rest h = refl
@@ -30,6 +24,6 @@ string_at-stands bytes place (unit ∷ units) positive nonzero h =
     h.is ∙ append_assoc (unit_bytes (unit ∷ units)) (unit_bytes (0 ∷ [])) h.rest in
     let read : before_zero (whole_units (drop place bytes)) ≡ unit ∷ units =
     ap (λ bs. before_zero (whole_units bs)) parts
-    ∙ ap before_zero (whole_units-append (unit ∷ units) (unit_bytes (0 ∷ []) ++ h.rest))
+    ∙ ap before_zero (whole_units-unit_bytes (unit ∷ units) (unit_bytes (0 ∷ []) ++ h.rest))
     ∙ before_zero-append (unit ∷ units) (whole_units h.rest) nonzero in
     rw test read

@@ -12,6 +12,7 @@ use Rattle.kmn_base.specs.declared.items.Element.TheVariants as element
 use Rattle.kmn_base.specs.declared.limits.TheConstants.{FILE_NAME_UNITS, CONTEXT_ITEMS}
 use Rattle.kmn_base.specs.declared.units.UnitItem.{UnitItem}
 use Rattle.kmn_base.specs.Spelling.{char_units, IsSpellable, unit_bytes, whole_units}
+use Rattle.kmn_base.proofs.UnitBytes.{whole_units-unit_bytes}
 use Rattle.item_codec.specs.Walk.{results_of}
 use Rattle.item_codec.proofs.Results.{spelled_gives_its_items}
 use Rattle.rule_model.specs.declared.tables.Pat.{Pat}
@@ -24,7 +25,7 @@ use Rattle.kmx_format.specs.TablesOf.{word_at, string_at, items_of}
 use Rattle.kmx_format.specs.Writable.{stores_of_pattern, stores_of_output, groups_of_output, has_system_id, sets_system_id, needs_context, PointsBack, PointsInto, PointsTo, is_any, is_matched, IsWritableName, IsWritableContext}
 use Rattle.kmx_format.proofs.FileContents.{units-nonzero}
 use Rattle.kmx_format.proofs.FileStands.{StandsAt}
-use Rattle.kmx_format.proofs.FileStrings.{whole_units-append, string_at-stands}
+use Rattle.kmx_format.proofs.FileStrings.{string_at-stands}
 use Rattle.kmx_format.proofs.FileItems.{item_units-nonzero, items_of-item_units}
 use Rattle.kmx_parts.specs.View.{has_zero, is_ended, store_count, group_count}
 use Rattle.kmx_verifier.specs.declared.faults.StringKind.{StringKind}
@@ -50,7 +51,7 @@ is_ended-stands bytes place (unit ∷ units) h =
     let parts : drop place bytes ≡ unit_bytes (unit ∷ units) ++ (unit_bytes (0 ∷ []) ++ h.rest) =
     h.is ∙ append_assoc (unit_bytes (unit ∷ units)) (unit_bytes (0 ∷ [])) h.rest in
     or_right (nat_eq place 0) (has_zero (whole_units (drop place bytes)))
-    (ap (λ bs. has_zero (whole_units bs)) parts ∙ ap has_zero (whole_units-append (unit ∷ units) (unit_bytes (0 ∷ []) ++ h.rest))
+    (ap (λ bs. has_zero (whole_units bs)) parts ∙ ap has_zero (whole_units-unit_bytes (unit ∷ units) (unit_bytes (0 ∷ []) ++ h.rest))
     ∙ has_zero-behind (unit ∷ units) (whole_units h.rest))
 
 -- ---- names

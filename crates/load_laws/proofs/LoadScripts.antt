@@ -16,6 +16,7 @@ use Rattle.load_maker.specs.Loads.{press_lines}
 use Rattle.play_script.specs.Entries.{Script, entries, entries_of, first_script, line_found, lines_found, with_entry, with_found}
 use Rattle.play_script.specs.Found.{Found, Reads}
 use Rattle.play_script.specs.Lines.{text_lines, without_mark}
+use Rattle.play_script.proofs.TextLaws.{form_kept}
 use Rattle.load_laws.specs.Keyboards.{press_a, press_space, presses}
 use Rattle.load_laws.specs.Scripts.{press_entries, ScriptsAreRead}
 
@@ -118,16 +119,11 @@ unmarked : (count : ℕ) → without_mark (lines_of count) ≡ lines_of count
 unmarked zero = refl
 unmarked (suc count) = refl
 
-kept : {A : Type 0} (over form : Bool) (long other read : A) → over ≡ false → form ≡ true → (if over then long else (if not form then other else read)) ≡ read
-kept true form long other read is ok = absurd (cc)
-kept false true long other read is ok = refl
-kept false false long other read is ok = absurd (cc)
-
 lines_read : (dictionary : List (List ℕ)) (count : ℕ) → count ≤ 2001 → entries dictionary (lines_of count) ≡ Ok (press_entries 1 count)
 unfolding entries
 lines_read dictionary count within =
     let few : length (lines_of count) ≡ 6 * count + 10 = lines_length count in
-    kept (nat_lt TEXT_BYTES (length (lines_of count))) (is_utf8 (lines_of count)) _ _ _ (grind (arith, nat_tests, few)) (is_utf8-from_IsUtf8 (lines_of count) (IsUtf8-from_ascii (lines_of count) (lines_ascii count)))
+    form_kept (nat_lt TEXT_BYTES (length (lines_of count))) (is_utf8 (lines_of count)) _ _ _ (grind (arith, nat_tests, few)) (is_utf8-from_IsUtf8 (lines_of count) (IsUtf8-from_ascii (lines_of count) (lines_ascii count)))
     ∙ ap (λ (text : List ℕ). entries_of (with_found (Ok first_script) (lines_found dictionary 1 (text_lines text)))) (unmarked count)
     ∙ ap (λ (found : List Found). entries_of (with_found (Ok first_script) found)) (all_found dictionary 1 count)
     ∙ all_read first_script 1 count (omega arith)

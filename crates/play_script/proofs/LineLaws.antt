@@ -12,6 +12,7 @@ use Rattle.kmn_base.specs.declared.codes.Code.TheVariants.{P03, P08}
 use Rattle.kmn_base.specs.declared.events.Event.TheVariants as event
 use Rattle.kmn_base.specs.declared.keys.KeyPress.{KeyPress}
 use Rattle.kmn_base.specs.declared.refusals.Refusal.{Refusal}
+use Rattle.virtual_keys.proofs.PositionLemmas.{not_below}
 use Rattle.rule_model.specs.declared.script.Entry.TheVariants.{Act}
 use Rattle.play_script.specs.Found.{Found, Reads, Breaks}
 use Rattle.play_script.specs.Lines.{text_lines}
@@ -30,10 +31,6 @@ pieces_parted text at is =
     let front : All (λ b. is_closing b ≡ false) (take at text) = λ k d l. let h = found.2 k in grind (arith, common_steps) in
     let behind : take (length text - (at + 1)) (drop (at + 1) text) ≡ drop (at + 1) text = take_all _ (drop (at + 1) text) (omega (arith, length-drop (at + 1) text)) in
     ap (slice_split is_closing) parts ∙ slice_split_at is_closing (take at text) (get_or text at 0) (drop (at + 1) text) front found.1 ∙ ap (λ l. take at text ∷ slice_split is_closing l) (sym behind)
-
--- a number that is not below another
-not_below : (a n : ℕ) → cond (nat_lt a n) (Some a) None ≡ None → n ≤ a
-not_below a n is = grind (arith, nat_tests)
 
 -- where there is none, the text is the one piece
 pub piece_alone : (text : List ℕ) → position is_closing text ≡ None → slice_split is_closing text ≡ text ∷ []

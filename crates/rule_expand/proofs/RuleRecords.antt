@@ -20,13 +20,10 @@ use Rattle.rule_model.specs.Naming.{elements_named}
 use Rattle.rule_model.specs.Src.{is_plain}
 use Rattle.compile_laws.specs.Numbers.{Numbers}
 use Rattle.compile_laws.specs.Compiles.{has_halves, half_key, file_record, key_records, records_from, own_key, keyed_records, rule_records}
+use Rattle.item_checker.proofs.FoundKeys.{passes_at}
 use Rattle.rule_expand.specs.Groups.{is_unit_element, are_unit_elements, has_unit_key, have_unit_keys, plain_records}
 use Rattle.rule_expand.specs.Pieces.{template_of, template_record, template_halves, template_records, template_keyed}
 use Rattle.rule_expand.proofs.PieceLaws.{pieces_put}
-
--- what stands in a list whose items all pass passes
-pub passes_at : {X : Type 0} (p : X → Bool) (xs : List X) (i : ℕ) (x : X) → list_all p xs ≡ true → i < length xs → x ≡ get_or xs i x → p x ≡ true
-passes_at p xs i x all h e = subst (λ y. p y ≡ true) (sym e) (AllPass-from_list_all p xs all i x h)
 
 -- an element of a key store stands for a key of one unit, at a place of 31 bits
 pub unit_at : (elements : List Element) (i : ℕ) (e : Element) → are_unit_elements elements ≡ true → i < length elements → e ≡ get_or elements i e → is_unit_element e ≡ true

@@ -19,7 +19,7 @@ use Rattle.virtual_keys.specs.Fits.{is_plain}
 use Rattle.rule_model.specs.KeyEvent.{begin_event, after_key}
 use Rattle.rule_model.specs.Event.{State, whole_text, text_becomes, editor_left, editor_right, by_editor, after_press, has_name, set_option, caret_event, moved_caret, edited_text, edit_event, edit_refusal, happening}
 use Rattle.rule_model.specs.StepLaws.{PressAddsWhatItPuts, EventKeepsTextInBounds, StepsKeepTextInBounds}
-use Rattle.rule_model.proofs.Insertions.{characters-one}
+use Rattle.rule_model.proofs.Insertions.{characters-one, length-put}
 use Rattle.rule_model.proofs.Kept.{IsKept, after_key_keeps}
 use Rattle.rule_model.proofs.Steps.{trace_keeps}
 use Rattle.rule_model.proofs.Budget.{press_is_within_budget}
@@ -28,8 +28,7 @@ use Rattle.rule_model.proofs.Budget.{press_is_within_budget}
 
 put_adds_one : (items : List Item) (x : Item) → length (characters (put items x)) ≤ length (characters items) + 1
 put_adds_one items x =
-    let parts : characters (put items x) ≡ characters items ++ characters (x ∷ []) = characters_of_put items x ∙ characters-append items (x ∷ []) in
-    let counts : length (characters (put items x)) ≡ length (characters items) + length (characters (x ∷ [])) = ap length parts ∙ length-append (characters items) (characters (x ∷ [])) in
+    let counts : length (characters (put items x)) ≡ length (characters items) + length (characters (x ∷ [])) = length-put items x in
     omega (arith, characters-one x)
 
 taking_adds_none : (n : ℕ) (items : List Item) → length (characters (without_last n items)) ≤ length (characters items)

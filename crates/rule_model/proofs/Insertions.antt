@@ -39,12 +39,18 @@ pub characters-one : (x : Item) → length (characters (x ∷ [])) ≤ 1
 characters-one (Char c) = omega arith
 characters-one (Mark m) = omega arith
 
+-- a put adds the characters of its item
+pub length-put : (items : List Item) (x : Item) → length (characters (put items x)) ≡ length (characters items) + length (characters (x ∷ []))
+length-put items x =
+    let parts : characters (put items x) ≡ characters items ++ characters (x ∷ []) = characters_of_put items x ∙ characters-append items (x ∷ []) in
+    ap length parts ∙ length-append (characters items) (characters (x ∷ []))
+
 after_put : (old : List ℕ) (x : Item) (s : EventState) → Inserts old s.left s.put → Inserts old (put s.left x) (s.put + 1)
 after_put old x s h =
     let text : List ℕ = characters s.left in
     let more : List ℕ = characters (x ∷ []) in
     let parts : characters (put s.left x) ≡ text ++ more = characters_of_put s.left x ∙ characters-append s.left (x ∷ []) in
-    let counts : length (characters (put s.left x)) ≡ length text + length more = ap length parts ∙ length-append text more in
+    let counts : length (characters (put s.left x)) ≡ length text + length more = length-put s.left x in
     record {
       kept = h.kept;
       within_old = h.within_old;

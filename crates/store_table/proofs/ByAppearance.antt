@@ -43,7 +43,7 @@ next_rule appeared stores rules i rule more h e =
     ∙ items_append appeared (store_items (stores_before rule.line stores)) (rule_items rule ++ after)
     ∙ items_append (with_items appeared (store_items (stores_before rule.line stores))) (rule_items rule) after
 
-marks_append : (marks xs ys : List (List ℕ)) → with_marks marks (xs ++ ys) ≡ with_marks (with_marks marks xs) ys
+pub marks_append : (marks xs ys : List (List ℕ)) → with_marks marks (xs ++ ys) ≡ with_marks (with_marks marks xs) ys
 marks_append marks [] ys = refl
 marks_append marks (x ∷ xs) ys = marks_append (with_name marks x) xs ys
 

@@ -137,12 +137,6 @@ module _ {X : Type 0} (layer_in : X → Layer) (eq : X → X → Bool) (same : (
   pub is_new : (xs : List X) (x : X) (new : Bool) → new ≡ not (list_any (eq x) xs) → new ≡ not (list_any (is_equal_layer (layer_in x)) (map layer_in xs))
   is_new xs x new is = is ∙ ap not (among_mapped x xs)
 
-  pub new_last : (xs now : List X) (x : X) (new : Bool) → new ≡ not (list_any (eq x) xs) → now ≡ insert_key eq xs x → new ≡ true → map layer_in now ≡ map layer_in xs ++ layer_in x ∷ []
-  new_last xs now x new is put h =
-      ap (map layer_in) put
-      ∙ ap (λ b. map layer_in (if b then xs else xs ++ x ∷ [])) (not-true (list_any (eq x) xs) (sym is ∙ h))
-      ∙ map-append layer_in xs (x ∷ [])
-
 same_either_way : (a b : ℕ) → nat_eq a b ≡ nat_eq b a
 same_either_way a b = grind (arith, nat_tests)
 

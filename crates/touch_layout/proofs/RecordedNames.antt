@@ -12,24 +12,21 @@ use Rattle.rule_model.specs.declared.tables.Rule.{Rule}
 use Rattle.rule_model.specs.declared.tables.Group.{Group}
 use Rattle.store_table.specs.Names.{is_named}
 use Rattle.store_table.specs.Numbering.{with_marks}
+use Rattle.store_table.proofs.ByAppearance.{marks_append}
 use Rattle.virtual_keys.proofs.NamePlaces.{some_place}
 use Rattle.touch_layout.specs.Ids.{recorded_name, rule_names, recorded_names}
-
-names_append : (names xs ys : List (List ℕ)) → with_marks names (xs ++ ys) ≡ with_marks (with_marks names xs) ys
-names_append names [] ys = refl
-names_append names (x ∷ xs) ys = names_append (with_name names x) xs ys
 
 pub next_rule : (dictionary names : List (List ℕ)) (rules : List Rule) (i : ℕ) (rule : Rule) → i < length rules → rule ≡ get_or rules i rule
     → with_marks names (rule_names dictionary (drop i rules)) ≡ with_marks (with_marks names (recorded_name dictionary rule.key)) (rule_names dictionary (drop (i + 1) rules))
 next_rule dictionary names rules i rule h e =
     ap (λ (rs : List Rule). with_marks names (rule_names dictionary rs)) (drop_more rules i rule h ∙ ap (λ (r : Rule). r ∷ drop (i + 1) rules) (sym e))
-    ∙ names_append names (recorded_name dictionary rule.key) (rule_names dictionary (drop (i + 1) rules))
+    ∙ marks_append names (recorded_name dictionary rule.key) (rule_names dictionary (drop (i + 1) rules))
 
 pub next_group : (dictionary names : List (List ℕ)) (groups : List Group) (i : ℕ) (group : Group) → i < length groups → group ≡ get_or groups i group
     → with_marks names (recorded_names dictionary (drop i groups)) ≡ with_marks (with_marks names (rule_names dictionary group.rules)) (recorded_names dictionary (drop (i + 1) groups))
 next_group dictionary names groups i group h e =
     ap (λ (gs : List Group). with_marks names (recorded_names dictionary gs)) (drop_more groups i group h ∙ ap (λ (g : Group). g ∷ drop (i + 1) groups) (sym e))
-    ∙ names_append names (rule_names dictionary group.rules) (recorded_names dictionary (drop (i + 1) groups))
+    ∙ marks_append names (rule_names dictionary group.rules) (recorded_names dictionary (drop (i + 1) groups))
 
 pub or_false : (b : Bool) → (b || false) ≡ b
 or_false true = refl

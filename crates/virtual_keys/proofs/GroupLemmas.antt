@@ -8,6 +8,7 @@ use Rattle.std.proofs.lemmas.List.Sums.{fails_before_first}
 use Rattle.std.proofs.lemmas.List.Splits.{slice_split_at, slice_split_none}
 use Rattle.std.specs.List.{All, position, position_or_len}
 use Rattle.virtual_keys.specs.Dictionary.{groups, is_parting}
+use Rattle.virtual_keys.proofs.PositionLemmas.{not_below}
 
 -- the first group ends at the first _, and the others are those of the bytes behind it
 pub groups_parted : (text : List ℕ) (at : ℕ) → position is_parting text ≡ Some at → groups text ≡ take at text ∷ groups (take (length text - (at + 1)) (drop (at + 1) text))
@@ -17,10 +18,6 @@ groups_parted text at is =
     let front : All (λ b. is_parting b ≡ false) (take at text) = λ k d l. let h = found.2 k in grind (arith, common_steps) in
     let behind : take (length text - (at + 1)) (drop (at + 1) text) ≡ drop (at + 1) text = take_all _ (drop (at + 1) text) (omega (arith, length-drop (at + 1) text)) in
     ap groups parts ∙ slice_split_at is_parting (take at text) (get_or text at 0) (drop (at + 1) text) front found.1 ∙ ap (λ l. take at text ∷ groups l) (sym behind)
-
--- a number that is not below another
-not_below : (a n : ℕ) → cond (nat_lt a n) (Some a) None ≡ None → n ≤ a
-not_below a n is = grind (arith, nat_tests)
 
 -- where there is none, the text is the one group
 pub groups_alone : (text : List ℕ) → position is_parting text ≡ None → groups text ≡ text ∷ []

@@ -31,7 +31,8 @@ position-same p q xs same =
     let places = prefix_len-same p q xs same in
     λ j. cond (nat_lt (places j) (length xs)) (Some (places j)) None
 
-not_below : (a n : ℕ) → cond (nat_lt a n) (Some a) None ≡ None → n ≤ a
+-- a number that is not below another
+pub not_below : (a n : ℕ) → cond (nat_lt a n) (Some a) None ≡ None → n ≤ a
 not_below a n is = grind (arith, nat_tests)
 
 -- where there is no such place, no item passes
