@@ -1,11 +1,11 @@
 -- The numbers that calls answer.
 use Rattle.std.specs.Prelude.{◌≡◌, ℕ, zero, suc, Bool, not, nat_eq, Option, Some, None, MatchBool}
 use Rattle.play_session.specs.Session.{SessionState}
-use Rattle.kmx_verifier.specs.declared.faults.Fault as file
+use Rattle.kmx_verifier.specs.declared.faults.Fault.{Fault}
 use Rattle.call_numbers.specs.Numbers.{rule_number}
 use Rattle.curlew_calls.specs.declared.errors.CallError.{CallError}
 use Rattle.curlew_calls.specs.declared.errors.CallError.TheVariants.{Memory, Place, Length, Character, NoOption}
-use Rattle.curlewmetal.specs.declared.answers.Fault.{Fault}
+use Rattle.curlewmetal.specs.declared.answers.FaultNumbers.{FaultNumbers}
 use Rattle.curlewmetal.specs.declared.answers.TheConstants.{MEMORY, PLACE, LENGTH, CHARACTER, NONE, CLOSED}
 
 abbrev pub error_number : CallError → ℕ
@@ -16,7 +16,7 @@ error_number Character = CHARACTER
 error_number NoOption = NONE
 
 -- a fault of a file, its rule as a number
-abbrev pub fault_numbers : file.Fault → Fault
+abbrev pub fault_numbers : Fault → FaultNumbers
 fault_numbers fault = record { rule = rule_number fault.code; at = fault.at; unit = fault.unit }
 
 -- a number that is asked as a truth: 0 is no

@@ -4,7 +4,7 @@ ghost use Rattle.std.specs.Prelude.{◌≡◌};
 ghost use Rattle.curlewmetal.specs.Answers.{error_number, fault_numbers};
 
 use curlew_calls::{CallError, rule_number};
-use kmx_verifier::Fault as FileFault;
+use kmx_verifier::Fault;
 
 /// The call was done.
 pub const OK: u32 = 0;
@@ -26,7 +26,7 @@ pub const NONE: u32 = 7;
 /// What is wrong with a file.
 #[repr(C)]
 #[derive(Clone, Copy, Debug, PartialEq, Eq)]
-pub struct Fault {
+pub struct FaultNumbers {
     /// The rule that the file breaks: 14 is V14.
     pub rule: u32,
     /// The byte at which it breaks it.
@@ -49,10 +49,10 @@ pub(crate) fn error_number(error: &CallError) -> u32
 }
 
 /// A fault as numbers.
-pub(crate) fn fault_numbers(fault: FileFault) -> Fault
+pub(crate) fn fault_numbers(fault: Fault) -> FaultNumbers
     ensures { result ≡ fault_numbers fault }
 {
-    Fault {
+    FaultNumbers {
         rule: rule_number(fault.code),
         at: fault.at,
         unit: u32::from(fault.unit),

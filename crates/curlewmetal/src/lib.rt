@@ -14,5 +14,5 @@ mod options;
 mod parts;
 mod texts;
 
-pub use answers::Fault;
+pub use answers::FaultNumbers;
 pub use field::{Field, Opaque};

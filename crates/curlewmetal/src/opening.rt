@@ -7,7 +7,7 @@ ghost use Rattle.play_session.specs.Session.{first_session};
 ghost use Rattle.curlewmetal.specs.Answers.{UnlessMemory, fault_numbers};
 ghost use Rattle.curlewmetal.specs.declared.answers.TheConstants.{OK, REFUSED, CLOSED};
 
-use crate::answers::{CLOSED, Fault, MEMORY, OK, REFUSED, fault_numbers};
+use crate::answers::{CLOSED, FaultNumbers, MEMORY, OK, REFUSED, fault_numbers};
 use crate::field::Field;
 use curlew_calls::OpenField;
 use kmn_base::Memory;
@@ -43,7 +43,7 @@ pub extern "C" fn curlew_open(
     alloc: Global,
     field: &mut Field,
     file: &'static [u8],
-    fault: &mut Fault,
+    fault: &mut FaultNumbers,
 ) -> u32
     ensures { UnlessMemory result ((field.new.held ≡ field.old.held) × (fault.new ≡ fault.old)) (MatchOption (fault_of file.now)
         ((result ≡ OK) × (field.new.held ≡ Some (first_session (tables_of file.now))) × (fault.new ≡ fault.old))

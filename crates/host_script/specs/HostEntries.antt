@@ -15,8 +15,8 @@ use Rattle.play_script.specs.Words.{is_closing, without_blanks, first_word, behi
 use Rattle.host_script.specs.declared.entries.HostEntry.{HostEntry}
 use Rattle.host_script.specs.declared.entries.HostEntry.TheVariants.{Add, Turn, Show, Act, Expect}
 use Rattle.host_script.specs.declared.entries.TheConstants.{SCRIPT_FIELDS}
-use Rattle.host_script.specs.declared.lines.Kind.{Kind}
-use Rattle.host_script.specs.declared.lines.Kind.TheVariants as kind
+use Rattle.host_script.specs.declared.lines.HostLineKind.{HostLineKind}
+use Rattle.host_script.specs.declared.lines.HostLineKind.TheVariants as kind
 use Rattle.host_script.specs.declared.lines.LinePart.{LinePart}
 use Rattle.host_script.specs.declared.script.HostScript.{HostScript}
 
@@ -67,7 +67,7 @@ other_part dictionary line events text =
     (λ script. Ok (record { entries = map on_field script.entries; events = script.events }))
 
 -- what a line is by its first word; None: as in a script for one field
-abbrev pub kind_of : List ℕ → Option Kind
+abbrev pub kind_of : List ℕ → Option HostLineKind
 kind_of word =
     if bytes_eq word (codes "open") then Some kind.Open
     else if bytes_eq word (codes "field") then Some kind.Field
@@ -75,7 +75,7 @@ kind_of word =
     else None
 
 -- a line by itself, without the blanks before it, behind so many events and previews: its entries, or the first P code that it breaks
-abbrev pub kind_part : List (List ℕ) → ℕ → ℕ → Option Kind → List ℕ → Result LinePart Refusal
+abbrev pub kind_part : List (List ℕ) → ℕ → ℕ → Option HostLineKind → List ℕ → Result LinePart Refusal
 kind_part dictionary line events None text = other_part dictionary line events text
 kind_part dictionary line events (Some kind.Open) text = complete line (Add line) events (behind_word text)
 kind_part dictionary line events (Some kind.Field) text = field_part line events (behind_word text)

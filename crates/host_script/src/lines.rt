@@ -18,7 +18,7 @@ use virtual_keys::KeyDictionary;
 
 /// What a line is that a script for one field hasn't.
 #[derive(Clone, Copy, Debug, PartialEq, Eq)]
-pub enum Kind {
+pub enum HostLineKind {
     Open,
     Field,
     Preview,
@@ -32,15 +32,15 @@ pub struct LinePart {
 }
 
 /// What a line is by its first word.
-fn kind_of(word: &[u8]) -> Option<Kind>
+fn kind_of(word: &[u8]) -> Option<HostLineKind>
     ensures { result ≡ kind_of word.now }
 {
     if word == b"open".as_slice() {
-        Some(Kind::Open)
+        Some(HostLineKind::Open)
     } else if word == b"field".as_slice() {
-        Some(Kind::Field)
+        Some(HostLineKind::Field)
     } else if word == b"preview".as_slice() {
-        Some(Kind::Preview)
+        Some(HostLineKind::Preview)
     } else {
         None
     }
@@ -173,8 +173,8 @@ pub(crate) fn line_part(
     let rest = behind_word(text);
     match kind_of(first_word(text)) {
         None => other_part(alloc, names, line, events, text),
-        Some(Kind::Open) => complete(alloc, line, HostEntry::Add { line }, events, rest),
-        Some(Kind::Field) => field_part(alloc, line, events, rest),
-        Some(Kind::Preview) => preview_part(alloc, names, line, events, rest),
+        Some(HostLineKind::Open) => complete(alloc, line, HostEntry::Add { line }, events, rest),
+        Some(HostLineKind::Field) => field_part(alloc, line, events, rest),
+        Some(HostLineKind::Preview) => preview_part(alloc, names, line, events, rest),
     }
 }

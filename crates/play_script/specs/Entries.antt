@@ -9,8 +9,8 @@ use Rattle.kmn_base.specs.declared.events.Event.TheVariants as event
 use Rattle.kmn_base.specs.declared.limits.TheConstants.{TEXT_BYTES, SCRIPT_EVENTS}
 use Rattle.rule_model.specs.declared.script.Entry.{Entry}
 use Rattle.rule_model.specs.declared.script.Entry.TheVariants.{Act, Expect}
-use Rattle.play_script.specs.declared.lines.Kind.{Kind}
-use Rattle.play_script.specs.declared.lines.Kind.TheVariants as kind
+use Rattle.play_script.specs.declared.lines.LineKind.{LineKind}
+use Rattle.play_script.specs.declared.lines.LineKind.TheVariants as kind
 use Rattle.play_script.specs.Found.{Found, Reads, Breaks}
 use Rattle.play_script.specs.Lines.{text_lines, without_mark}
 use Rattle.play_script.specs.Presses.{press_with}
@@ -77,7 +77,7 @@ brackets_found dictionary line (piece ∷ next ∷ more) =
     bracket_found dictionary line (brackets_found dictionary line (next ∷ more)) (without_blanks piece)
 
 -- what a line is by its first word
-abbrev pub kind_of : List ℕ → Option Kind
+abbrev pub kind_of : List ℕ → Option LineKind
 kind_of word =
     if bytes_eq word (codes "caret") then Some kind.Caret
     else if bytes_eq word (codes "edit") then Some kind.Edit
@@ -86,7 +86,7 @@ kind_of word =
     else None
 
 -- what is found behind that word
-abbrev pub kind_found : ℕ → Option Kind → List ℕ → List Found
+abbrev pub kind_found : ℕ → Option LineKind → List ℕ → List Found
 kind_found line None rest = breaks line P02
 kind_found line (Some kind.Caret) rest = caret_found line rest
 kind_found line (Some kind.Edit) rest = edit_found line rest

@@ -20,7 +20,7 @@ use virtual_keys::KeyDictionary;
 
 /// What a line is that begins with a word.
 #[derive(Clone, Copy, Debug, PartialEq, Eq)]
-pub enum Kind {
+pub enum LineKind {
     Caret,
     Edit,
     Setting,
@@ -28,17 +28,17 @@ pub enum Kind {
 }
 
 /// What a line is by its first word.
-fn kind_of(word: &[u8]) -> Option<Kind>
+fn kind_of(word: &[u8]) -> Option<LineKind>
     ensures { result ≡ kind_of word.now }
 {
     if word == b"caret".as_slice() {
-        Some(Kind::Caret)
+        Some(LineKind::Caret)
     } else if word == b"edit".as_slice() {
-        Some(Kind::Edit)
+        Some(LineKind::Edit)
     } else if word == b"option".as_slice() {
-        Some(Kind::Setting)
+        Some(LineKind::Setting)
     } else if word == b"expect".as_slice() {
-        Some(Kind::Expect)
+        Some(LineKind::Expect)
     } else {
         None
     }
@@ -48,17 +48,17 @@ fn kind_of(word: &[u8]) -> Option<Kind>
 fn read_kind(
     alloc: Global,
     line: u32,
-    kind: Option<Kind>,
+    kind: Option<LineKind>,
     rest: &[u8],
     reader: &mut Reader,
 ) -> Result<(), ScriptError>
     ensures { Leaves (with_found (Ok reader.old) (kind_found line kind rest.now)) reader.new result }
 {
     match kind {
-        Some(Kind::Caret) => read_caret(line, rest, reader),
-        Some(Kind::Edit) => read_edit(alloc, line, rest, reader),
-        Some(Kind::Setting) => read_option(alloc, line, rest, reader),
-        Some(Kind::Expect) => read_expect(alloc, line, rest, reader),
+        Some(LineKind::Caret) => read_caret(line, rest, reader),
+        Some(LineKind::Edit) => read_edit(alloc, line, rest, reader),
+        Some(LineKind::Setting) => read_option(alloc, line, rest, reader),
+        Some(LineKind::Expect) => read_expect(alloc, line, rest, reader),
         None => Err(refused(line, Code::P02)),
     }
 }

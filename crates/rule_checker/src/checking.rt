@@ -14,13 +14,13 @@ use limit_checker::limits_refusal;
 use rule_model::{BeginDef, Program};
 use std::alloc::Global;
 use std::marker::Model;
-use store_table::{Names, number};
+use store_table::{ProgramNames, number};
 
 /// A program that was read and isn't refused, with its names. Contracts see it as the program.
 #[derive(Drop)]
 pub struct Checked {
     program: Program,
-    names: Names,
+    names: ProgramNames,
 }
 
 impl Model for Checked {
@@ -45,7 +45,7 @@ impl Checked {
     }
 
     /// The names of the program.
-    pub fn names(&self) -> &Names
+    pub fn names(&self) -> &ProgramNames
         ensures { result.now ≡ lists_of self.now }
     {
         &self.names
@@ -90,7 +90,7 @@ fn later_refusal(alloc: Global, program: &Program) -> Result<Option<Refusal>, Me
 
 /// The names of a program, or its first refusal.
 #[tactic(auto, unfolding(crate::specs::Refused::refused))]
-fn checked_names(alloc: Global, program: &Program) -> Result<Names, CompileError>
+fn checked_names(alloc: Global, program: &Program) -> Result<ProgramNames, CompileError>
     ensures { Answers (or_refusal (lists_of program.now) (refused program.now)) result }
 {
     match start_refusal(program) {

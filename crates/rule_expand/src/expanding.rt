@@ -23,7 +23,7 @@ use rule_checker::Checked;
 use rule_model::system::NO_GROUP;
 use rule_model::{BeginDef, Program, Store, Tables};
 use std::alloc::Global;
-use store_table::Names;
+use store_table::ProgramNames;
 
 /// The number of the group that `begin Unicode` names.
 fn unicode_start(numbers: &Lookups<'_>, begins: &[BeginDef]) -> u32
@@ -73,7 +73,7 @@ fn without_stores(
 #[tactic(auto, using(crate::proofs::ExpandedTables::numbers_are, crate::proofs::ExpandedTables::first_fits))]
 fn numbers_of<'a>(
     program: &Program,
-    names: &'a Names,
+    names: &'a ProgramNames,
     stores: &'a [Store],
     values: &'a Values<'a>,
     cased: &'a IndexSet<u16>,
@@ -94,7 +94,7 @@ fn numbers_of<'a>(
 fn stores_of(
     alloc: Global,
     program: &Program,
-    names: &Names,
+    names: &ProgramNames,
     room: usize,
 ) -> Result<Vec<Store>, Memory>
     requires tables { HasTables program.now }
@@ -110,7 +110,7 @@ fn add_stores(
     alloc: Global,
     stores: &mut Vec<Store>,
     program: &Program,
-    names: &Names,
+    names: &ProgramNames,
     values: &Values<'_>,
 ) -> Result<(), Memory>
     requires tables { HasTables program.now }
@@ -127,7 +127,7 @@ fn add_stores(
 fn numbered(
     alloc: Global,
     program: &Program,
-    names: &Names,
+    names: &ProgramNames,
     stores: &[Store],
     values: &Values<'_>,
 ) -> Result<Tables, Memory>
@@ -144,7 +144,7 @@ fn numbered(
 
 /// The tables of a program with these names.
 #[tactic(auto, using(crate::proofs::ExpandedTables::tables_are))]
-fn expanded(alloc: Global, program: &Program, names: &Names) -> Result<Tables, Memory>
+fn expanded(alloc: Global, program: &Program, names: &ProgramNames) -> Result<Tables, Memory>
     requires tables { HasTables program.now }
     requires names { names.now ≡ lists_of program.now }
     ensures { IfOk result (λ tables. tables ≡ expanded_tables program.now) }

@@ -13,11 +13,11 @@ use indexmap::IndexSet;
 use kmn_base::Element;
 use rule_model::{KeyName, Store};
 use std::marker::Model;
-use store_table::Names;
+use store_table::ProgramNames;
 
 /// The number of a deadkey's mark.
 #[tactic(auto, using(crate::proofs::NumberLaws::mark_found))]
-pub fn mark_number(names: &Names, name: &[u8]) -> u16
+pub fn mark_number(names: &ProgramNames, name: &[u8]) -> u16
     requires { AreFew names.now }
     ensures { result ≡ mark_number (source_names names.now) name.now }
 {
@@ -25,7 +25,7 @@ pub fn mark_number(names: &Names, name: &[u8]) -> u16
 }
 
 /// The code of a virtual key.
-pub fn key_number(names: &Names, key: &KeyName) -> u16
+pub fn key_number(names: &ProgramNames, key: &KeyName) -> u16
     ensures { result ≡ key_number (source_names names.now) key.now }
 {
     if key.code == 0 {
@@ -50,7 +50,7 @@ pub fn elements_at(stores: &[Store], place: Option<u32>) -> &[Element]
 
 /// The number of the first store that the definitions find by a name. By the empty name, which no item has, they find the
 /// first system store.
-pub fn store_number(names: &Names, name: &[u8]) -> Option<u32>
+pub fn store_number(names: &ProgramNames, name: &[u8]) -> Option<u32>
     ensures { result ≡ number_in names.now.stores name.now }
 {
     if name.is_empty() {
@@ -62,7 +62,7 @@ pub fn store_number(names: &Names, name: &[u8]) -> Option<u32>
 
 /// The elements of the store of a name, where it is one of the first stores, which these are.
 #[tactic(auto, using(crate::proofs::NumberLaws::elements_found))]
-pub fn elements_named<'a>(names: &Names, stores: &'a [Store], name: &[u8]) -> &'a [Element]
+pub fn elements_named<'a>(names: &ProgramNames, stores: &'a [Store], name: &[u8]) -> &'a [Element]
     requires few { AreFew names.now }
     requires first { BeginWith stores.now names.now.stores }
     ensures { result.now ≡ elements_named stores.now name.now }
@@ -74,7 +74,7 @@ pub fn elements_named<'a>(names: &Names, stores: &'a [Store], name: &[u8]) -> &'
 /// it as the numbers.
 #[derive(Drop)]
 pub struct Lookups<'a> {
-    names: &'a Names,
+    names: &'a ProgramNames,
     stores: &'a [Store],
     values: &'a Values<'a>,
     first_value: u32,
@@ -111,7 +111,7 @@ impl<'a> Lookups<'a> {
     /// The numbers of these names, stores and values, and the codes of the cased keys. The stores are all that are named,
     /// and the values have numbers from the first one on.
     pub fn new(
-        names: &'a Names,
+        names: &'a ProgramNames,
         stores: &'a [Store],
         values: &'a Values<'a>,
         first_value: u32,

@@ -16,13 +16,13 @@ use kmn_base::{Element, Memory, Seq};
 use rule_model::system::{DROPPED, KEY_DICTIONARY};
 use rule_model::{SrcItem, Store, StoreDef};
 use std::alloc::Global;
-use store_table::Names;
+use store_table::ProgramNames;
 use virtual_keys::{FIRST_OWN_CODE, KeyDictionary};
 
 /// Appends the elements that an item of a store statement stands for, behind these stores.
 fn add_elements(
     elements: &mut Vec<Element>,
-    names: &Names,
+    names: &ProgramNames,
     before: &[Store],
     item: &SrcItem,
 ) -> Result<(), Memory>
@@ -48,7 +48,7 @@ fn add_elements(
 /// The store of a statement, behind these stores.
 pub fn store_of(
     alloc: Global,
-    names: &Names,
+    names: &ProgramNames,
     before: &[Store],
     store: &StoreDef,
 ) -> Result<Store, Memory>
@@ -71,7 +71,7 @@ pub fn store_of(
 fn add_store(
     alloc: Global,
     stores: &mut Vec<Store>,
-    names: &Names,
+    names: &ProgramNames,
     store: &StoreDef,
 ) -> Result<(), Memory>
     requires few { AreFew names.now }
@@ -90,7 +90,7 @@ fn add_store(
 #[tactic(auto, using(crate::proofs::StoreLists::first_stores, crate::proofs::StoreLists::next_store))]
 pub fn statement_stores(
     alloc: Global,
-    names: &Names,
+    names: &ProgramNames,
     stores: &[StoreDef],
     room: usize,
 ) -> Result<Vec<Store>, Memory>

@@ -14,7 +14,7 @@ use rule_checker::Checked;
 use rule_model::system::DROPPED;
 use rule_model::{Program, StoreDef};
 use std::alloc::Global;
-use store_table::Names;
+use store_table::ProgramNames;
 
 /// The place of the first statement whose store has a system id.
 fn system_place(stores: &[StoreDef], system: u32) -> Option<usize>
@@ -28,7 +28,7 @@ fn system_place(stores: &[StoreDef], system: u32) -> Option<usize>
 /// The elements of the store of a statement, behind the stores of these statements.
 fn statement_elements(
     alloc: Global,
-    names: &Names,
+    names: &ProgramNames,
     before: &[StoreDef],
     store: &StoreDef,
 ) -> Result<Seq<Element>, Memory>
@@ -46,7 +46,7 @@ fn statement_elements(
 fn first_elements(
     alloc: Global,
     program: &Program,
-    names: &Names,
+    names: &ProgramNames,
     system: u32,
 ) -> Result<Seq<Element>, Memory>
     requires tables { HasTables program.now }

@@ -9,7 +9,7 @@ use kmn_base::{Code, CompileError, Memory, Seq};
 use rule_model::{BeginDef, GroupDef, KeyName, Program, RuleDef, RuleKind, SrcItem, StoreDef};
 use std::alloc::Global;
 use std::test::Fail;
-use store_table::{Names, number};
+use store_table::{ProgramNames, number};
 
 fn item(alloc: Global, word: &str) -> Result<SrcItem, Memory> {
     let (sign, name) = word.split_at_checked(1).unwrap_or(("", ""));
@@ -216,7 +216,7 @@ fn is_refused(alloc: Global, source: &str, wanted: Option<(Code, u32)>) -> Resul
 }
 
 /// Whether a name has its numbers.
-fn has_numbers(names: &Names, row: NumberRow) -> bool {
+fn has_numbers(names: &ProgramNames, row: NumberRow) -> bool {
     let (name, store, group, mark, key) = row;
     let name = name.as_bytes();
     names.store(name) == store
@@ -226,7 +226,7 @@ fn has_numbers(names: &Names, row: NumberRow) -> bool {
 }
 
 /// Whether each name has its numbers.
-fn have_numbers(names: &Names) -> bool {
+fn have_numbers(names: &ProgramNames) -> bool {
     for row in NUMBERS {
         if !has_numbers(names, *row) {
             return false;

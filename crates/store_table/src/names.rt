@@ -15,14 +15,14 @@ use virtual_keys::KeyDictionary;
 /// The names of a program, which are found without ASCII case. Contracts see them as lists, each in the order of its
 /// numbers.
 #[derive(Drop)]
-pub struct Names {
+pub struct ProgramNames {
     stores: NameTable,
     groups: NameTable,
     marks: NameTable,
     keys: KeyDictionary,
 }
 
-impl Model for Names {
+impl Model for ProgramNames {
     ghost use Rattle.store_table.specs.Numbering.{NameLists};
 
     ghost Value = { NameLists };
@@ -30,7 +30,7 @@ impl Model for Names {
     ghost view = { λ n. record { stores = n.stores; groups = n.groups; marks = n.marks; keys = n.keys } };
 }
 
-impl Names {
+impl ProgramNames {
     /// The number in the file of the first store of a name, from 0. Statements that are read and dropped are no stores, and
     /// system stores have no name.
     pub fn store(&self, name: &[u8]) -> Option<u32>
@@ -81,7 +81,7 @@ fn number_in(names: &NameTable, name: &[u8]) -> Option<u32>
 }
 
 /// The names of a program, or its first refusal for names: C02 to C07 and C15.
-pub fn number(alloc: Global, program: &Program) -> Result<Names, CompileError>
+pub fn number(alloc: Global, program: &Program) -> Result<ProgramNames, CompileError>
     ensures { Answers (numbered program.now) result }
 {
     let stated = stated_names(alloc, program)?;
@@ -90,7 +90,7 @@ pub fn number(alloc: Global, program: &Program) -> Result<Names, CompileError>
         None => {}
     }
     let appeared = appeared_names(alloc, program)?;
-    Ok(Names {
+    Ok(ProgramNames {
         stores: stated.stores,
         groups: stated.groups,
         marks: appeared.marks,
