@@ -1,4 +1,8 @@
 //! The numbers of names and values.
+//!
+//! Each name and value of a program that isn't refused has its number. The definitions give one that has none a number too: a
+//! mark 1, a value that of the first, any other name 0, so that they are functions without a case for what never comes. The
+//! functions here answer the same, and so need no premise that the program was checked; `store_place` tells the two apart.
 
 ghost use Rattle.std.specs.Prelude.{◌≡◌, nat_eq};
 ghost use Rattle.std.specs.List.{list_any};
@@ -15,7 +19,7 @@ use rule_model::{KeyName, Store};
 use std::marker::Model;
 use store_table::ProgramNames;
 
-/// The number of a deadkey's mark.
+/// The number of a deadkey's mark, 1 for a name that has none.
 #[tactic(auto, using(crate::proofs::NumberLaws::mark_found))]
 pub fn mark_number(names: &ProgramNames, name: &[u8]) -> u16
     requires { AreFew names.now }
@@ -24,7 +28,7 @@ pub fn mark_number(names: &ProgramNames, name: &[u8]) -> u16
     names.mark(name).unwrap_or(1)
 }
 
-/// The code of a virtual key.
+/// The code of a virtual key, 0 for a name that has none.
 pub fn key_number(names: &ProgramNames, key: &KeyName) -> u16
     ensures { result ≡ key_number (source_names names.now) key.now }
 {
@@ -129,14 +133,14 @@ impl<'a> Lookups<'a> {
         }
     }
 
-    /// The number of a deadkey's mark.
+    /// The number of a deadkey's mark, 1 for a name that has none.
     pub fn mark(&self, name: &[u8]) -> u16
         ensures { result ≡ mark_number self.now.names name.now }
     {
         mark_number(self.names, name)
     }
 
-    /// The code of a virtual key.
+    /// The code of a virtual key, 0 for a name that has none.
     pub fn key(&self, key: &KeyName) -> u16
         ensures { result ≡ key_number self.now.names key.now }
     {
@@ -151,14 +155,14 @@ impl<'a> Lookups<'a> {
         store_number(self.names, name)
     }
 
-    /// The number of a store.
+    /// The number of a store, 0 for a name that has none.
     pub fn store(&self, name: &[u8]) -> u32
         ensures { result ≡ number_of_store self.now name.now }
     {
         self.store_place(name).unwrap_or(0)
     }
 
-    /// The number of a group.
+    /// The number of a group, 0 for a name that has none.
     #[tactic(auto, using(crate::proofs::NumberLaws::group_found))]
     pub fn group(&self, name: &[u8]) -> u32
         ensures { result ≡ number_of_group self.now name.now }
@@ -166,7 +170,7 @@ impl<'a> Lookups<'a> {
         self.names.group(name).unwrap_or(0)
     }
 
-    /// The number of the store of a value.
+    /// The number of the store of a value, that of the first for a value that has none.
     #[tactic(auto, using(crate::proofs::NumberLaws::value_within))]
     pub fn value(&self, value: &[char]) -> u32
         ensures { result ≡ number_of_value self.now value.now }
