@@ -2,6 +2,7 @@
 
 ghost use Rattle.std.specs.Prelude.{◌≡◌, ◌+◌, ◌*◌, ◌⊎◌, ◌≤◌, ◌<◌, [], ◌∷◌, ◌++◌, List, map, length, None, Some, MatchResult};
 ghost use Rattle.kmn_base.specs.declared.limits.TheConstants.{FILE_BYTES};
+ghost use Rattle.kmx_format.specs.declared.places.TheConstants.{RULE_CONTEXT_AT};
 ghost use Rattle.kmx_format.specs.declared.sizes.TheConstants.{RULE_BYTES};
 ghost use Rattle.kmx_format.specs.TablesOf.{word_at};
 ghost use Rattle.item_codec.specs.Walk.{results_of, items_given};
@@ -126,7 +127,7 @@ fn check_flags(bytes: &[u8], using_keys: bool, place: usize) -> Result<(), Fault
     Ok(())
 }
 
-/// The record at a place.
+/// The record at a place; `targets` becomes what offsets can point at in its context.
 pub(crate) fn check_record(
     bytes: &[u8],
     using_keys: bool,
@@ -135,14 +136,14 @@ pub(crate) fn check_record(
 ) -> Result<(), VerifyError>
     requires fits { length bytes.now ≤ FILE_BYTES }
     requires place { place + RULE_BYTES ≤ FILE_BYTES }
-    ensures { TellsOf (record_fault bytes.now using_keys place) (Unit {0}) result }
+    ensures { TellsOf (record_fault bytes.now using_keys place) (targets.new.items ≡ context_targets bytes.now (word_at bytes.now (place + RULE_CONTEXT_AT))) result }
 {
     check_flags(bytes, using_keys, place + RULE_FLAGS_AT)?;
     check_context(bytes, place + RULE_CONTEXT_AT, targets)?;
     Ok(check_output(bytes, StringKind::Output, targets, place + RULE_OUTPUT_AT)?)
 }
 
-/// The records of a group.
+/// The records of a group. `targets` is room to work in: nothing is read of what it has before, or after.
 pub(crate) fn check_records(
     bytes: &[u8],
     using_keys: bool,

@@ -52,6 +52,7 @@ fn check_group_strings(bytes: &[u8], place: usize) -> Result<(), Fault>
 }
 
 /// The group whose record stands at a place, with so many records before it; how many records there are with its own.
+/// `targets` is room to work in.
 fn check_group(
     bytes: &[u8],
     before: usize,
@@ -78,7 +79,7 @@ fn check_group(
     Ok(count)
 }
 
-/// The groups.
+/// The groups. `targets` is room to work in.
 pub(crate) fn check_groups(
     bytes: &[u8],
     place: u32,
