@@ -105,7 +105,8 @@ fn read_text(
     }
 }
 
-/// Reads a line, with all codes but P01 and P06, which are of a whole script.
+/// Reads a line, with all codes but P01 and P06, which are of a whole script. After an error nothing is known of the reader,
+/// which may have the first entries of the line.
 pub fn read_line(
     alloc: Global,
     dictionary: &KeyDictionary,

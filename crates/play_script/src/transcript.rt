@@ -1,4 +1,7 @@
 //! The lines of a transcript, each with its LF.
+//!
+//! For want of memory no line comes. What then stands in a string to which a part was being put no clause says, since the kit's
+//! `write!` tells nothing of it: whoever has such a string drops it.
 
 ghost use Rattle.std.specs.Prelude.{◌≡◌, ◌++◌, map, codes, IfOk, if◌then◌else◌};
 ghost use Rattle.std.specs.String.{string_bytes};
@@ -29,7 +32,7 @@ pub fn line_of(
     Ok(text_of(line))
 }
 
-/// Whether the key was passed on, beeps, and groups entered.
+/// Whether the key was passed on, beeps, and groups entered. After want of memory nothing is known of the line.
 pub fn put_counts(line: &mut String, outcome: Outcome) -> Result<(), AllocError>
     ensures { IfOk result (λ _. string_bytes line.new ≡ string_bytes line.old ++ counts_text outcome) }
 {
@@ -119,7 +122,8 @@ fn text_of(string: String) -> Text
     Seq::from_vec(string.into_bytes())
 }
 
-/// Characters as code points joined by dots, or `-` where there are none.
+/// Characters as code points joined by dots, or `-` where there are none. After want of memory nothing is known of the line,
+/// which may have the first of them.
 pub fn put_characters(line: &mut String, characters: &[char]) -> Result<(), AllocError>
     ensures { IfOk result (λ _. string_bytes line.new ≡ string_bytes line.old ++ joined (map hexadecimal characters.now)) }
 {
