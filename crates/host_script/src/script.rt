@@ -2,6 +2,7 @@
 
 ghost use Rattle.std.specs.Prelude.{◌≡◌, ◌≤◌, length, Ok};
 ghost use Rattle.kmn_base.specs.Answers.{and_then};
+ghost use Rattle.kmn_base.specs.declared.limits.TheConstants.{TEXT_BYTES};
 ghost use Rattle.play_script.specs.Lines.{text_lines};
 ghost use Rattle.play_script.specs.Answers.{Answers, Leaves};
 ghost use Rattle.host_script.specs.HostEntries.{if_open, one_more, fields_behind, first_script, with_part, with_line, with_lines, host_entries};
@@ -103,7 +104,7 @@ fn read_lines(
     names: &KeyDictionary,
     text: &[u8],
 ) -> Result<Seq<HostEntry>, ScriptError>
-    requires { length text.now ≤ 4_194_304 }
+    requires { length text.now ≤ TEXT_BYTES }
     ensures { Answers (and_then (with_lines names.now 1 (text_lines text.now) first_script) (λ script. Ok script.entries)) result }
 {
     let mut script = HostScript::new(alloc);
