@@ -1,7 +1,6 @@
 -- Reading a file gives back the tables that were written.
-use Rattle.std.proofs.Common.{◌≡◌, ℕ, ◌+◌, ◌*◌, ◌/◌, ◌%◌, ◌^◌, ◌<◌, true, nat_eq, List, [], ◌∷◌, ◌++◌, length, map, refl, ap₂, ◌∙◌, length-append, arith, lit<, inl, inr}
-use Rattle.std.specs.List.{All, flat_map, list_any, AllByRecursion as ByRecursion}
-use Rattle.std.proofs.lemmas.Bool.{or_cases, eqb-true, false≢true}
+use Rattle.std.proofs.Common.{◌≡◌, ℕ, ◌+◌, ◌*◌, ◌/◌, ◌%◌, ◌^◌, ◌<◌, true, List, [], ◌∷◌, ◌++◌, length, map, refl, ap₂, ◌∙◌, length-append, arith, lit<, inl, inr}
+use Rattle.std.specs.List.{All, flat_map}
 use Rattle.kmn_base.proofs.StandingItems.{listed}
 use Rattle.rule_model.specs.declared.tables.Store.{Store}
 use Rattle.rule_model.specs.declared.tables.Group.{Group}

@@ -12,7 +12,7 @@ use Rattle.kmn_base.specs.declared.events.Event.TheVariants as event
 use Rattle.kmn_base.specs.declared.codes.Code.{Code}
 use Rattle.kmn_base.specs.declared.codes.Code.TheVariants.{E1, E2}
 use Rattle.kmn_base.specs.Lists.{characters, without_last, put, read_again}
-use Rattle.kmn_base.proofs.Lists.{characters-append, characters_of_put}
+use Rattle.kmn_base.proofs.Lists.{characters-append}
 use Rattle.kmn_base.proofs.ReadingAgain.{reading_again_gives_the_text}
 use Rattle.rule_model.specs.declared.event_state.EventState.{EventState}
 use Rattle.virtual_keys.specs.Fits.{is_plain}

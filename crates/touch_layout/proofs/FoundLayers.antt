@@ -5,7 +5,7 @@ use Rattle.std.specs.Option.{option_map_or, option_or}
 use Rattle.std.specs.List.{list_any}
 use Rattle.std.specs.Str.{str_to_ascii_lowercase}
 use Rattle.std.specs.Cmp.Lexicographic.{nat_list_eq_equiv}
-use Rattle.std.proofs.lemmas.Bool.{and_parts, not-true}
+use Rattle.std.proofs.lemmas.Bool.{and_parts}
 use Rattle.std.proofs.lemmas.Bool.Decides.{nat_tests}
 use Rattle.std.proofs.lemmas.Grind.{common_steps}
 use Rattle.std.proofs.lemmas.List.{drop_more, get_or_default, map-append}
