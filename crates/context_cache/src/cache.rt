@@ -4,10 +4,10 @@ ghost use Rattle.kmn_base.specs.declared.limits.TheConstants.{WINDOW_ITEMS};
 ghost use Rattle.kmn_base.specs.Lists.{characters, is_mark, without_last, window, read_again};
 ghost use Rattle.context_cache.specs.Cached.{filled, StandsAtEnd};
 
-use crate::texts::{character_count, end_marks, push_characters, push_items, still_stands};
+use crate::texts::{character_count, push_characters, push_items, still_stands};
 use kmn_base::limits::WINDOW_ITEMS;
 use kmn_base::slices::behind;
-use kmn_base::{Item, Memory, slices};
+use kmn_base::{Item, Memory, end_marks, slices};
 use std::alloc::Global;
 use std::marker::Model;
 

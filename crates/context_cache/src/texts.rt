@@ -1,9 +1,9 @@
 //! Items against the characters of a text.
 
 ghost use Rattle.std.specs.Prelude.{◌≡◌, ◌≤◌, ◌<◌, ◌+◌, ◌++◌, length, map, take, drop, slice_index, nat_eq, vec_len, vec_capacity};
-ghost use Rattle.std.specs.List.{ends_with, suffix_len};
+ghost use Rattle.std.specs.List.{ends_with};
 ghost use Rattle.kmn_base.specs.declared.items.Item.TheVariants as item;
-ghost use Rattle.kmn_base.specs.Lists.{characters, is_mark, still_stands};
+ghost use Rattle.kmn_base.specs.Lists.{characters, still_stands};
 
 use kmn_base::Item;
 use kmn_base::limits::WINDOW_ITEMS;
@@ -89,23 +89,4 @@ pub fn still_stands(items: &[Item], text: &[char]) -> bool
     ensures { result ≡ still_stands items.now text.now }
 {
     ends_with(text, items) && (items.len() == WINDOW_ITEMS || text.len() == character_count(items))
-}
-
-/// Whether an item is a mark.
-fn is_mark(item: Item) -> bool
-    ensures { result ≡ is_mark item }
-{
-    matches!(item, Item::Mark(_))
-}
-
-/// How many marks stand at the end of items.
-pub fn end_marks(items: &[Item]) -> usize
-    ensures value { result ≡ suffix_len is_mark items.now }
-    ensures within { result ≤ length items.now }
-{
-    let mut count = items.len();
-    while count > 0 && is_mark(items[count - 1]) {
-        count -= 1;
-    }
-    items.len() - count
 }

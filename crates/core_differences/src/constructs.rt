@@ -2,26 +2,16 @@
 
 ghost use Rattle.std.specs.Prelude.{◌≡◌, map, sum};
 ghost use Rattle.std.specs.List.{list_any};
-ghost use Rattle.virtual_keys.specs.Fits.{has, has_either};
 ghost use Rattle.core_differences.specs.Constructs.{is_use, is_condition, is_nul, has_offset, puts_by_offset, units_at_most, goes_on_behind_use, is_matched_behind_use, has_late_nul, has_offset_behind_nul, is_always, has_both_sides, is_alt_graph, is_long, has_construct};
 
 use crate::construct::Construct;
 use kmn_base::RuleKey;
+use kmn_base::keys::{
+    EITHER_ALT, EITHER_CONTROL, LEFT_ALT, LEFT_CONTROL, RIGHT_ALT, RIGHT_CONTROL,
+};
 use kmn_base::slices::{before, behind};
 use rule_model::{Group, Out, Pat, Rule};
-
-// The bits of shift flags.
-const LEFT_CONTROL: u32 = 0x0001;
-
-const RIGHT_CONTROL: u32 = 0x0002;
-
-const LEFT_ALT: u32 = 0x0004;
-
-const RIGHT_ALT: u32 = 0x0008;
-
-const EITHER_CONTROL: u32 = 0x0020;
-
-const EITHER_ALT: u32 = 0x0040;
+use virtual_keys::{has, has_either};
 
 /// How many units that engine keeps of what stands before the caret.
 const KEPT_UNITS: usize = 63;
@@ -138,20 +128,6 @@ fn has_offset_behind_nul(context: &[Pat], outputs: &[Out]) -> bool
     ensures { result ≡ has_offset_behind_nul context.now outputs.now }
 {
     some_nul(context) && (some_offset(context) || some_put_by_offset(outputs))
-}
-
-/// Whether a bit is set.
-fn has(bits: u32, bit: u32) -> bool
-    ensures { result ≡ has bits bit }
-{
-    bits & bit != 0
-}
-
-/// Whether one of two bits is set.
-fn has_either(bits: u32, left: u32, right: u32) -> bool
-    ensures { result ≡ has_either bits left right }
-{
-    has(bits, left) || has(bits, right)
 }
 
 /// Whether CTRL or ALT stands beside a side of it.

@@ -7,6 +7,7 @@ ghost use Rattle.editor_model.specs.Answers.{caret_refusal, IsAnswerTo, Becomes}
 use crate::error::EditError;
 use kmn_base::limits::TEXT_CHARS;
 use kmn_base::{KeyPress, Memory};
+use rule_model::moved_caret;
 use std::alloc::Global;
 use std::marker::Model;
 use virtual_keys::codes::{K_DEL, K_END, K_ENTER, K_HOME, K_LEFT, K_RIGHT, K_TAB};
@@ -247,22 +248,6 @@ impl Editor {
         if self.end < self.cells.len() {
             self.end += 1;
         }
-    }
-}
-
-/// Where a caret is after the characters from one place to another were replaced by so many.
-fn moved_caret(from: usize, to: usize, count: usize, caret: usize) -> usize
-    requires ordered { from ≤ to }
-    requires count { from + count < 2 ^ 62 }
-    requires caret { caret < 2 ^ 62 }
-    ensures { result ≡ moved_caret from to count caret }
-{
-    if caret <= from {
-        caret
-    } else if caret < to {
-        from + count
-    } else {
-        caret - to + from + count
     }
 }
 

@@ -1,3 +1,7 @@
+ghost use Rattle.std.specs.Prelude.{◌≡◌, ◌≤◌, length};
+ghost use Rattle.std.specs.List.{suffix_len};
+ghost use Rattle.kmn_base.specs.Lists.{is_mark};
+
 /// What stands before the caret: a character, or a mark that a deadkey left and that no application sees.
 #[derive(Clone, Copy, Debug, PartialEq, Eq)]
 pub enum Item {
@@ -26,4 +30,23 @@ pub enum Element {
     Mark(u16),
     /// Shift flags as the file has them, and the key's code.
     Key { flags: u16, code: u16 },
+}
+
+/// Whether an item is a mark.
+fn is_mark(item: Item) -> bool
+    ensures { result ≡ is_mark item }
+{
+    matches!(item, Item::Mark(_))
+}
+
+/// How many marks stand at the end of items.
+pub fn end_marks(items: &[Item]) -> usize
+    ensures value { result ≡ suffix_len is_mark items.now }
+    ensures within { result ≤ length items.now }
+{
+    let mut count = items.len();
+    while count > 0 && is_mark(items[count - 1]) {
+        count -= 1;
+    }
+    items.len() - count
 }

@@ -5,7 +5,7 @@
 //! `laws` says what holds of both. `specs/Names`, `specs/Bytes`, `specs/Digits`, `specs/Texts` and `specs/Rising` have
 //! the words for names, bytes, numbers in words, texts and rising lists, and `specs/Answers` says what code answers that
 //! may refuse or want for memory. The layer above uses `Seq`, which contracts see as its list, `slices`, `names`,
-//! `bytes`, `digits`, `texts`, the flags of `keys`, `limits`, and plain data.
+//! `bytes`, `digits`, `texts`, the flags of `keys`, `limits`, `end_marks` of items, and plain data.
 #![tactic(auto)]
 
 pub mod bytes;
@@ -26,7 +26,7 @@ mod units;
 
 pub use codes::Code;
 pub use events::{Event, Outcome};
-pub use items::{Element, Item};
+pub use items::{Element, Item, end_marks};
 pub use keys::{KeyPress, RuleKey, SHIFT_FLAGS};
 pub use memory::Memory;
 pub use refusals::{CompileError, Refusal};

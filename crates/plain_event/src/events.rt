@@ -14,7 +14,7 @@ use crate::texts::{characters, read_again};
 use crate::values::{copies, picked, set_value, spread};
 use indexed_tables::IndexedTables;
 use kmn_base::{Element, Event, Item, KeyPress, Memory, Outcome, Seq};
-use rule_model::{EventState, Tables, common_prefix};
+use rule_model::{EventState, Tables, common_prefix, moved_caret};
 use std::alloc::Global;
 use virtual_keys::is_plain;
 
@@ -244,20 +244,6 @@ fn caret_event(alloc: Global, place: u32, state: &PlainState) -> Result<PlainSta
     let whole = whole_text(alloc, state)?;
     let after = with_text(alloc, whole.as_slice(), place as usize, state)?;
     Ok(after)
-}
-
-/// Where the caret is after characters were replaced by so many.
-fn moved_caret(from: usize, to: usize, count: usize, caret: usize) -> usize
-    requires { from + count + (caret - to) < 2 ^ 64 }
-    ensures { result ≡ moved_caret from to count caret }
-{
-    if caret <= from {
-        caret
-    } else if caret < to {
-        from + count
-    } else {
-        caret - to + from + count
-    }
 }
 
 /// The whole text after an edit.

@@ -5,9 +5,9 @@ ghost use Rattle.kmn_base.specs.declared.limits.TheConstants.{WINDOW_ITEMS};
 ghost use Rattle.kmn_base.specs.Lists.{characters, without_last, window, put};
 ghost use Rattle.rule_model.specs.Enter.{without_last_character};
 
-use crate::texts::{as_items, characters, end_marks, window, without_last};
+use crate::texts::{as_items, characters, window, without_last};
 use kmn_base::limits::WINDOW_ITEMS;
-use kmn_base::{Item, Memory, Seq};
+use kmn_base::{Item, Memory, Seq, end_marks};
 use std::alloc::Global;
 
 /// The same items without the marks before the window.

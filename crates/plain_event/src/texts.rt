@@ -1,6 +1,5 @@
 ghost use Rattle.std.specs.Prelude.{◌≡◌, IfOk, map};
-ghost use Rattle.std.specs.List.{suffix_len};
-ghost use Rattle.kmn_base.specs.Lists.{characters, is_mark, without_last, window, still_stands, read_again};
+ghost use Rattle.kmn_base.specs.Lists.{characters, without_last, window, still_stands, read_again};
 
 use kmn_base::limits::WINDOW_ITEMS;
 use kmn_base::slices::{before, behind};
@@ -39,27 +38,6 @@ pub fn window(items: &[Item]) -> &[Item]
     ensures { result.now ≡ window items.now }
 {
     behind(items, items.len().saturating_sub(WINDOW_ITEMS))
-}
-
-/// Whether an item is a mark.
-pub fn is_mark(item: Item) -> bool
-    ensures { result ≡ is_mark item }
-{
-    match item {
-        Item::Char(_) => false,
-        Item::Mark(_) => true,
-    }
-}
-
-/// How many marks stand at the end of items.
-pub fn end_marks(items: &[Item]) -> usize
-    ensures { result ≡ suffix_len is_mark items.now }
-{
-    let mut count = items.len();
-    while count > 0 && is_mark(items[count - 1]) {
-        count -= 1;
-    }
-    items.len() - count
 }
 
 /// Whether the last items still stand at the end of a text, and it is known what stands before them.

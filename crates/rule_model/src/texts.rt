@@ -1,4 +1,5 @@
-ghost use Rattle.std.specs.Prelude.{◌≡◌};
+ghost use Rattle.std.specs.Prelude.{◌≡◌, ◌+◌, ◌-◌, ◌<◌, ◌^◌};
+ghost use Rattle.rule_model.specs.Event.{moved_caret};
 ghost use Rattle.rule_model.specs.KeyEvent.{common_prefix};
 
 /// How many characters two texts begin with alike.
@@ -11,4 +12,18 @@ pub fn common_prefix(old: &[char], new: &[char]) -> usize
         count += 1;
     }
     count
+}
+
+/// Where the caret is after the characters from one place to another were replaced by so many.
+pub fn moved_caret(from: usize, to: usize, count: usize, caret: usize) -> usize
+    requires { from + count + (caret - to) < 2 ^ 64 }
+    ensures { result ≡ moved_caret from to count caret }
+{
+    if caret <= from {
+        caret
+    } else if caret < to {
+        from + count
+    } else {
+        caret - to + from + count
+    }
 }

@@ -3,9 +3,9 @@
 //!
 //! It stands on `kmn_base` for the types of keys and for comparing names, on `arrayvec` for the characters of a name
 //! and on `indexmap` for the dictionary. No look-up takes memory. The layer above asks `Pressed` whether a key
-//! fits and `char_of` for a press's character, whose answers are `key_fits` and `char_of_press` of `specs/Fits`. It uses the
-//! tables of `specs/Keys`, and `KeyDictionary`, which contracts see as the list of its names by the words of
-//! `specs/Dictionary`. `codes` names the keys that edit.
+//! fits and `char_of` for a press's character, whose answers are `key_fits` and `char_of_press` of `specs/Fits`. It tests
+//! bits of shift flags by `has` and `has_either`, uses the tables of `specs/Keys`, and `KeyDictionary`, which contracts see
+//! as the list of its names by the words of `specs/Dictionary`. `codes` names the keys that edit.
 #![tactic(auto)]
 
 pub mod codes;
@@ -19,5 +19,5 @@ mod unicode_names;
 pub use dictionary::{FIRST_OWN_CODE, KeyDictionary};
 pub use names::{key_named, modifier_named, name_of};
 pub use pressed::Pressed;
-pub use presses::{char_of, is_plain};
+pub use presses::{char_of, has, has_either, is_plain};
 pub use unicode_names::named_chars;

@@ -10,14 +10,14 @@ use kmn_base::keys::{
 };
 
 /// Whether a bit is set.
-fn has(bits: u32, bit: u16) -> bool
+pub fn has(bits: u32, bit: u16) -> bool
     ensures { result ≡ has bits bit }
 {
     bits & u32::from(bit) != 0
 }
 
 /// Whether one of two bits is set.
-fn has_either(bits: u32, left: u16, right: u16) -> bool
+pub fn has_either(bits: u32, left: u16, right: u16) -> bool
     ensures { result ≡ has_either bits left right }
 {
     has(bits, left) || has(bits, right)
