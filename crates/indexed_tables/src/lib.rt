@@ -2,11 +2,12 @@
 //!
 //! It stands on `kmn_base`, `virtual_keys`, `rule_model` and `indexmap`. The layer above makes `IndexedTables` of `Tables`:
 //! it has once and for all the option number of each store and the names of own keys, and hands out groups and elements as
-//! the tables have them. A layer that reads a file where it lies counts option numbers the same way: `mark` sets the flag of
-//! each store that an item uses as an option, and `flag_numbers` counts the flags (`specs/OptionFlags`, with the laws of
-//! flags in `proofs/OptionFlags`). Behind the stores of all tables stand the system options, the layer and the platform:
-//! `system_elements` are what they begin with, and `has_words` says whether the platform is what a value asks for. What asks
-//! whether names could stand in a source takes their words by `first_word`.
+//! the tables have them. A layer that asks only which stores some item uses as an option takes a flag for each: `option_flags`
+//! makes them, and `mark_options` sets them where no memory may be taken. A layer that reads a file where it lies counts option
+//! numbers the same way: `mark` sets the flag of one store, and `flag_numbers` counts the flags (`specs/OptionFlags`, with the
+//! laws of flags in `proofs/OptionFlags`). Behind the stores of all tables stand the system options, the layer and the
+//! platform: `system_elements` are what they begin with, and `has_words` says whether the platform is what a value asks for.
+//! What asks whether names could stand in a source takes their words by `first_word`.
 #![tactic(auto)]
 
 mod flags;
@@ -18,6 +19,7 @@ mod system;
 
 pub use flags::{flag_numbers, mark};
 pub use indexed_tables::IndexedTables;
+pub use options::{mark_options, option_flags};
 pub use own_keys::{element_text, first_word};
 pub use platform::has_words;
 pub use system::system_elements;

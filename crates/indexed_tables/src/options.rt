@@ -1,4 +1,4 @@
-//! The option number of each store of tables.
+//! Which stores of tables are options, and the option number of each.
 
 ghost use Rattle.std.specs.Prelude.{◌≡◌, ◌++◌, ◌∷◌, [], true, false, IfOk, length, replicate, flat_map};
 ghost use Rattle.rule_model.specs.Tab.{pattern_options, output_options, rule_options, group_options, tab_options, with_options};
@@ -66,13 +66,21 @@ fn mark_groups(flags: &mut [bool], groups: &[Group])
     }
 }
 
-/// A flag for each store: whether some item uses it as an option.
+/// Sets the flag of each store that some item of the tables uses as an option, and leaves the others as they are. Stores past the
+/// last flag are passed over.
 #[tactic(auto, unfolding(rule_model::specs::Tab::tab_options))]
-fn option_flags(alloc: Global, tables: &Tables) -> Result<Vec<bool>, Memory>
+pub fn mark_options(flags: &mut [bool], tables: &Tables)
+    ensures { flags.new ≡ with_flags flags.old (tab_options tables.now) }
+{
+    mark_groups(flags, tables.groups.as_slice());
+}
+
+/// A flag for each store: whether some item uses it as an option.
+pub fn option_flags(alloc: Global, tables: &Tables) -> Result<Vec<bool>, Memory>
     ensures { IfOk result (λ flags. flags.items ≡ with_flags (replicate (length tables.now.stores) false) (tab_options tables.now)) }
 {
     let mut flags = vec![in alloc; false; tables.stores.len()]?;
-    mark_groups(flags.as_mut_slice(), tables.groups.as_slice());
+    mark_options(flags.as_mut_slice(), tables);
     Ok(flags)
 }
 

@@ -1,8 +1,0 @@
-use Rattle.std.proofs.Common.{◌≡◌, drop}
-use Rattle.std.specs.List.{flat_map}
-use Rattle.rule_model.specs.Tab.{pattern_options}
-use Rattle.indexed_tables.specs.OptionFlags.{with_flags}
-use Rattle.rule_shadow.proofs.options.mark_context.Given as goal
-
-abbrev pub invariant-loop-pattern : goal.invariant-loop-pattern
-invariant-loop-pattern l = with_flags l.flags (flat_map pattern_options (drop l.pattern-index l.context)) ≡ with_flags l.fn.flags (flat_map pattern_options l.context)

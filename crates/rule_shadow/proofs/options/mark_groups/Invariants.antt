@@ -1,8 +1,0 @@
-use Rattle.std.proofs.Common.{◌≡◌, drop}
-use Rattle.std.specs.List.{flat_map}
-use Rattle.rule_model.specs.Tab.{group_options}
-use Rattle.indexed_tables.specs.OptionFlags.{with_flags}
-use Rattle.rule_shadow.proofs.options.mark_groups.Given as goal
-
-abbrev pub invariant-loop-group : goal.invariant-loop-group
-invariant-loop-group l = with_flags l.flags (flat_map group_options (drop l.group-index l.groups)) ≡ with_flags l.fn.flags (flat_map group_options l.groups)
