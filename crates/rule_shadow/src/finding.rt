@@ -16,7 +16,6 @@ use crate::key_cover::{fits_each, fitting_presses};
 use crate::near::{Near, is_at_most, near_rules};
 use crate::place_list::{is_matched, places};
 use crate::subject::Subject;
-use kmn_base::slices::before;
 use kmn_base::{Element, Item, Memory, Seq};
 use rule_model::{Pat, Rule, item_of};
 use std::alloc::Global;
@@ -30,6 +29,15 @@ pub enum Found {
     ByRule(u32),
     /// A place, counted from 0, and for each item of its store the least number of a record that covers it there.
     SplitAt(u32, Seq<u32>),
+}
+
+/// What the search for a split goes by: the record, the presses to try that fit its key, and the records before it that miss
+/// one of its places at most.
+#[derive(Clone, Copy)]
+struct Search<'a> {
+    subject: &'a Subject<'a>,
+    presses: &'a [Pressed],
+    near: &'a [Near],
 }
 
 /// Whether a record covers one whose places have these ranges. What most often fails is asked first: the first press.
@@ -72,45 +80,30 @@ fn least_by(subject: &Subject, presses: &[Pressed], narrowing: &[Option<Item>; 6
     ensures { result ≡ least_by subject.now.tables.now subject.now.group.now subject.now.number subject.now.rule.now narrowing.now }
 {
     let places = places(subject.tables, narrowing, subject.rule.context.as_slice());
-    let rules = before(subject.group.rules.as_slice(), subject.number as usize);
-    first_covering(subject, presses, places.as_slice(), rules)
+    first_covering(subject, presses, places.as_slice(), subject.rules_before())
 }
 
 /// Whether a record that misses nothing but a place covers one whose places have these ranges.
-fn near_covers(
-    subject: &Subject,
-    presses: &[Pressed],
-    place: u32,
-    places: &[Place],
-    rules: &[Rule],
-    near: Near,
-) -> bool
-    requires { presses.now ≡ fitting_presses subject.now.rule.now.key }
-    ensures { result ≡ (is_at_most place near.miss && covers_if_any subject.now.tables.now subject.now.group.now.using_keys places.now subject.now.rule.now (slice_get rules.now near.rule)) }
+fn near_covers(search: &Search, place: u32, places: &[Place], near: Near) -> bool
+    requires { search.now.presses.now ≡ fitting_presses search.now.subject.now.rule.now.key }
+    ensures { result ≡ (is_at_most place near.miss && covers_if_any search.now.subject.now.tables.now search.now.subject.now.group.now.using_keys places.now search.now.subject.now.rule.now (slice_get (take search.now.subject.now.number search.now.subject.now.group.now.rules) near.rule)) }
 {
     if !is_at_most(place, near.miss) {
         return false;
     }
-    match rules.get(near.rule as usize) {
-        Some(q) => covers_record(subject, presses, places, q),
+    match search.subject.rules_before().get(near.rule as usize) {
+        Some(q) => covers_record(search.subject, search.presses, places, q),
         None => false,
     }
 }
 
 /// The first of the records that miss nothing but a place which covers one whose places have these ranges.
-fn first_near(
-    subject: &Subject,
-    presses: &[Pressed],
-    place: u32,
-    places: &[Place],
-    rules: &[Rule],
-    near: &[Near],
-) -> Option<u32>
-    requires { presses.now ≡ fitting_presses subject.now.rule.now.key }
-    ensures { result ≡ first_near (λ n. is_at_most place n.miss && covers_if_any subject.now.tables.now subject.now.group.now.using_keys places.now subject.now.rule.now (slice_get rules.now n.rule)) near.now }
+fn first_near(search: &Search, place: u32, places: &[Place]) -> Option<u32>
+    requires { search.now.presses.now ≡ fitting_presses search.now.subject.now.rule.now.key }
+    ensures { result ≡ first_near (λ n. is_at_most place n.miss && covers_if_any search.now.subject.now.tables.now search.now.subject.now.group.now.using_keys places.now search.now.subject.now.rule.now (slice_get (take search.now.subject.now.number search.now.subject.now.group.now.rules) n.rule)) search.now.near.now }
 {
-    for one in near {
-        if near_covers(subject, presses, place, places, rules, *one) {
+    for one in search.near {
+        if near_covers(search, place, places, *one) {
             return Some(one.rule);
         }
     }
@@ -125,47 +118,44 @@ fn near_before(alloc: Global, subject: &Subject, presses: &[Pressed]) -> Result<
 {
     let narrowing = nothing_narrowed();
     let places = places(subject.tables, &narrowing, subject.rule.context.as_slice());
-    let rules = before(subject.group.rules.as_slice(), subject.number as usize);
-    near_rules(alloc, subject, presses, places.as_slice(), rules)
+    near_rules(
+        alloc,
+        subject,
+        presses,
+        places.as_slice(),
+        subject.rules_before(),
+    )
 }
 
 /// The least record before one that covers it where a place is narrowed to an item.
-fn least_narrowed(
-    subject: &Subject,
-    presses: &[Pressed],
-    near: &[Near],
-    place: u32,
-    item: Item,
-) -> Option<u32>
-    requires few { length subject.now.rule.now.context ≤ 60 }
-    requires fitting { presses.now ≡ fitting_presses subject.now.rule.now.key }
-    requires near { near.now ≡ near_before subject.now.tables.now subject.now.group.now subject.now.number subject.now.rule.now }
-    ensures { result ≡ least_by subject.now.tables.now subject.now.group.now subject.now.number subject.now.rule.now (narrowed nothing_narrowed place item) }
+fn least_narrowed(search: &Search, place: u32, item: Item) -> Option<u32>
+    requires few { length search.now.subject.now.rule.now.context ≤ 60 }
+    requires fitting { search.now.presses.now ≡ fitting_presses search.now.subject.now.rule.now.key }
+    requires near { search.now.near.now ≡ near_before search.now.subject.now.tables.now search.now.subject.now.group.now search.now.subject.now.number search.now.subject.now.rule.now }
+    ensures { result ≡ least_by search.now.subject.now.tables.now search.now.subject.now.group.now search.now.subject.now.number search.now.subject.now.rule.now (narrowed nothing_narrowed place item) }
 {
     let narrowing = narrowed(&nothing_narrowed(), place, item);
+    let subject = search.subject;
     let places = places(subject.tables, &narrowing, subject.rule.context.as_slice());
-    let rules = before(subject.group.rules.as_slice(), subject.number as usize);
-    first_near(subject, presses, place, places.as_slice(), rules, near)
+    first_near(search, place, places.as_slice())
 }
 
 /// The least record for each item to which a place is narrowed, where each item has one.
 fn least_each(
     alloc: Global,
-    subject: &Subject,
-    presses: &[Pressed],
-    near: &[Near],
+    search: &Search,
     place: u32,
     elements: &[Element],
 ) -> Result<Option<Seq<u32>>, Memory>
-    requires few { length subject.now.rule.now.context ≤ 60 }
-    requires fitting { presses.now ≡ fitting_presses subject.now.rule.now.key }
-    requires near { near.now ≡ near_before subject.now.tables.now subject.now.group.now subject.now.number subject.now.rule.now }
-    ensures { IfOk result (λ rules. rules ≡ least_onto subject.now.tables.now subject.now.group.now subject.now.number subject.now.rule.now place (filter_map item_of elements.now) []) }
+    requires few { length search.now.subject.now.rule.now.context ≤ 60 }
+    requires fitting { search.now.presses.now ≡ fitting_presses search.now.subject.now.rule.now.key }
+    requires near { search.now.near.now ≡ near_before search.now.subject.now.tables.now search.now.subject.now.group.now search.now.subject.now.number search.now.subject.now.rule.now }
+    ensures { IfOk result (λ rules. rules ≡ least_onto search.now.subject.now.tables.now search.now.subject.now.group.now search.now.subject.now.number search.now.subject.now.rule.now place (filter_map item_of elements.now) []) }
 {
     let mut rules = Vec::new(alloc);
     for element in elements {
         if let Some(item) = item_of(*element) {
-            match least_narrowed(subject, presses, near, place, item) {
+            match least_narrowed(search, place, item) {
                 Some(q) => rules.push(q)?,
                 None => return Ok(None),
             }
@@ -175,51 +165,38 @@ fn least_each(
 }
 
 /// The least records by which a record splits at a place.
-fn split_rules(
-    alloc: Global,
-    subject: &Subject,
-    presses: &[Pressed],
-    near: &[Near],
-    place: u32,
-) -> Result<Option<Seq<u32>>, Memory>
-    requires few { length subject.now.rule.now.context ≤ 60 }
-    requires fitting { presses.now ≡ fitting_presses subject.now.rule.now.key }
-    requires near { near.now ≡ near_before subject.now.tables.now subject.now.group.now subject.now.number subject.now.rule.now }
-    ensures { IfOk result (λ rules. rules ≡ split_rules subject.now.tables.now subject.now.group.now subject.now.number subject.now.rule.now place) }
+fn split_rules(alloc: Global, search: &Search, place: u32) -> Result<Option<Seq<u32>>, Memory>
+    requires few { length search.now.subject.now.rule.now.context ≤ 60 }
+    requires fitting { search.now.presses.now ≡ fitting_presses search.now.subject.now.rule.now.key }
+    requires near { search.now.near.now ≡ near_before search.now.subject.now.tables.now search.now.subject.now.group.now search.now.subject.now.number search.now.subject.now.rule.now }
+    ensures { IfOk result (λ rules. rules ≡ split_rules search.now.subject.now.tables.now search.now.subject.now.group.now search.now.subject.now.number search.now.subject.now.rule.now place) }
 {
-    match split_store(subject, &nothing_narrowed(), place) {
+    match split_store(search.subject, &nothing_narrowed(), place) {
         Some(store) => {
-            let elements = subject.tables.elements(store);
-            least_each(alloc, subject, presses, near, place, elements)
+            let elements = search.subject.tables.elements(store);
+            least_each(alloc, search, place, elements)
         }
         None => Ok(None),
     }
 }
 
 /// The first place, from one on, at which a record splits.
-fn first_split(
-    alloc: Global,
-    subject: &Subject,
-    presses: &[Pressed],
-    near: &[Near],
-    place: u32,
-    context: &[Pat],
-) -> Result<Found, Memory>
-    requires few { length subject.now.rule.now.context ≤ 60 }
-    requires fitting { presses.now ≡ fitting_presses subject.now.rule.now.key }
-    requires near { near.now ≡ near_before subject.now.tables.now subject.now.group.now subject.now.number subject.now.rule.now }
+fn first_split(alloc: Global, search: &Search, place: u32, context: &[Pat]) -> Result<Found, Memory>
+    requires few { length search.now.subject.now.rule.now.context ≤ 60 }
+    requires fitting { search.now.presses.now ≡ fitting_presses search.now.subject.now.rule.now.key }
+    requires near { search.now.near.now ≡ near_before search.now.subject.now.tables.now search.now.subject.now.group.now search.now.subject.now.number search.now.subject.now.rule.now }
     requires places { place + length context.now ≤ 60 }
-    ensures { IfOk result (λ found. found ≡ first_split subject.now.tables.now subject.now.group.now subject.now.number subject.now.rule.now place context.now) }
+    ensures { IfOk result (λ found. found ≡ first_split search.now.subject.now.tables.now search.now.subject.now.group.now search.now.subject.now.number search.now.subject.now.rule.now place context.now) }
 {
     let [pattern, rest @ ..] = context else {
         return Ok(Found::NotFound);
     };
     if !is_matched(*pattern) {
-        return first_split(alloc, subject, presses, near, place, rest);
+        return first_split(alloc, search, place, rest);
     }
-    match split_rules(alloc, subject, presses, near, place)? {
+    match split_rules(alloc, search, place)? {
         Some(rules) => Ok(Found::SplitAt(place, rules)),
-        None => first_split(alloc, subject, presses, near, place + 1, rest),
+        None => first_split(alloc, search, place + 1, rest),
     }
 }
 
@@ -247,7 +224,12 @@ fn split_for(alloc: Global, subject: &Subject, presses: &[Pressed]) -> Result<Fo
         return Ok(Found::NotFound);
     }
     let near = near_before(alloc, subject, presses)?;
-    first_split(alloc, subject, presses, near.as_slice(), 0, context)
+    let search = Search {
+        subject,
+        presses,
+        near: near.as_slice(),
+    };
+    first_split(alloc, &search, 0, context)
 }
 
 /// What is found for a record.

@@ -1,4 +1,7 @@
+ghost use Rattle.std.specs.Prelude.{◌≡◌, ◌<◌, ◌^◌, length, take};
+
 use crate::flagged::FlaggedTables;
+use kmn_base::slices::before;
 use rule_model::{Group, Rule};
 
 /// The record that is asked about: its number in its group, and the tables that it belongs to.
@@ -8,4 +11,14 @@ pub struct Subject<'a> {
     pub group: &'a Group,
     pub number: u32,
     pub rule: &'a Rule,
+}
+
+impl<'a> Subject<'a> {
+    /// The records of its group that stand before it.
+    pub fn rules_before(&self) -> &'a [Rule]
+        ensures rules { result.now ≡ take self.now.number self.now.group.now.rules }
+        ensures few { length result.now < 2 ^ 32 }
+    {
+        before(self.group.rules.as_slice(), self.number as usize)
+    }
 }

@@ -87,19 +87,25 @@ fn found_lines(alloc: Global, rules: &[Rule], found: Found) -> Result<Option<Seq
     }
 }
 
-/// What is found for a record, which has this number in the group of a number.
+/// A group by its number and its records, and what finds which of them cover one.
+#[derive(Clone, Copy)]
+struct GroupSearch<'a> {
+    finder: &'a Finder<'a>,
+    group: u32,
+    rules: &'a [Rule],
+}
+
+/// What is found for a record, which has this number in the group.
 fn verdict_of(
     alloc: Global,
-    finder: &Finder,
-    group: u32,
-    rules: &[Rule],
+    search: &GroupSearch,
     number: u32,
     rule: &Rule,
 ) -> Result<Verdict, Memory>
-    ensures { IfOk result (λ verdict. verdict ≡ verdict_of finder.now group rules.now number rule.now) }
+    ensures { IfOk result (λ verdict. verdict ≡ verdict_of search.now.finder.now search.now.group search.now.rules.now number rule.now) }
 {
-    let found = finder.found(alloc, group, number)?;
-    let by = found_lines(alloc, rules, found)?;
+    let found = search.finder.found(alloc, search.group, number)?;
+    let by = found_lines(alloc, search.rules, found)?;
     Ok(Verdict {
         line: rule.line,
         by,
@@ -107,18 +113,12 @@ fn verdict_of(
 }
 
 /// Puts what is found for the records of a group behind other verdicts.
-fn put_group(
-    alloc: Global,
-    finder: &Finder,
-    group: u32,
-    rules: &[Rule],
-    verdicts: &mut Vec<Verdict>,
-) -> Result<(), Memory>
-    requires { length rules.now ≤ RECORDS }
-    ensures { OnOk result (verdicts.new.items ≡ verdicts.old.items ++ group_verdicts finder.now group rules.now) }
+fn put_group(alloc: Global, search: &GroupSearch, verdicts: &mut Vec<Verdict>) -> Result<(), Memory>
+    requires { length search.now.rules.now ≤ RECORDS }
+    ensures { OnOk result (verdicts.new.items ≡ verdicts.old.items ++ group_verdicts search.now.finder.now search.now.group search.now.rules.now) }
 {
-    for number in 0..rules.len() {
-        let verdict = verdict_of(alloc, finder, group, rules, number as u32, &rules[number])?;
+    for number in 0..search.rules.len() {
+        let verdict = verdict_of(alloc, search, number as u32, &search.rules[number])?;
         verdicts.push(verdict)?;
     }
     Ok(())
@@ -134,13 +134,12 @@ pub(crate) fn verdicts(alloc: Global, tables: &Tables) -> Result<Vec<Verdict>, M
     let groups = tables.groups.as_slice();
     let mut all = Vec::new(alloc);
     for group in 0..groups.len() {
-        put_group(
-            alloc,
-            &finder,
-            group as u32,
-            groups[group].rules.as_slice(),
-            &mut all,
-        )?;
+        let search = GroupSearch {
+            finder: &finder,
+            group: group as u32,
+            rules: groups[group].rules.as_slice(),
+        };
+        put_group(alloc, &search, &mut all)?;
     }
     Ok(all)
 }

@@ -6,5 +6,5 @@ use Rattle.rule_shadow.proofs.finding.least_each.Given as goal
 
 abbrev pub invariant-loop-element : goal.invariant-loop-element
 invariant-loop-element l =
-    least_onto l.subject.tables.now l.subject.group.now l.subject.number l.subject.rule.now l.place (filter_map item_of (drop l.element-index l.elements)) l.rules.items
-    ≡ least_onto l.subject.tables.now l.subject.group.now l.subject.number l.subject.rule.now l.place (filter_map item_of l.elements) []
+    least_onto l.search.subject.now.tables.now l.search.subject.now.group.now l.search.subject.now.number l.search.subject.now.rule.now l.place (filter_map item_of (drop l.element-index l.elements)) l.rules.items
+    ≡ least_onto l.search.subject.now.tables.now l.search.subject.now.group.now l.search.subject.now.number l.search.subject.now.rule.now l.place (filter_map item_of l.elements) []

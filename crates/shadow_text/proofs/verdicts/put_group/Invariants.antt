@@ -4,4 +4,5 @@ use Rattle.shadow_text.proofs.verdicts.put_group.Given as goal
 
 abbrev pub invariant-loop-number : goal.invariant-loop-number
 invariant-loop-number l =
-    l.verdicts.items ++ verdicts_from l.finder l.group l.rules l.number (drop l.number l.rules) ≡ l.fn.verdicts.items ++ group_verdicts l.finder l.group l.rules
+    l.verdicts.items ++ verdicts_from l.search.finder.now l.search.group l.search.rules.now l.number (drop l.number l.search.rules.now)
+    ≡ l.fn.verdicts.items ++ group_verdicts l.search.finder.now l.search.group l.search.rules.now
