@@ -4,6 +4,7 @@ use Rattle.std.specs.Prelude.{slice_get}
 use Rattle.std.proofs.lemmas.List.{get_or-map, length-map}
 use Rattle.std.proofs.lemmas.List.Sums.{count_by-le-length, sum_by-cons}
 use Rattle.std.proofs.lemmas.Option.{slice_get_within, get_or_from_slice_get}
+use Rattle.kmn_base.specs.declared.limits.TheConstants.{CONTEXT_ITEMS}
 use Rattle.rule_model.specs.declared.tables.Group.{Group}
 use Rattle.rule_model.specs.declared.tables.Pat.{Pat}
 use Rattle.rule_model.specs.declared.tables.Rule.{Rule}
@@ -36,7 +37,7 @@ context_found group index n rule is here =
 
 -- the count at the number of a record with a short context is its context's
 pub count_found : (group : Group) (index : RuleIndexValue) (n : ℕ) (rule : Rule) → IsRuleIndexOf group index → slice_get group.rules n ≡ Some rule
-    → length rule.context ≤ 60 → slice_index_or index.counts n 0 ≡ pattern_count (map (tab_pattern []) rule.context)
+    → length rule.context ≤ CONTEXT_ITEMS → slice_index_or index.counts n 0 ≡ pattern_count (map (tab_pattern []) rule.context)
 count_found group index n rule is here short =
     let contexts : List (List Pat) = record_contexts group in
     let within : n < length contexts = omega (arith, slice_get_within group.rules n rule here, length-map group.rules (λ (r : Rule). r.context)) in

@@ -28,7 +28,7 @@ record_contexts group = map (λ rule. rule.context) group.rules
 abbrev pub listed : {A : Type 0} → List (Vec ContextItem A) → List (List Pat)
 listed contexts = map (λ context. map pattern_of context.items) contexts
 
--- how many items of the text a context takes, as far as a byte counts: no more than 60 where it can be played
+-- how many items of the text a context takes, as far as a byte counts: no more than `CONTEXT_ITEMS`, which is less, where it can be played
 abbrev pub context_count : List Pat → ℕ
 context_count context = min (pattern_count (map (tab_pattern []) context)) 255
 

@@ -4,6 +4,7 @@ use Rattle.std.proofs.lemmas.Bool.{cases_Bool}
 use Rattle.std.proofs.lemmas.List.{length-map}
 use Rattle.std.proofs.lemmas.Option.{slice_get-map, unwrap_or-slice_get}
 use Rattle.std.specs.Prelude.{if◌then◌else◌, nat_eq, option_map, slice_get, slice_index_or}
+use Rattle.kmn_base.specs.declared.limits.TheConstants.{CONTEXT_ITEMS}
 use Rattle.kmn_base.specs.declared.items.Item.{Item}
 use Rattle.kmn_base.specs.declared.keys.KeyPress.{KeyPress}
 use Rattle.kmn_base.specs.declared.keys.RuleKey.TheVariants as key
@@ -51,7 +52,7 @@ context_of group index number is =
 
 -- its items are few
 pub items_few : (group : Group) (index : RuleIndexValue) (number : ℕ) → IsRuleIndexOf group index → AreShort group.rules
-    → (items : List ContextItem) → map pattern_of items ≡ slice_index_or index.contexts number [] → length items ≤ 60
+    → (items : List ContextItem) → map pattern_of items ≡ slice_index_or index.contexts number [] → length items ≤ CONTEXT_ITEMS
 items_few group index number is short items are = by (slice_get group.rules number) refl
   where
     count : (given : Option Rule) → slice_get group.rules number ≡ given → length items ≡ length (unwrap_or (option_map (λ (rule : Rule). rule.context) given) [])
@@ -60,7 +61,7 @@ items_few group index number is short items are = by (slice_get group.rules numb
         ∙ ap (λ (patterns : List Pat). length patterns) (are ∙ context_of group index number is
         ∙ ap (λ (given : Option Rule). unwrap_or (option_map (λ (rule : Rule). rule.context) given) []) here)
 
-    by : (given : Option Rule) → slice_get group.rules number ≡ given → length items ≤ 60
+    by : (given : Option Rule) → slice_get group.rules number ≡ given → length items ≤ CONTEXT_ITEMS
     by None here = omega (arith, count None here)
     by (Some rule) here = omega (arith, count (Some rule) here, short_in_rules group.rules number rule short here)
 

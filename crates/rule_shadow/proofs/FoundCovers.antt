@@ -8,6 +8,7 @@ use Rattle.std.specs.Option.{option_flatten}
 use Rattle.std.proofs.lemmas.Bool.{cases_Bool, cond-true, cond-false}
 use Rattle.std.proofs.lemmas.Bool.Decides.{nat_tests}
 use Rattle.std.proofs.lemmas.Option.{same_Some}
+use Rattle.kmn_base.specs.declared.limits.TheConstants.{STORE_ELEMENTS}
 use Rattle.kmn_base.specs.declared.items.Item.{Item}
 use Rattle.kmn_base.specs.declared.items.Element.{Element}
 use Rattle.rule_model.specs.declared.tables.Pat.{Pat}
@@ -166,18 +167,18 @@ fewer_items (e ∷ elements) =
     let whole : length (cons_option (item_of e) (filter_map item_of elements)) ≤ suc (length elements) = omega (arith, more, fewer) in
     whole
 
-few_elements : (tables : Tables) (store : ℕ) (o : Option Store) → IsWritable tables → slice_get tables.stores store ≡ o → length (store_elements o) ≤ 65535
+few_elements : (tables : Tables) (store : ℕ) (o : Option Store) → IsWritable tables → slice_get tables.stores store ≡ o → length (store_elements o) ≤ STORE_ELEMENTS
 few_elements tables store None writable is = omega arith
 few_elements tables store (Some s) writable is = (all_at IsWritableStore tables.stores store s writable.stores is).element_count
 
-few_items : (tables : Tables) (o : Option Item) (p : Option Pat) (items : List Item) → IsWritable tables → split_items tables o p ≡ Some items → length items ≤ 65535
+few_items : (tables : Tables) (o : Option Item) (p : Option Pat) (items : List Item) → IsWritable tables → split_items tables o p ≡ Some items → length items ≤ STORE_ELEMENTS
 few_items tables None (Some (pattern.Any store)) items writable is = elim (cases_Bool (is_fixed tables store)) [
   | inl fixed ↦
       let all : items_of tables store ≡ items = same_Some (items_of tables store) items (sym (cond-true (is_fixed tables store) (Some (items_of tables store)) None fixed) ∙ is) in
       let fewer = fewer_items (elements_of tables.stores store) in
       let few = few_elements tables store (slice_get tables.stores store) writable refl in
-      let bound : length (items_of tables store) ≤ 65535 = omega (arith, fewer, few) in
-      subst (λ (items : List Item). length items ≤ 65535) all bound
+      let bound : length (items_of tables store) ≤ STORE_ELEMENTS = omega (arith, fewer, few) in
+      subst (λ (items : List Item). length items ≤ STORE_ELEMENTS) all bound
   | inr other ↦ let absurd_case : None ≡ Some items = sym (cond-false (is_fixed tables store) (Some (items_of tables store)) None other) ∙ is in cc
 ]
 few_items tables o p items writable is = cc

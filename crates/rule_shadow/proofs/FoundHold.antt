@@ -5,6 +5,7 @@ use Rattle.std.specs.Option.{option_flatten}
 use Rattle.std.specs.List.{list_any}
 use Rattle.std.proofs.lemmas.Bool.{and_parts, cases_Bool, cond-true, cond-false}
 use Rattle.std.proofs.lemmas.Bool.Decides.{nat_tests}
+use Rattle.kmn_base.specs.declared.limits.TheConstants.{CONTEXT_ITEMS}
 use Rattle.kmn_base.specs.declared.items.Item.{Item}
 use Rattle.kmn_base.specs.declared.items.Element.{Element}
 use Rattle.kmn_base.specs.declared.keys.RuleKey.TheVariants as key
@@ -70,7 +71,7 @@ module _ (tables : Tables) (group : Group) (values : List (List Element)) (left 
   one_holds place x (y ∷ items) [] at among least = absurd least
   one_holds place x (y ∷ items) (q ∷ qs) at among least = elim (cases_Bool (same_item x y)) [
     | inl same ↦
-        let agrees = narrowed_agrees tables group values left press number r keyed caught e nothing_narrowed (taken_items r left) place x y (nothing_agrees tables values 60 (taken_items r left)) at (same_is x y same) in
+        let agrees = narrowed_agrees tables group values left press number r keyed caught e nothing_narrowed (taken_items r left) place x y (nothing_agrees tables values CONTEXT_ITEMS (taken_items r left)) at (same_is x y same) in
         record { index = 0; place = q; there = refl; before = least_holds (narrowed nothing_narrowed place y) q least.0 agrees }
     | inr other ↦ one_behind q qs (one_holds place x items qs at (sym (ap (λ b. b || list_any (same_item x) items) other) ∙ among) least.1)
   ]
@@ -94,7 +95,7 @@ module _ (tables : Tables) (group : Group) (values : List (List Element)) (left 
           let items = with_items tables group number r place (items_at tables r nothing_narrowed place) rules is in
           let least = each_least tables group number r place items.0 [] rules items.2 in
           let item = split_item tables group values left press number r keyed caught e nothing_narrowed place (option_flatten (slice_get nothing_narrowed place)) (slice_get (patterns_of r.context) place) items.0
-          items.1 refl (nothing_agrees tables values 60 (taken_items r left)) in
+          items.1 refl (nothing_agrees tables values CONTEXT_ITEMS (taken_items r left)) in
           let one = one_holds place item.0 items.0 least.0 item.1 item.2 least.2 in
           record { place = one.place; named = (one.index, ap (λ (qs : List ℕ). slice_get qs one.index) least.1 ∙ one.there); before = one.before }
 
@@ -104,7 +105,7 @@ module _ (tables : Tables) (group : Group) (values : List (List Element)) (left 
       by : (o : Option ℕ) → least_by tables group number r nothing_narrowed ≡ o → by_or o (first_split tables group number r 0 r.context) ≢ finding.NotFound
           → NamedBefore (by_or o (first_split tables group number r 0 r.context))
       by None is some = split_holds 0 r.context some
-      by (Some q) is some = record { place = q; named = refl; before = least_holds nothing_narrowed q is (nothing_agrees tables values 60 (taken_items r left)) }
+      by (Some q) is some = record { place = q; named = refl; before = least_holds nothing_narrowed q is (nothing_agrees tables values CONTEXT_ITEMS (taken_items r left)) }
 
 pub found_hold_before : FoundHoldBefore
 found_hold_before tables n number group r writable at here some values left press held =

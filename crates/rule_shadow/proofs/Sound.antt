@@ -7,6 +7,7 @@ use Rattle.std.proofs.lemmas.Bool.{and_parts, cases_Bool, cond-true, cond-false}
 use Rattle.std.proofs.lemmas.Bool.Decides.{nat_tests}
 use Rattle.std.proofs.lemmas.Option.{same_Some, slice_get_cases, get_or_from_slice_get}
 use Rattle.rule_model.specs.Keyboard.{Numbered}
+use Rattle.kmn_base.specs.declared.limits.TheConstants.{CONTEXT_ITEMS}
 use Rattle.kmn_base.specs.declared.items.Item.{Item}
 use Rattle.kmn_base.specs.declared.items.Element.{Element}
 use Rattle.kmn_base.specs.declared.keys.RuleKey.{RuleKey}
@@ -41,7 +42,7 @@ all_at P xs k x h e = elim (slice_get_cases xs k).1 [
 ]
 
 -- the contexts of writable tables have few items
-pub context_fits : (tables : Tables) (n number : ℕ) (group : Group) (r : Rule) → IsWritable tables → slice_get tables.groups n ≡ Some group → slice_get group.rules number ≡ Some r → length r.context ≤ 60
+pub context_fits : (tables : Tables) (n number : ℕ) (group : Group) (r : Rule) → IsWritable tables → slice_get tables.groups n ≡ Some group → slice_get group.rules number ≡ Some r → length r.context ≤ CONTEXT_ITEMS
 context_fits tables n number group r writable at here =
     let written = all_at (IsWritableGroup (length tables.stores) (length tables.groups)) tables.groups n group writable.groups at in
     let rule_written = all_at (IsWritableRule (length tables.stores) (length tables.groups) group.using_keys) group.rules number r written.rules here in
@@ -200,5 +201,5 @@ covered_never_go_first tables n number group cert writable at covered values lef
     let rule_written = all_at (IsWritableRule (length tables.stores) (length tables.groups) group.using_keys) group.rules number r written.rules here.1 in
     let under : covers_under tables group number r nothing_narrowed cert ≡ true =
     ap (λ o. covers_record tables group number o cert) (sym here.1) ∙ (ap (λ o. covers_in tables o number cert) (sym at) ∙ covered) in
-    let before = cert_sound tables group values left press number r (has_key group.using_keys r.key rule_written.key) caught.0 caught.1 cert nothing_narrowed under (nothing_agrees tables values 60 (taken_items r left)) in
+    let before = cert_sound tables group values left press number r (has_key group.using_keys r.key rule_written.key) caught.0 caught.1 cert nothing_narrowed under (nothing_agrees tables values CONTEXT_ITEMS (taken_items r left)) in
     none_before p group.rules number before.0 before.1 first before.2 before.3 before.4

@@ -1,5 +1,6 @@
 ghost use Rattle.std.specs.Prelude.{◌≡◌, ◌≤◌, length, slice_get, filter_map, option_map};
 ghost use Rattle.std.specs.Option.{option_flatten};
+ghost use Rattle.kmn_base.specs.declared.limits.TheConstants.{CONTEXT_ITEMS};
 ghost use Rattle.rule_model.specs.Match.{item_of};
 ghost use Rattle.rule_shadow.specs.Places.{items_of, patterns_of};
 ghost use Rattle.rule_shadow.specs.Covers.{items_at, narrowed, nothing_narrowed, covers_by, covers_under, covers_list};
@@ -8,6 +9,7 @@ use crate::cert::Cert;
 use crate::covering::covers_rule;
 use crate::place_list::{is_matched, places};
 use crate::subject::Subject;
+use kmn_base::limits::CONTEXT_ITEMS;
 use kmn_base::{Element, Item};
 use rule_model::{Pat, item_of};
 
@@ -54,26 +56,31 @@ pub fn split_store(subject: &Subject, narrowing: &[Option<Item>], place: u32) ->
 }
 
 /// No place is narrowed.
-pub fn nothing_narrowed() -> [Option<Item>; 60]
+pub fn nothing_narrowed() -> [Option<Item>; CONTEXT_ITEMS]
     ensures { result ≡ nothing_narrowed }
 {
-    [None; 60]
+    [None; CONTEXT_ITEMS]
 }
 
 /// A narrowing with one place more.
-pub fn narrowed(narrowing: &[Option<Item>; 60], place: u32, item: Item) -> [Option<Item>; 60]
+pub fn narrowed(
+    narrowing: &[Option<Item>; CONTEXT_ITEMS],
+    place: u32,
+    item: Item,
+) -> [Option<Item>; CONTEXT_ITEMS]
     ensures { result ≡ narrowed narrowing.now place item }
 {
     let mut more = *narrowing;
-    if place < 60 {
-        more[place as usize] = Some(item);
+    let place = place as usize;
+    if place < CONTEXT_ITEMS {
+        more[place] = Some(item);
     }
     more
 }
 
 /// Whether the record of a number, which is less, covers a record under a narrowing.
 fn covers_by(subject: &Subject, narrowing: &[Option<Item>], by: u32) -> bool
-    requires { length subject.now.rule.now.context ≤ 60 }
+    requires { length subject.now.rule.now.context ≤ CONTEXT_ITEMS }
     ensures { result ≡ covers_by subject.now.tables.now subject.now.group.now subject.now.number subject.now.rule.now narrowing.now by }
 {
     if by >= subject.number {
@@ -98,12 +105,12 @@ fn covers_by(subject: &Subject, narrowing: &[Option<Item>], by: u32) -> bool
 #[cycle(certs)]
 fn covers_parts(
     subject: &Subject,
-    narrowing: &[Option<Item>; 60],
+    narrowing: &[Option<Item>; CONTEXT_ITEMS],
     place: u32,
     elements: &[Element],
     parts: &[Cert],
 ) -> bool
-    requires { length subject.now.rule.now.context ≤ 60 }
+    requires { length subject.now.rule.now.context ≤ CONTEXT_ITEMS }
     ensures { result ≡ covers_list subject.now.tables.now subject.now.group.now subject.now.number subject.now.rule.now narrowing.now place (filter_map item_of elements.now) parts.now }
 {
     let mut next = 0;
@@ -125,8 +132,12 @@ fn covers_parts(
 /// Whether what a certificate says of a record is so, under a narrowing.
 #[cycle(certs)]
 #[tactic(auto, using(crate::proofs::Rows::covers_row))]
-pub fn covers_under(subject: &Subject, narrowing: &[Option<Item>; 60], cert: &Cert) -> bool
-    requires { length subject.now.rule.now.context ≤ 60 }
+pub fn covers_under(
+    subject: &Subject,
+    narrowing: &[Option<Item>; CONTEXT_ITEMS],
+    cert: &Cert,
+) -> bool
+    requires { length subject.now.rule.now.context ≤ CONTEXT_ITEMS }
     ensures { result ≡ covers_under subject.now.tables.now subject.now.group.now subject.now.number subject.now.rule.now narrowing.now cert.now }
 {
     match cert {

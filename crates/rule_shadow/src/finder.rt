@@ -10,6 +10,7 @@ use crate::flagged::FlaggedTables;
 use crate::subject::Subject;
 use indexed_tables::{mark_options, option_flags};
 use kmn_base::Memory;
+use kmn_base::limits::STORES;
 use rule_model::Tables;
 use std::alloc::Global;
 use std::marker::Model;
@@ -150,7 +151,7 @@ pub fn covers(tables: &Tables, group: u32, rule: u32, cert: &Cert) -> bool
     requires { IsWritable tables.now }
     ensures { result ≡ covers tables.now group rule cert.now }
 {
-    let mut flags = [false; 20_000];
+    let mut flags = [false; STORES];
     mark_options(&mut flags, tables);
     covers_in(
         &FlaggedTables::without_sets(tables, &flags),

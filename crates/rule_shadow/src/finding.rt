@@ -2,6 +2,7 @@
 
 ghost use Rattle.std.specs.Prelude.{◌≡◌, ◌≤◌, ◌<◌, ◌^◌, ◌+◌, ◌&&◌, [], length, take, slice_get, IfOk, filter_map, map};
 ghost use Rattle.std.specs.List.{list_any, position_from};
+ghost use Rattle.kmn_base.specs.declared.limits.TheConstants.{CONTEXT_ITEMS};
 ghost use Rattle.rule_model.specs.Match.{item_of};
 ghost use Rattle.rule_shadow.specs.declared.cert.Cert.{By};
 ghost use Rattle.rule_shadow.specs.Keys.{fitting_presses};
@@ -16,6 +17,7 @@ use crate::key_cover::{fits_each, fitting_presses};
 use crate::near::{Near, is_at_most, near_rules};
 use crate::place_list::{is_matched, places};
 use crate::subject::Subject;
+use kmn_base::limits::CONTEXT_ITEMS;
 use kmn_base::{Element, Item, Memory, Seq};
 use rule_model::{Pat, Rule, item_of};
 use std::alloc::Global;
@@ -74,8 +76,12 @@ fn first_covering(
 }
 
 /// The least record before one that covers it under a narrowing.
-fn least_by(subject: &Subject, presses: &[Pressed], narrowing: &[Option<Item>; 60]) -> Option<u32>
-    requires few { length subject.now.rule.now.context ≤ 60 }
+fn least_by(
+    subject: &Subject,
+    presses: &[Pressed],
+    narrowing: &[Option<Item>; CONTEXT_ITEMS],
+) -> Option<u32>
+    requires few { length subject.now.rule.now.context ≤ CONTEXT_ITEMS }
     requires fitting { presses.now ≡ fitting_presses subject.now.rule.now.key }
     ensures { result ≡ least_by subject.now.tables.now subject.now.group.now subject.now.number subject.now.rule.now narrowing.now }
 {
@@ -112,7 +118,7 @@ fn first_near(search: &Search, place: u32, places: &[Place]) -> Option<u32>
 
 /// The records before one that miss one of its places at most.
 fn near_before(alloc: Global, subject: &Subject, presses: &[Pressed]) -> Result<Vec<Near>, Memory>
-    requires few { length subject.now.rule.now.context ≤ 60 }
+    requires few { length subject.now.rule.now.context ≤ CONTEXT_ITEMS }
     requires fitting { presses.now ≡ fitting_presses subject.now.rule.now.key }
     ensures { IfOk result (λ near. near.items ≡ near_before subject.now.tables.now subject.now.group.now subject.now.number subject.now.rule.now) }
 {
@@ -129,7 +135,7 @@ fn near_before(alloc: Global, subject: &Subject, presses: &[Pressed]) -> Result<
 
 /// The least record before one that covers it where a place is narrowed to an item.
 fn least_narrowed(search: &Search, place: u32, item: Item) -> Option<u32>
-    requires few { length search.now.subject.now.rule.now.context ≤ 60 }
+    requires few { length search.now.subject.now.rule.now.context ≤ CONTEXT_ITEMS }
     requires fitting { search.now.presses.now ≡ fitting_presses search.now.subject.now.rule.now.key }
     requires near { search.now.near.now ≡ near_before search.now.subject.now.tables.now search.now.subject.now.group.now search.now.subject.now.number search.now.subject.now.rule.now }
     ensures { result ≡ least_by search.now.subject.now.tables.now search.now.subject.now.group.now search.now.subject.now.number search.now.subject.now.rule.now (narrowed nothing_narrowed place item) }
@@ -147,7 +153,7 @@ fn least_each(
     place: u32,
     elements: &[Element],
 ) -> Result<Option<Seq<u32>>, Memory>
-    requires few { length search.now.subject.now.rule.now.context ≤ 60 }
+    requires few { length search.now.subject.now.rule.now.context ≤ CONTEXT_ITEMS }
     requires fitting { search.now.presses.now ≡ fitting_presses search.now.subject.now.rule.now.key }
     requires near { search.now.near.now ≡ near_before search.now.subject.now.tables.now search.now.subject.now.group.now search.now.subject.now.number search.now.subject.now.rule.now }
     ensures { IfOk result (λ rules. rules ≡ least_onto search.now.subject.now.tables.now search.now.subject.now.group.now search.now.subject.now.number search.now.subject.now.rule.now place (filter_map item_of elements.now) []) }
@@ -166,7 +172,7 @@ fn least_each(
 
 /// The least records by which a record splits at a place.
 fn split_rules(alloc: Global, search: &Search, place: u32) -> Result<Option<Seq<u32>>, Memory>
-    requires few { length search.now.subject.now.rule.now.context ≤ 60 }
+    requires few { length search.now.subject.now.rule.now.context ≤ CONTEXT_ITEMS }
     requires fitting { search.now.presses.now ≡ fitting_presses search.now.subject.now.rule.now.key }
     requires near { search.now.near.now ≡ near_before search.now.subject.now.tables.now search.now.subject.now.group.now search.now.subject.now.number search.now.subject.now.rule.now }
     ensures { IfOk result (λ rules. rules ≡ split_rules search.now.subject.now.tables.now search.now.subject.now.group.now search.now.subject.now.number search.now.subject.now.rule.now place) }
@@ -182,10 +188,10 @@ fn split_rules(alloc: Global, search: &Search, place: u32) -> Result<Option<Seq<
 
 /// The first place, from one on, at which a record splits.
 fn first_split(alloc: Global, search: &Search, place: u32, context: &[Pat]) -> Result<Found, Memory>
-    requires few { length search.now.subject.now.rule.now.context ≤ 60 }
+    requires few { length search.now.subject.now.rule.now.context ≤ CONTEXT_ITEMS }
     requires fitting { search.now.presses.now ≡ fitting_presses search.now.subject.now.rule.now.key }
     requires near { search.now.near.now ≡ near_before search.now.subject.now.tables.now search.now.subject.now.group.now search.now.subject.now.number search.now.subject.now.rule.now }
-    requires places { place + length context.now ≤ 60 }
+    requires places { place + length context.now ≤ CONTEXT_ITEMS }
     ensures { IfOk result (λ found. found ≡ first_split search.now.subject.now.tables.now search.now.subject.now.group.now search.now.subject.now.number search.now.subject.now.rule.now place context.now) }
 {
     let [pattern, rest @ ..] = context else {
@@ -215,7 +221,7 @@ fn has_any(context: &[Pat]) -> bool
 /// The first place at which a record splits.
 #[tactic(auto, using(crate::proofs::NearRules::never_split))]
 fn split_for(alloc: Global, subject: &Subject, presses: &[Pressed]) -> Result<Found, Memory>
-    requires few { length subject.now.rule.now.context ≤ 60 }
+    requires few { length subject.now.rule.now.context ≤ CONTEXT_ITEMS }
     requires fitting { presses.now ≡ fitting_presses subject.now.rule.now.key }
     ensures { IfOk result (λ found. found ≡ first_split subject.now.tables.now subject.now.group.now subject.now.number subject.now.rule.now 0 subject.now.rule.now.context) }
 {
@@ -234,7 +240,7 @@ fn split_for(alloc: Global, subject: &Subject, presses: &[Pressed]) -> Result<Fo
 
 /// What is found for a record.
 pub fn found_for(alloc: Global, subject: &Subject) -> Result<Found, Memory>
-    requires { length subject.now.rule.now.context ≤ 60 }
+    requires { length subject.now.rule.now.context ≤ CONTEXT_ITEMS }
     ensures { IfOk result (λ found. found ≡ found_for subject.now.tables.now subject.now.group.now subject.now.number subject.now.rule.now) }
 {
     let presses = fitting_presses(alloc, subject.rule.key)?;

@@ -1,4 +1,5 @@
 ghost use Rattle.std.specs.Prelude.{◌≡◌, ◌+◌, ◌≤◌, ◌++◌, [], length};
+ghost use Rattle.kmn_base.specs.declared.limits.TheConstants.{CONTEXT_ITEMS};
 ghost use Rattle.kmx_format.specs.Writable.{is_matched};
 ghost use Rattle.rule_shadow.specs.Places.{first_given, store_range, range_at, stated_range, range_of, places_from};
 
@@ -6,6 +7,7 @@ use crate::cert::{Place, Range};
 use crate::flagged::FlaggedTables;
 use arrayvec::ArrayVec;
 use kmn_base::Item;
+use kmn_base::limits::CONTEXT_ITEMS;
 use kmn_base::slices::behind;
 use rule_model::Pat;
 
@@ -78,11 +80,11 @@ fn add_places(
     tables: &FlaggedTables,
     narrowing: &[Option<Item>],
     context: &[Pat],
-    seen: &mut ArrayVec<Range, 60>,
-    places: &mut ArrayVec<Place, 60>,
+    seen: &mut ArrayVec<Range, CONTEXT_ITEMS>,
+    places: &mut ArrayVec<Place, CONTEXT_ITEMS>,
 )
-    requires seen { length seen.old.items + length context.now ≤ 60 }
-    requires places { length places.old.items + length context.now ≤ 60 }
+    requires seen { length seen.old.items + length context.now ≤ CONTEXT_ITEMS }
+    requires places { length places.old.items + length context.now ≤ CONTEXT_ITEMS }
     ensures { places.new.items ≡ places.old.items ++ places_from tables.now narrowing.now seen.old.items context.now }
 {
     let [pattern, rest @ ..] = context else {
@@ -107,8 +109,8 @@ pub fn places(
     tables: &FlaggedTables,
     narrowing: &[Option<Item>],
     context: &[Pat],
-) -> ArrayVec<Place, 60>
-    requires { length context.now ≤ 60 }
+) -> ArrayVec<Place, CONTEXT_ITEMS>
+    requires { length context.now ≤ CONTEXT_ITEMS }
     ensures { result.items ≡ places_from tables.now narrowing.now [] context.now }
 {
     let mut places = ArrayVec::new();

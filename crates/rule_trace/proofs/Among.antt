@@ -5,6 +5,7 @@ use Rattle.std.specs.List.{AllByRecursion, Contains}
 use Rattle.std.proofs.lemmas.Option.{same_Some, none-some}
 use Rattle.std.proofs.lemmas.List.Elements.{All-push, All-nil, Contains-append_left, Contains-append_right}
 use Rattle.std.proofs.lemmas.List.Concat.{flat_map-cons}
+use Rattle.kmn_base.specs.declared.limits.TheConstants.{EVENT_ENTRIES}
 use Rattle.kmn_base.specs.declared.keys.KeyPress.{KeyPress}
 use Rattle.kmn_base.specs.declared.events.Event.TheVariants as event
 use Rattle.kmn_base.specs.Names.{same_name}
@@ -71,7 +72,7 @@ Keeps P adding = (group : Ref) (s : EventState) (lines : List ℕ) → All P lin
 
 one-keeps : (P : ℕ → Type 0) (adding : Adding) → Keeps P adding → (output : Output) (s : EventState) (lines : List ℕ) → All P lines → All P (lines_of_one adding output s lines)
 unfolding Keeps
-one-keeps P adding keeps (UseGroup group) s lines h = either P (nat_le 50 s.entered) lines (adding group s lines) h (keeps group s lines h)
+one-keeps P adding keeps (UseGroup group) s lines h = either P (nat_le EVENT_ENTRIES s.entered) lines (adding group s lines) h (keeps group s lines h)
 one-keeps P adding keeps output s lines h = h
 
 module _ (P : ℕ → Type 0) (kb : Keyboard) (is_first : kb.choice ≡ First) (each : AllByRecursion (HasLines P) kb.groups) where
@@ -116,7 +117,7 @@ module _ (P : ℕ → Type 0) (kb : Keyboard) (is_first : kb.choice ≡ First) (
 
   press-keeps : (press : KeyPress) (s : EventState) → All P (lines_of_press kb press s)
   unfolding Keeps
-  press-keeps press s = subst (All P) (sym (press-adds kb press s)) (level-keeps press 50 kb.start s [] (All-nil P))
+  press-keeps press s = subst (All P) (sym (press-adds kb press s)) (level-keeps press EVENT_ENTRIES kb.start s [] (All-nil P))
 
 -- records have their lines
 rules_have : (P : ℕ → Type 0) (stores : List Store) (using_keys : Bool) (rules : List Rule) → ((line : ℕ) → Contains (rule_lines rules) line → P line) →

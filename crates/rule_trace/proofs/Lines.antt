@@ -4,6 +4,7 @@ use Rattle.std.specs.Prelude.{filter, find, flat_map, nat_eq, nat_le, option_map
 use Rattle.std.specs.List.{list_all}
 use Rattle.std.proofs.lemmas.Bool.{and_parts, false≢true}
 use Rattle.std.proofs.lemmas.List.{map-append}
+use Rattle.kmn_base.specs.declared.limits.TheConstants.{EVENT_ENTRIES}
 use Rattle.kmn_base.specs.declared.items.Element.{Element}
 use Rattle.kmn_base.specs.declared.items.Element.TheVariants as element
 use Rattle.kmn_base.specs.declared.keys.KeyPress.{KeyPress}
@@ -95,7 +96,7 @@ module _ (p : Program) (t : Tables) (l : Linked p t) (e f : Ref → EventState �
       ≡ (if s.stopped then lines else lines_of_one d (src_output (names_of p) x) s lines)
   one-lines (source.Index store offset) known s lines = index-lines store offset (nat_eq offset (n + 1)) s lines
   one-lines (source.Outs store) known s lines = elements-lines t.stores (tab t) f h (lost c) (elements_named (stores_of p) store) s lines ∙ sym (nothing_added s.stopped lines)
-  one-lines (source.Enter group) known s lines = λ i. if s.stopped then lines else (if nat_le 50 s.entered then lines else same_lines group known s lines i)
+  one-lines (source.Enter group) known s lines = λ i. if s.stopped then lines else (if nat_le EVENT_ENTRIES s.entered then lines else same_lines group known s lines i)
   one-lines x known s lines = refl
 
   outputs-lines : (xs : List SrcItem) → list_all (is_known_output p n) xs ≡ true → list_all (λ x. list_all (is_value p) (item_values x)) xs ≡ true → (s : EventState) (lines : List ℕ) →
@@ -166,16 +167,16 @@ start-lines : (p : Program) (t : Tables) → IsWellNamed p → Compiles p t → 
 start-lines p t ok c n press s None h = absurd (false≢true h)
 start-lines p t ok c n press s (Some start) h = sym (level-lines p t ok c press n start.group h s [])
 
-pub press-adds : (kb : Keyboard) (press : KeyPress) (s : EventState) → lines_of_press kb press s ≡ add_lines 50 kb press kb.start s []
+pub press-adds : (kb : Keyboard) (press : KeyPress) (s : EventState) → lines_of_press kb press s ≡ add_lines EVENT_ENTRIES kb press kb.start s []
 unfolding lines_of_press
 press-adds kb press s = refl
 
 press-lines : (p : Program) (t : Tables) → IsWellNamed p → Compiles p t → (press : KeyPress) (s : EventState) → lines_of_press (src p) press s ≡ lines_of_press (tab t) press s
 press-lines p t ok c press s =
     press-adds (src p) press s
-    ∙ (ap (λ r. add_lines 50 (src p) press r s []) (src_start p)
-    ∙ (start-lines p t ok c 50 press s (find is_unicode p.begins) ok.start
-    ∙ (ap (λ r. add_lines 50 (tab t) press r s []) (ap Numbered (sym c.start_unicode) ∙ sym (tab_start t))
+    ∙ (ap (λ r. add_lines EVENT_ENTRIES (src p) press r s []) (src_start p)
+    ∙ (start-lines p t ok c EVENT_ENTRIES press s (find is_unicode p.begins) ok.start
+    ∙ (ap (λ r. add_lines EVENT_ENTRIES (tab t) press r s []) (ap Numbered (sym c.start_unicode) ∙ sym (tab_start t))
     ∙ sym (press-adds (tab t) press s))))
 
 pub choice_kept : ChoiceIsKept
