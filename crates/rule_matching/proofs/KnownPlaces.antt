@@ -2,7 +2,7 @@
 use Rattle.std.proofs.Common.{◌≡◌, ℕ, zero, suc, ◌+◌, ◌-◌, ◌<◌, ◌≤◌, ◌⊎◌, Bool, true, false, List, [], ◌∷◌, ◌++◌, length, drop, get_or, Option, Some, None, refl, sym, ◌∙◌, ap, subst, inl, inr, arith}
 use Rattle.std.specs.Prelude.{if◌then◌else◌, option_and_then, slice_get}
 use Rattle.std.proofs.lemmas.Bool.{le-ltb, lt-ltb}
-use Rattle.std.proofs.lemmas.List.{drop_all, drop_more}
+use Rattle.std.proofs.lemmas.List.{drop_more}
 use Rattle.std.proofs.lemmas.Option.{get_or_from_slice_get}
 use Rattle.kmn_base.specs.declared.items.Item.{Item}
 use Rattle.rule_model.specs.declared.event_state.Catch.{Catch}
@@ -117,9 +117,3 @@ module _ (content : Content) (seen : List Catch) (pattern : Pattern) (patterns :
       let uncaught : None ≡ catch_of content seen pattern found.0 = is ∙ ap (option_and_then (catch_of content seen pattern)) here in
       first distance found.0 within here
       ∙ if_uncaught (matches content seen pattern found.0) (one found.0) (λ c. rest c (drop (length left - distance) left)) uncaught
-
-  -- or there is no item
-  pub none_ahead : catches_from content seen (pattern ∷ patterns) (drop (length left - 0) left) ≡ None
-  none_ahead =
-      ap (catches_from content seen (pattern ∷ patterns)) (drop_all (length left - 0) left (omega arith))
-      ∙ (λ i. if takes i then catch_item content seen pattern rest [] else rest nothing_caught [])

@@ -119,9 +119,6 @@ module _ (tables : Tables) (values : List (List Element)) where
     | inr other ↦ range_matched p place.range x (sym (ap (λ b. b || covers_range tables p place.range) other) ∙ e) within cs
   ]
 
-  abbrev Caught_all : Type 0
-  Caught_all = Unit {0}
-
   -- patterns that cover places catch the items there
   each_caught : (context : List Pat) (places : List Place) (text : List Item) (cs : List Catch) → length (patterns_of context) ≡ length places → cover_each tables (patterns_of context) places ≡ true → AreAt tables values places text
       → (r : List Catch) × (catches_from has cs (map (tab_pattern tables.stores) context) text ≡ Some r)
