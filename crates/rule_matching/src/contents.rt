@@ -1,8 +1,8 @@
-ghost use Rattle.std.specs.Prelude.{◌≡◌, ◌<◌, Some, length, option_map};
+ghost use Rattle.std.specs.Prelude.{◌≡◌, ◌<◌, None, Some, length, option_map};
 ghost use Rattle.option_store.specs.Cells.{held_value, cell_at};
 ghost use Rattle.option_store.specs.Meaning.{stated, option_values, option_saves};
-ghost use Rattle.option_store.specs.declared.options.Held.TheVariants.{Host};
-ghost use Rattle.rule_model.specs.Content.{content, elements_at};
+ghost use Rattle.option_store.specs.declared.options.Held.TheVariants.{Host, Store};
+ghost use Rattle.rule_model.specs.Content.{content, option_number};
 ghost use Rattle.rule_model.specs.Keyboard.{Numbered};
 ghost use Rattle.rule_model.specs.Tab.{tab};
 ghost use Rattle.rule_matching.specs.Moment.{saved_of};
@@ -36,6 +36,7 @@ pub fn held_now(indexed: &IndexedKeyboard, options: &Options, store: u32) -> Hel
     ensures value { held_value (stated (tab indexed.now).stores) (cell_at options.now store).text result
         ≡ content (tab indexed.now).stores (option_values (tab indexed.now).stores options.now) (Numbered store) }
     ensures option { result ≡ Host → store < length options.now }
+    ensures itself { option_number (tab indexed.now).stores (Numbered store) ≡ None → result ≡ Store store }
 {
     match indexed.option_number(store) {
         Some(_) => options.current(store),

@@ -2,6 +2,7 @@ ghost use Rattle.std.specs.Prelude.{◌≡◌, ◌<◌, true, length, is_some};
 ghost use Rattle.kmn_base.specs.declared.limits.TheConstants.{WINDOW_ITEMS};
 ghost use Rattle.rule_matching.specs.Choices.{RemembersFor};
 ghost use Rattle.rule_matching.specs.Matching.{place_in_stated, IsMarkedRight};
+ghost use Rattle.rule_matching.specs.PlaceMemory.{rooms};
 ghost use Rattle.rule_matching.specs.StoreMarks.{is_known, marked_room};
 
 use crate::choice::Choice;
@@ -38,6 +39,7 @@ pub fn is_marked(choice: &Choice<'_>, distance: usize, store: u32, places: &mut 
     requires right { RemembersFor choice.now places.old }
     ensures value { result ≡ is_some (place_in_stated choice.now.moment.now.tables choice.now.left.now store distance) }
     ensures right { RemembersFor choice.now places.new }
+    ensures rooms { rooms places.new ≡ rooms places.old }
 {
     mark_distance(choice, distance, &mut places.marks);
     places.marks.is_marked(store, distance)

@@ -10,6 +10,7 @@ ghost use Rattle.rule_index.specs.Groups.{IsRuleIndexOf};
 ghost use Rattle.rule_matching.specs.Choices.{all_caught, caught_in, content_of, meaning_in, record_in, RemembersFor};
 ghost use Rattle.rule_matching.specs.Matching.{allowed_catches, catch_of, compares_store, is_allowed, item_before, item_meaning, looks_at_store};
 ghost use Rattle.rule_matching.specs.Moment.{content_at, held_record, AreShort};
+ghost use Rattle.rule_matching.specs.PlaceMemory.{rooms};
 
 use crate::caught::MatchedItems;
 use crate::choice::Choice;
@@ -79,6 +80,7 @@ fn taken_by(
     ensures taken { option_map (caught_in choice.now) result ≡ option_and_then
         (catch_of (content_of choice.now) (map (caught_in choice.now) taken.now) (meaning_in choice.now item)) (item_before choice.now.left.now distance) }
     ensures right { RemembersFor choice.now places.new }
+    ensures rooms { rooms places.new ≡ rooms places.old }
 {
     match item {
         ContextItem::Any(store) | ContextItem::NotAny(store) => {
@@ -152,6 +154,7 @@ fn takes_context(
         (content_of choice.now) (nat_eq (length choice.now.left.now) count) [] (map (meaning_in choice.now) context.now)
         (drop (length choice.now.left.now - count) choice.now.left.now) }
     ensures right { RemembersFor choice.now places.new }
+    ensures rooms { rooms places.new ≡ rooms places.old }
 {
     taken.clear();
     let mut ahead = count;
@@ -201,6 +204,7 @@ fn held_record<'g>(
         ≡ held_record (content_of choice.now) choice.now.left.now choice.now.pressed (option_map (record_in choice.now entered.now.group.now) (slice_get entered.now.group.now.rules number)) }
     ensures among { IfSome result (λ rule. Contains entered.now.group.now.rules rule) }
     ensures right { RemembersFor choice.now places.new }
+    ensures rooms { rooms places.new ≡ rooms places.old }
 {
     let count = entered.records.pattern_count(number);
     if choice.left.len() < count {
@@ -226,7 +230,8 @@ fn held_record<'g>(
 
 /// The first record of an entered group that holds on a list at a moment. Only those are tried that their index names for the
 /// press and the last item: no other can hold. What it catches is written where the caller has room for it, which stays as it was
-/// where none holds. Each place of an item in a store is looked for once.
+/// where none holds. Each place of an item in a store is looked for once. What was known of places before is forgotten first:
+/// the memory tells a caller nothing, and keeps its room.
 pub fn first_held<'g>(
     moment: &Moment<'_>,
     entered: &EnteredGroup<'_, 'g>,
@@ -240,6 +245,7 @@ pub fn first_held<'g>(
         (holds (content_at moment.now) left.now entered.now.press) (map (tab_rule moment.now.tables.stores entered.now.group.now.using_keys) entered.now.group.now.rules) }
     ensures none { result ≡ None → caught.new ≡ caught.old }
     ensures among { IfSome result (λ rule. Contains entered.now.group.now.rules rule) }
+    ensures rooms { rooms places.new ≡ rooms places.old }
 {
     places.forget();
     let choice = Choice {

@@ -1,6 +1,6 @@
-ghost use Rattle.std.specs.Prelude.{◌≡◌, Some, IfSome, length, slice_get};
+ghost use Rattle.std.specs.Prelude.{◌≡◌, None, Some, IfSome, length, slice_get};
 ghost use Rattle.option_store.specs.Meaning.{option_values};
-ghost use Rattle.rule_model.specs.Content.{elements_at};
+ghost use Rattle.rule_model.specs.Content.{elements_at, option_number};
 ghost use Rattle.rule_model.specs.Keyboard.{Numbered, Platform};
 ghost use Rattle.rule_model.specs.Match.{element_at, place_of, same_value};
 ghost use Rattle.rule_model.specs.System.{has_words, is_equal, system_ref};
@@ -70,11 +70,12 @@ impl<'a> Moment<'a> {
         }
     }
 
-    /// The store whose stated elements a store has now, None where it has a text of the host. To answer None always would be
-    /// right too, and cost the look-up of each place.
+    /// The store whose stated elements a store has now, None where it has a text of the host: one that is no option has its own.
+    /// Contracts see what an option has, and not whether the host gave it, so they leave open which of the two is answered of it.
     #[inline(always)]
     pub(crate) fn held_store(&self, store: u32) -> Option<u32>
-        ensures { IfSome result (λ held. content_at self.now (Numbered store) ≡ elements_at (tab self.now.tables).stores (Some held)) }
+        ensures itself { option_number (tab self.now.tables).stores (Numbered store) ≡ None → result ≡ Some store }
+        ensures value { IfSome result (λ held. content_at self.now (Numbered store) ≡ elements_at (tab self.now.tables).stores (Some held)) }
     {
         match held_now(self.indexed, self.options, store) {
             Held::Store(value) => Some(value),

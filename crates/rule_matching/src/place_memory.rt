@@ -1,8 +1,6 @@
 ghost use Rattle.std.specs.Prelude.{◌≡◌, ◌+◌, ◌≤◌, IfOk};
 ghost use Rattle.kmn_base.specs.declared.limits.TheConstants.{STORES};
-ghost use Rattle.rule_matching.specs.KnownPlaces.{room};
-ghost use Rattle.rule_matching.specs.PlaceMemory.{KnowsNothing};
-ghost use Rattle.rule_matching.specs.StoreMarks.{marked_room};
+ghost use Rattle.rule_matching.specs.PlaceMemory.{rooms, KnowsNothing};
 
 use crate::known_places::KnownPlaces;
 use crate::store_marks::StoreMarks;
@@ -22,8 +20,7 @@ impl PlaceMemory {
     pub fn new(alloc: Global, stores: usize) -> Result<PlaceMemory, Memory>
         requires { stores ≤ STORES + 2 }
         ensures unknown { IfOk result (λ memory. KnowsNothing memory) }
-        ensures room { IfOk result (λ memory. room memory.found ≡ stores) }
-        ensures marked_room { IfOk result (λ memory. marked_room memory.marks ≡ stores) }
+        ensures rooms { IfOk result (λ memory. rooms memory ≡ (stores, stores)) }
     {
         Ok(PlaceMemory {
             found: KnownPlaces::new(alloc, stores)?,
@@ -34,8 +31,7 @@ impl PlaceMemory {
     /// Room for no store, without any memory.
     pub fn without_room(alloc: Global) -> PlaceMemory
         ensures unknown { KnowsNothing result }
-        ensures room { room result.found ≡ 0 }
-        ensures marked_room { marked_room result.marks ≡ 0 }
+        ensures rooms { rooms result ≡ (0, 0) }
     {
         PlaceMemory {
             found: KnownPlaces::without_room(alloc),
@@ -46,8 +42,7 @@ impl PlaceMemory {
     /// Begins another choice, of which nothing is known.
     pub fn forget(&mut self)
         ensures unknown { KnowsNothing self.new }
-        ensures room { room self.new.found ≡ room self.old.found }
-        ensures marked_room { marked_room self.new.marks ≡ marked_room self.old.marks }
+        ensures rooms { rooms self.new ≡ rooms self.old }
     {
         self.found.forget();
         self.marks.forget();

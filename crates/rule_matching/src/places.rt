@@ -3,6 +3,7 @@ ghost use Rattle.kmn_base.specs.declared.limits.TheConstants.{CONTEXT_ITEMS};
 ghost use Rattle.rule_model.specs.Match.{place_caught};
 ghost use Rattle.rule_matching.specs.Choices.{all_caught, caught_in, content_of, RemembersFor};
 ghost use Rattle.rule_matching.specs.Matching.{item_before, place_before};
+ghost use Rattle.rule_matching.specs.PlaceMemory.{rooms};
 
 use crate::caught::{MatchedItem, MatchedItems};
 use crate::choice::Choice;
@@ -44,6 +45,7 @@ fn look_for(
     requires right { RemembersFor choice.now places.old }
     ensures place { result ≡ place_before (content_of choice.now) choice.now.left.now store distance }
     ensures right { RemembersFor choice.now places.new }
+    ensures rooms { rooms places.new ≡ rooms places.old }
 {
     let place = choice
         .moment
@@ -63,6 +65,7 @@ fn place_before(
     requires { RemembersFor choice.now places.old }
     ensures place { result ≡ place_before (content_of choice.now) choice.now.left.now store distance }
     ensures right { RemembersFor choice.now places.new }
+    ensures rooms { rooms places.new ≡ rooms places.old }
 {
     if distance >= choice.left.len() {
         return None;
@@ -86,6 +89,7 @@ pub fn is_in_store(
     requires right { RemembersFor choice.now places.old }
     ensures value { result ≡ is_some (place_before (content_of choice.now) choice.now.left.now store distance) }
     ensures right { RemembersFor choice.now places.new }
+    ensures rooms { rooms places.new ≡ rooms places.old }
 {
     match choice.moment.held_store(store) {
         Some(value) if distance < WINDOW_ITEMS && places.marks.has_room(value) => {
@@ -100,6 +104,7 @@ fn place_of_taken(choice: &Choice<'_>, taken: TakenItem, places: &mut PlaceMemor
     requires { RemembersFor choice.now places.old }
     ensures place { result ≡ (caught_in choice.now taken).place }
     ensures right { RemembersFor choice.now places.new }
+    ensures rooms { rooms places.new ≡ rooms places.old }
 {
     place_before(choice, taken.distance, taken.store?, places)
 }
@@ -115,6 +120,7 @@ pub fn place_taken(
     requires { RemembersFor choice.now places.old }
     ensures place { result ≡ place_caught (map (caught_in choice.now) taken.now) offset }
     ensures right { RemembersFor choice.now places.new }
+    ensures rooms { rooms places.new ≡ rooms places.old }
 {
     place_of_taken(choice, taken_at(taken, offset)?, places)
 }
@@ -130,6 +136,7 @@ pub fn catch_taken(
     requires right { RemembersFor choice.now places.old }
     ensures caught { caught.new ≡ all_caught choice.now taken.now }
     ensures right { RemembersFor choice.now places.new }
+    ensures rooms { rooms places.new ≡ rooms places.old }
 {
     caught.clear();
     for one in taken {

@@ -61,6 +61,7 @@ loop-number-preserved c =
           (slice_get c.args.entered.now.group.now.rules c.in-Some.number))) c.of.ensures)))
           ∙ c.loop-number.invariant.same);
       right = c.in_default-held_record.ensures.right;
+      rooms = c.in_default-held_record.ensures.rooms ∙ c.loop-number.invariant.rooms;
       kept = c.loop-number.invariant.kept;
     }
 

@@ -2,6 +2,7 @@ use Rattle.std.proofs.Common.{◌≡◌, ◌≤◌, ◌-◌, length}
 use Rattle.rule_index.specs.Classes.{wanted_classes}
 use Rattle.rule_matching.specs.Matching.{RemembersRight}
 use Rattle.rule_matching.specs.Moment.{content_at}
+use Rattle.rule_matching.specs.PlaceMemory.{rooms}
 use Rattle.rule_matching.proofs.Candidates.{first_from}
 use Rattle.rule_matching.proofs.matching.first_held.Given as goal
 
@@ -13,6 +14,7 @@ invariant-loop-number l = record {
   same : first_from (content_at l.choice.moment.now) l.choice.left.now l.entered.press l.choice.moment.now.tables.stores l.entered.group.now.using_keys l.entered.group.now.rules l.candidates.from
       ≡ first_from (content_at l.choice.moment.now) l.choice.left.now l.entered.press l.choice.moment.now.tables.stores l.entered.group.now.using_keys l.entered.group.now.rules 0;
   right : RemembersRight l.choice.moment.now l.choice.left.now l.places;
+  rooms : rooms l.places ≡ rooms l.fn.places;
   kept : l.caught ≡ l.fn.caught;
 }
 

@@ -37,6 +37,7 @@ loop-item-preserved c =
           c.loop-item.invariant.within c.loop-item.invariant.same c.loop-item-test.true some c.if-not-takes_item.ensures c.in-Some.one c.push-in-Some.new.self.items
           (c.in-Some.ensures.taken ∙ ap next c.as_slice.ensures.value) c.push-in-Some.ensures.items;
       right = c.in-Some.ensures.right;
+      rooms = c.in-Some.ensures.rooms ∙ c.loop-item.invariant.rooms;
     }
 
 pub returns-in-None-clause-taken : goal.returns-in-None-clause-taken

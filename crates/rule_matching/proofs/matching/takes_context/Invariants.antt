@@ -3,6 +3,7 @@ use Rattle.std.specs.Prelude.{nat_eq}
 use Rattle.kmn_base.specs.declared.limits.TheConstants.{CONTEXT_ITEMS}
 use Rattle.rule_matching.specs.Matching.{allowed_catches, caught_by_taken, item_meaning, RemembersRight}
 use Rattle.rule_matching.specs.Moment.{content_at}
+use Rattle.rule_matching.specs.PlaceMemory.{rooms}
 use Rattle.rule_matching.proofs.matching.takes_context.Given as goal
 
 abbrev pub invariant-loop-item : goal.invariant-loop-item
@@ -13,4 +14,5 @@ invariant-loop-item l = record {
       (map (item_meaning l.choice.moment.now.tables.stores) (drop l.item-index l.context)) (drop (length l.choice.left.now - l.ahead) l.choice.left.now)
       ≡ allowed_catches (content_at l.choice.moment.now) (nat_eq (length l.choice.left.now) l.count) [] (map (item_meaning l.choice.moment.now.tables.stores) l.context) (drop (length l.choice.left.now - l.count) l.choice.left.now);
   right : RemembersRight l.choice.moment.now l.choice.left.now l.places;
+  rooms : rooms l.places ≡ rooms l.fn.places;
 }

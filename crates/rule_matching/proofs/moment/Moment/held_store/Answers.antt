@@ -7,8 +7,8 @@ use Rattle.rule_matching.specs.Moment.{MomentValue, content_at}
 use Rattle.rule_matching.proofs.StoreContents.{elements_held}
 use Rattle.rule_matching.proofs.moment.Moment.held_store.Goals as goal
 
-pub returns-in-Store : goal.returns-in-Store
-returns-in-Store c =
+pub returns-in-Store-clause-value : goal.returns-in-Store-clause-value
+returns-in-Store-clause-value c =
     let text : List ℕ = (cell_at c.self.inside.options.now c.args.store).text in
     subst (λ (m : MomentValue). content_at m (Numbered c.args.store) ≡ elements_at (tab m.tables).stores (Some c.in-Store.value)) c.self.view_is
     (sym (elements_held c.self.inside.indexed.now text c.in-Store.value ∙ c.in-Store.ensures.value))
