@@ -34,10 +34,10 @@ fn put_word(text: &mut String, word: &str) -> Result<(), Memory> {
     Ok(())
 }
 
-/// A source of lines that ` / ` parts: `H` stands for the start statement and the group.
+/// A source of lines that `¶` parts: `H` stands for the start statement and the group.
 fn source(alloc: Global, lines: &str) -> Result<String, Memory> {
     let mut text = String::new(alloc);
-    for line in lines.split(" / ") {
+    for line in lines.split("¶") {
         if line == "H" {
             text.push_str(HEAD)?;
             continue;

@@ -18,19 +18,19 @@ use std::test::Fail;
 
 /// On each line the statements behind the first two of a keyboard, which are `begin Unicode > use(main)` and
 /// `group(main) using keys`, so that they stand from line 3 on; then its events, each with the lines that it chooses; then
-/// each line of a rule with its count. A press may have its modifiers before its key, `T_` keys are the first of their own,
-/// `@` is a place of the caret, and `=` parts the name and the value of a setting.
+/// each line of a rule with its count. `¶` is a line feed. A press may have its modifiers before its key, `T_` keys are the
+/// first of their own, `@` is a place of the caret, and `=` parts the name and the value of a setting.
 const CASES: &str = "\
-+ 'c' > 'x' / 'a' + 'c' > 'y' | K_A - ; K_C 4 | 3=0 4=1
++ 'c' > 'x'¶'a' + 'c' > 'y' | K_A - ; K_C 4 | 3=0 4=1
 + 'a' > 'x' | K_B - | 3=0
 c no rule | K_A - |
-+ 'a' > 'x' / store(o) '0' / if(o = '0') + 'a' > 'y' | K_A 5 ; o=1 - ; @0 - ; K_A 3 | 3=1 5=1
++ 'a' > 'x'¶store(o) '0'¶if(o = '0') + 'a' > 'y' | K_A 5 ; o=1 - ; @0 - ; K_A 3 | 3=1 5=1
 + 'a' > 'x' use(main) | K_A 3.3.3.3.3.3.3.3.3.3.3.3.3.3.3.3.3.3.3.3.3.3.3.3.3.3.3.3.3.3.3.3.3.3.3.3.3.3.3.3.3.3.3.3.3.3.3.3.3.3 | 3=50
-+ 'a' > 'x' / match > use(g) / group(g) / 'x' > 'y' | K_A 3.6 | 3=1 6=1
-+ 'b' > 'x' / nomatch > use(g) / group(g) / nul > 'y' | K_A 6 | 3=0 6=1
-+ 'a' > return use(g) / group(g) / nul > 'y' | K_A 3 | 3=1 5=0
-+ 'a' > use(g) 'x' use(h) / group(g) / nul > 'y' / group(h) / 'yx' > 'z' / match > use(g) | K_A 3.5.7 | 3=1 5=1 7=1
-store(v) 'ab' / + any(v) > 'x' | K_A 4 ; K_B 4 | 4=2";
++ 'a' > 'x'¶match > use(g)¶group(g)¶'x' > 'y' | K_A 3.6 | 3=1 6=1
++ 'b' > 'x'¶nomatch > use(g)¶group(g)¶nul > 'y' | K_A 6 | 3=0 6=1
++ 'a' > return use(g)¶group(g)¶nul > 'y' | K_A 3 | 3=1 5=0
++ 'a' > use(g) 'x' use(h)¶group(g)¶nul > 'y'¶group(h)¶'yx' > 'z'¶match > use(g) | K_A 3.5.7 | 3=1 5=1 7=1
+store(v) 'ab'¶+ any(v) > 'x' | K_A 4 ; K_B 4 | 4=2";
 
 /// A keyboard with deadkeys, an option and three groups.
 const SAMPLE: &str = "c Acute and grave vowels
@@ -91,7 +91,7 @@ fn source_of(alloc: Global, statements: &str) -> Result<String, Memory> {
         alloc,
         "begin Unicode > use(main)\ngroup(main) using keys\n",
     )?;
-    for statement in statements.split(" / ") {
+    for statement in statements.split("¶") {
         source.push_str(statement)?;
         source.push('\n')?;
     }

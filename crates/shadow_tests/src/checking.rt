@@ -9,8 +9,8 @@ use std::test::Fail;
 /// Records of three patterns, numbered from 0: one for each way to take `a` and `b` three times, in their order, and one of three
 /// `any`.
 const EIGHT: &str = "\
-store(v) 'ab' / H / 'a' 'a' 'a' + '1' / 'a' 'a' 'b' + '1' / 'a' 'b' 'a' + '1' / 'a' 'b' 'b' + '1' / 'b' 'a' 'a' + '1' / \
-'b' 'a' 'b' + '1' / 'b' 'b' 'a' + '1' / 'b' 'b' 'b' + '1' / any(v) any(v) any(v) + '1'";
+store(v) 'ab'¶H¶'a' 'a' 'a' + '1'¶'a' 'a' 'b' + '1'¶'a' 'b' 'a' + '1'¶'a' 'b' 'b' + '1'¶'b' 'a' 'a' + '1'¶\
+'b' 'a' 'b' + '1'¶'b' 'b' 'a' + '1'¶'b' 'b' 'b' + '1'¶any(v) any(v) any(v) + '1'";
 
 /// On each line the number of a record, whether its certificate is right, and the certificate as it is built: a number is a
 /// part `By`, and `p:n` makes the last n parts a split at place p.

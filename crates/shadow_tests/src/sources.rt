@@ -11,11 +11,11 @@ use std::alloc::Global;
 /// The lines that `H` stands for.
 const HEAD: &str = "begin Unicode > use(main)\ngroup(main) using keys\n";
 
-/// A source of lines that ` / ` parts: `H` stands for the start statement and the group, and a line with a key and without
+/// A source of lines that `¶` parts: `H` stands for the start statement and the group, and a line with a key and without
 /// an output gets one.
 fn source(alloc: Global, lines: &str) -> Result<String, Memory> {
     let mut text = String::new(alloc);
-    for line in lines.split(" / ") {
+    for line in lines.split("¶") {
         if line == "H" {
             text.push_str(HEAD)?;
         } else {
