@@ -13,24 +13,23 @@ use std::test::Fail;
 use text_host::Host;
 use virtual_keys::KeyDictionary;
 
-/// A script, what its play prints, and how it ends.
+/// A script, what its play prints, and how it ends. `¶` is a line feed.
 const PLAYS: &[(&str, &str, PlayEnd)] = &[
     (
-        "open\n[K_BKQUOTE]\nopen\n[K_A]\nfield 1\npreview [K_A]\n[K_A]\n",
+        "open¶[K_BKQUOTE]¶open¶[K_A]¶field 1¶preview [K_A]¶[K_A]¶",
         "\
-f1 1 del=0 ins=- pass=0 beep=0 ent=1 ctx=d1
-f2 1 del=0 ins=0061 pass=0 beep=0 ent=1 ctx=0061
-f1 preview del=0 ins=00E0 pass=0 beep=0 ent=1
-f1 2 del=0 ins=00E0 pass=0 beep=0 ent=1 ctx=00E0
-f1 text 00E0|-
-f2 text 0061|-
-end events=3 failed=0
-",
+        f1 1 del=0 ins=- pass=0 beep=0 ent=1 ctx=d1¶\
+        f2 1 del=0 ins=0061 pass=0 beep=0 ent=1 ctx=0061¶\
+        f1 preview del=0 ins=00E0 pass=0 beep=0 ent=1¶\
+        f1 2 del=0 ins=00E0 pass=0 beep=0 ent=1 ctx=00E0¶\
+        f1 text 00E0|-¶\
+        f2 text 0061|-¶\
+        end events=3 failed=0¶",
         PlayEnd::Done,
     ),
     (
-        "open\nopen\nexpect 'x'\n",
-        "f2 expect failed line=3\nf1 text -|-\nf2 text -|-\nend events=0 failed=1\n",
+        "open¶open¶expect 'x'¶",
+        "f2 expect failed line=3¶f1 text -|-¶f2 text -|-¶end events=0 failed=1¶",
         PlayEnd::ExpectFailed,
     ),
 ];
@@ -43,6 +42,8 @@ fn is_right(
     printed: &str,
     end: PlayEnd,
 ) -> Result<bool, Fail> {
+    let script = script.replace(alloc, "¶", "\n")?;
+    let printed = printed.replace(alloc, "¶", "\n")?;
     let entries = read_host(alloc, script.as_bytes(), &KeyDictionary::new(alloc))?;
     let mut out = MemorySink::new(alloc, Seq::new(alloc));
     let ended = play_host(alloc, Host::over(alloc, file), entries.as_slice(), &mut out)?;

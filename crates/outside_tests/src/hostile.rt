@@ -11,7 +11,8 @@ use std::alloc::{AllocError, Global};
 use std::test::Fail;
 
 /// The first run with a fault: what can't be read or written, by the numbers from 1 of the folder's and of the sink's call that
-/// fail, 0 for none; how it ends, what is printed, and how many bytes of the file stand in `out`, None where it isn't there.
+/// fail, 0 for none; how it ends, what is printed, and how many bytes of the file stand in `out`, None where it isn't there. The
+/// texts of this table and of those below have the signs that `written_out` reads.
 const FAULTS: &[(&str, (u32, u32), Status, &str, Option<usize>)] = &[
     ("the source", (1, 0), Status::ReadFault, "", None),
     ("the script", (2, 0), Status::ReadFault, "", None),
@@ -21,7 +22,7 @@ const FAULTS: &[(&str, (u32, u32), Status, &str, Option<usize>)] = &[
         "the second line",
         (0, 2),
         Status::WriteFault,
-        "1 del=0 ins=0062 pass=0 beep=0 ent=1 ctx=0062\n",
+        "1 del=0 ins=0062 pass=0 beep=0 ent=1 ctx=0062¶",
         Some(122),
     ),
 ];
@@ -33,22 +34,22 @@ const EACH_KIND: (&str, &str) = (
 );
 
 const LINES: &[&str] = &[
-    "1 del=0 ins=0079 pass=0 beep=0 ent=1 ctx=0079\n",
-    "2 del=0 ins=- pass=0 beep=0 ent=1 ctx=0079\n",
-    "opt o 0031\n",
-    "save o 0031\n",
-    "expect failed line=2\n",
-    "3 del=0 ins=- pass=0 beep=0 ent=0 ctx=-\n",
-    "text -|0079\n",
-    "end events=3 failed=1\n",
+    "1 del=0 ins=0079 pass=0 beep=0 ent=1 ctx=0079¶",
+    "2 del=0 ins=- pass=0 beep=0 ent=1 ctx=0079¶",
+    "opt o 0031¶",
+    "save o 0031¶",
+    "expect failed line=2¶",
+    "3 del=0 ins=- pass=0 beep=0 ent=0 ctx=-¶",
+    "text -|0079¶",
+    "end events=3 failed=1¶",
 ];
 
 /// A command on a file `a` of so many equal bytes, and the line that refuses it.
 const SIZES: &[(&str, u8, usize, &str)] = &[
-    ("compile a out", b' ', 4_194_304, "refused C01 line 1\n"),
-    ("compile a out", b' ', 4_194_305, "refused L05 line 1\n"),
-    ("verify a", 0, 67_108_864, "refused V02 at 0\n"),
-    ("verify a", 0, 67_108_865, "refused V15 at 0\n"),
+    ("compile a out", b' ', 4_194_304, "refused C01 line 1¶"),
+    ("compile a out", b' ', 4_194_305, "refused L05 line 1¶"),
+    ("verify a", 0, 67_108_864, "refused V02 at 0¶"),
+    ("verify a", 0, 67_108_865, "refused V15 at 0¶"),
 ];
 
 /// How a run ends, what it prints, and what then stands in `out`.
@@ -67,10 +68,11 @@ fn ends_so(
     sink: &mut MemorySink,
     wanted: Ending,
 ) -> Result<bool, Fail> {
+    let printed = written_out(alloc, wanted.printed)?;
     let status = ended(alloc, line, folder, sink)?;
     Ok(
         status == wanted.status
-            && sink.written() == wanted.printed.as_bytes()
+            && sink.written() == printed.as_bytes()
             && folder.file(b"out") == wanted.out,
     )
 }
@@ -109,6 +111,7 @@ fn wrong_fault(alloc: Global) -> Result<Option<&'static str>, Fail> {
 
 /// Whether just this is printed of that play where the sink's call of a number fails, 0 for none.
 fn is_begun(alloc: Global, failing: u32, printed: &str) -> Result<bool, Fail> {
+    let printed = written_out(alloc, printed)?;
     let (source, script) = EACH_KIND;
     let mut folder = folder(alloc, source, b"", script, 0)?;
     let mut sink = sink(alloc, failing)?;
@@ -213,7 +216,7 @@ fn is_long_picture_refused(alloc: Global) -> Result<bool, Fail> {
         alloc,
         "compile a.kmn out",
         &mut folder,
-        "refused C24 size 1048577\n",
+        "refused C24 size 1048577¶",
     )
 }
 

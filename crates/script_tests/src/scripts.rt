@@ -7,7 +7,7 @@ use play_script::{
     value_line,
 };
 use rule_model::Entry;
-use std::alloc::Global;
+use std::alloc::{AllocError, Global};
 use std::test::Fail;
 use virtual_keys::KeyDictionary;
 
@@ -207,15 +207,15 @@ fn is_right(alloc: Global, names: &KeyDictionary, row: &str) -> Result<bool, Fai
     gives(alloc, script_of(alloc, text)?.as_slice(), names, wanted)
 }
 
-/// A line, how often it stands in a script, what stands behind it, and what the script gives.
+/// A line, how often it stands in a script, what stands behind it, and what the script gives. `¶` is a line feed.
 const LIMITS: &[(&str, usize, &str, &str)] = &[
     ("#", 4_194_304, "", ""),
     ("#", 4_194_305, "", "P06 1"),
-    ("[K_A]\n", 100_000, "#\nexpect ''x", "P04 100002"),
-    ("[K_A]\n", 100_000, "[K_A]", "P07 100001"),
-    ("[K_A]\n", 100_000, "caret 0 0", "P07 100001"),
-    ("[K_A]\n", 100_000, "caret x", "P05 100001"),
-    ("'a' ", 4_096, "\n", "P02 1"),
+    ("[K_A]¶", 100_000, "#¶expect ''x", "P04 100002"),
+    ("[K_A]¶", 100_000, "[K_A]", "P07 100001"),
+    ("[K_A]¶", 100_000, "caret 0 0", "P07 100001"),
+    ("[K_A]¶", 100_000, "caret x", "P05 100001"),
+    ("'a' ", 4_096, "¶", "P02 1"),
 ];
 
 /// A word, what stands so many times behind it, and the end of the line: a string of so many characters, or a name; and
@@ -254,11 +254,23 @@ fn wrong_row(alloc: Global) -> Result<Option<&'static str>, Fail> {
     Ok(None)
 }
 
+/// The script of a row of `LIMITS`.
+fn limit_script(
+    alloc: Global,
+    line: &str,
+    count: usize,
+    last: &str,
+) -> Result<Vec<u8>, AllocError> {
+    let line = line.replace(alloc, "¶", "\n")?;
+    let last = last.replace(alloc, "¶", "\n")?;
+    with_copies(alloc, "", line.as_str(), count, last.as_str())
+}
+
 /// The first row of `LIMITS` that isn't right, by what it wants.
 fn wrong_limit(alloc: Global) -> Result<Option<&'static str>, Fail> {
     let names = names(alloc)?;
     for &(line, count, last, wanted) in LIMITS {
-        let script = with_copies(alloc, "", line, count, last)?;
+        let script = limit_script(alloc, line, count, last)?;
         if !gives(alloc, script.as_slice(), &names, wanted)? {
             return Ok(Some(wanted));
         }
