@@ -29,6 +29,13 @@ pub struct Entering<'a> {
     pub depth: u32,
 }
 
+/// The record that a group chose, with what it caught.
+#[derive(Clone, Copy)]
+pub struct Choice<'a> {
+    pub rule: &'a Rule,
+    pub caught: &'a Caught,
+}
+
 /// What one item of an output does.
 #[cycle(acts)]
 fn act_one(
@@ -153,16 +160,16 @@ fn take(caught: &Caught, state: &mut EventState)
 fn do_chosen(
     entering: &Entering,
     group: &Group,
-    rule: &Rule,
-    caught: &Caught,
+    choice: Choice,
     state: &mut EventState,
     lines: &mut Vec<u32>,
 ) -> Result<(), Memory>
     ensures acts { OnOk result (state.new ≡ do_chosen (keyboard_of entering.now) (enters entering.now)
-        (tab_group (stores_of entering.now) group.now) (tab_rule (stores_of entering.now) group.now.using_keys rule.now, caught.now) state.old) }
+        (tab_group (stores_of entering.now) group.now) (tab_rule (stores_of entering.now) group.now.using_keys choice.entry.rule.now, choice.entry.caught.now) state.old) }
     ensures lines { OnOk result (lines.new.items ≡ lines_of_group (keyboard_of entering.now) (enters entering.now) (adds entering.now)
-        (tab_group (stores_of entering.now) group.now) (Some (tab_rule (stores_of entering.now) group.now.using_keys rule.now, caught.now)) state.old lines.old.items) }
+        (tab_group (stores_of entering.now) group.now) (Some (tab_rule (stores_of entering.now) group.now.using_keys choice.entry.rule.now, choice.entry.caught.now)) state.old lines.old.items) }
 {
+    let Choice { rule, caught } = choice;
     let alloc = entering.indexed.alloc();
     take(caught, state);
     lines.push(rule.line)?;
@@ -219,7 +226,13 @@ fn do_group(
         (tab_group (stores_of entering.now) group.now) (chosen_in (keyboard_of entering.now) entering.now.press (tab_group (stores_of entering.now) group.now) state.old) state.old lines.old.items) }
 {
     match chosen_in(entering.indexed, entering.press, state, group)? {
-        Some((rule, caught)) => do_chosen(entering, group, rule, &caught, state, lines),
+        Some((rule, caught)) => {
+            let choice = Choice {
+                rule,
+                caught: &caught,
+            };
+            do_chosen(entering, group, choice, state, lines)
+        }
         None => do_unmatched(entering, group, state, lines),
     }
 }
