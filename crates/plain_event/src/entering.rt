@@ -284,7 +284,7 @@ fn enter(
 
 /// What a press leaves of an event's state, and the lines of the rules that it chose.
 #[derive(Drop)]
-pub struct Left {
+pub struct Pressed {
     pub state: EventState,
     pub lines: Seq<u32>,
 }
@@ -296,10 +296,10 @@ pub fn after_key(
     indexed: &IndexedTables,
     press: KeyPress,
     mut state: EventState,
-) -> Result<Left, Memory>
+) -> Result<Pressed, Memory>
     requires { state.entered ≡ 0 }
-    ensures acts { IfOk result (λ left. left.state ≡ after_key (tab indexed.now) press state) }
-    ensures lines { IfOk result (λ left. left.lines ≡ lines_of_press (tab indexed.now) press state) }
+    ensures acts { IfOk result (λ pressed. pressed.state ≡ after_key (tab indexed.now) press state) }
+    ensures lines { IfOk result (λ pressed. pressed.lines ≡ lines_of_press (tab indexed.now) press state) }
 {
     let entering = Entering {
         indexed,
@@ -308,7 +308,7 @@ pub fn after_key(
     };
     let mut lines = Vec::new(indexed.alloc());
     enter(&entering, indexed.start(), &mut state, &mut lines)?;
-    Ok(Left {
+    Ok(Pressed {
         state,
         lines: Seq::from_vec(lines),
     })

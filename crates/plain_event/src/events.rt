@@ -133,9 +133,9 @@ fn key_event(indexed: &IndexedTables, press: KeyPress, state: &PlainState) -> Re
     ensures lines { IfOk result (λ traced. traced.lines ≡ chosen (tab indexed.now) (state_of indexed.now state.now) (Event.Key press)) }
 {
     let begun = begin_event(indexed, state)?;
-    let left = after_key(indexed, press, begun)?;
-    let event_state = left.state;
-    let lines = left.lines;
+    let pressed = after_key(indexed, press, begun)?;
+    let event_state = pressed.state;
+    let lines = pressed.lines;
     let outcome = outcome_of(indexed.alloc(), state.left.as_slice(), &event_state)?;
     let after = acted(indexed, &event_state, outcome, state)?;
     if !event_state.pass {

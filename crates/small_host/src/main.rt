@@ -15,19 +15,19 @@ use kmx_verifier::{VerifyError, verify};
 use std::alloc::{Alloc, Global};
 use std::io;
 use std::rt::Files;
-use text_host::{Host, HostError as FieldError};
+use text_host::{Host, HostError};
 use thiserror::Error;
 use virtual_keys::key_named;
 
 /// Why nothing was typed.
 #[derive(Debug, Drop, Error)]
-enum HostError {
+enum TypingError {
     #[error("{0}")]
     Read(#[from] ReadError),
     #[error("{0}")]
     Keyboard(#[from] VerifyError),
     #[error("{0}")]
-    Field(#[from] FieldError),
+    Field(#[from] HostError),
     #[error("out of memory")]
     Memory(#[from] Memory),
 }
@@ -44,7 +44,7 @@ fn utf8(alloc: Global, text: &[char]) -> Result<String, Memory>
 }
 
 /// Types keys in a field of a form. A key that the keyboard passes on is the application's own.
-fn type_in(alloc: Global, form: &mut Host, field: u32, keys: &[&str]) -> Result<(), HostError> {
+fn type_in(alloc: Global, form: &mut Host, field: u32, keys: &[&str]) -> Result<(), TypingError> {
     for key in keys {
         if let Some(code) = key_named(key.as_bytes()) {
             form.step(alloc, field, &Event::Key(KeyPress { code, mods: 0 }))?;
@@ -63,7 +63,7 @@ fn put_cap(caps: &mut String, cap: &[char]) -> Result<(), Memory> {
 }
 
 /// The caps of an on-screen keyboard while a field has the focus: what each key would put there now.
-fn caps(alloc: Global, form: &Host, field: u32, keys: &[&str]) -> Result<String, HostError> {
+fn caps(alloc: Global, form: &Host, field: u32, keys: &[&str]) -> Result<String, TypingError> {
     let mut caps = utf8(alloc, &['c', 'a', 'p', 's'])?;
     for key in keys {
         if let Some(code) = key_named(key.as_bytes()) {
@@ -75,10 +75,10 @@ fn caps(alloc: Global, form: &Host, field: u32, keys: &[&str]) -> Result<String,
 }
 
 /// What stands before the caret of a field.
-fn text_of(alloc: Global, form: &Host, field: u32) -> Result<String, HostError> {
+fn text_of(alloc: Global, form: &Host, field: u32) -> Result<String, TypingError> {
     match form.field(field) {
         Some(session) => Ok(utf8(alloc, session.editor().left())?),
-        None => Err(HostError::Field(FieldError::NoField)),
+        None => Err(TypingError::Field(HostError::NoField)),
     }
 }
 
@@ -88,7 +88,7 @@ fn shown(alloc: Global, caps: [&str; 2], texts: [&str; 2]) -> Result<String, Mem
 }
 
 /// Types in the two fields of a form: an accent in the first one, of which the caps there tell, and then a vowel in each.
-fn filled(alloc: Global, form: &mut Host) -> Result<String, HostError> {
+fn filled(alloc: Global, form: &mut Host) -> Result<String, TypingError> {
     let name = form.add(alloc)?;
     let town = form.add(alloc)?;
     type_in(alloc, form, name, &["K_QUOTE"])?;
@@ -103,14 +103,14 @@ fn filled(alloc: Global, form: &mut Host) -> Result<String, HostError> {
 }
 
 /// What a form tells on the keyboard of a file.
-fn typed(alloc: Global, file: &[u8]) -> Result<String, HostError> {
+fn typed(alloc: Global, file: &[u8]) -> Result<String, TypingError> {
     let keyboard = verify(alloc, file)?;
     let mut form = Host::over(alloc, &keyboard);
     filled(alloc, &mut form)
 }
 
 /// Types on the keyboard in the current folder.
-fn typed_here(rt: &(impl Files + Alloc<A = Global>)) -> Result<String, HostError> {
+fn typed_here(rt: &(impl Files + Alloc<A = Global>)) -> Result<String, TypingError> {
     let file = DiskFolder::new(rt).read(rt.alloc(), b"accents.kmx", FILE_BYTES)?;
     typed(rt.alloc(), file.as_slice())
 }

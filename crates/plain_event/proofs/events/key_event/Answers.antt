@@ -4,11 +4,11 @@ use Rattle.plain_event.proofs.events.key_event.Goals as goal
 pub returns-then-not-event_state-clause-made : goal.returns-then-not-event_state-clause-made
 returns-then-not-event_state-clause-made c =
     key_done c.args.indexed.now c.args.state.now c.requires c.args.press _ _ _ _
-    c.in_ok-begun.ensures c.in_ok-left.ensures.acts c.as_slice.ensures c.in_ok-outcome.ensures
+    c.in_ok-begun.ensures c.in_ok-pressed.ensures.acts c.as_slice.ensures c.in_ok-outcome.ensures
     c.in_ok-after.after c.in_ok-after.ensures c.if-not-event_state.true
 
 pub returns-clause-made : goal.returns-clause-made
 returns-clause-made c =
     key_passed c.args.indexed.now c.args.state.now c.requires c.args.press _ _ _ _
-    c.in_ok-begun.ensures c.in_ok-left.ensures.acts c.as_slice.ensures c.in_ok-outcome.ensures
+    c.in_ok-begun.ensures c.in_ok-pressed.ensures.acts c.as_slice.ensures c.in_ok-outcome.ensures
     c.in_ok-after.after c.in_ok-edited.edited c.in_ok-after.ensures c.if-not-event_state.false (c.in_ok-edited.ensures.after c.args.indexed.now) c.in_ok-edited.ensures.others
