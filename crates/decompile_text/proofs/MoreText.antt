@@ -60,3 +60,14 @@ pub page_text : (empty page : Page) (text : List ℕ) → IsEmptyPage empty → 
 page_text empty page text h is within =
     ap (λ (found : Page). found.text) is
     ∙ kept_text empty text h (sym (ap (λ (found : Page). nat_lt TEXT_BYTES found.size) is) ∙ within)
+
+past_text : (empty : Page) (text : List ℕ) → IsEmptyPage empty → nat_lt TEXT_BYTES (with_text empty text).size ≡ true → (with_text empty text).text ≡ []
+unfolding with_text
+past_text empty [] h past = h.text
+past_text empty (byte ∷ bytes) h past = ap (λ (is_past : Bool). if is_past then [] else empty.text ++ byte ∷ bytes) past
+
+-- past the limit only the size is kept
+pub page_past : (empty page : Page) (text : List ℕ) → IsEmptyPage empty → page ≡ with_text empty text → nat_lt TEXT_BYTES page.size ≡ true → page.text ≡ []
+page_past empty page text h is past =
+    ap (λ (found : Page). found.text) is
+    ∙ past_text empty text h (sym (ap (λ (found : Page). nat_lt TEXT_BYTES found.size) is) ∙ past)

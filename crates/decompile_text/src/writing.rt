@@ -1,6 +1,6 @@
 //! The text of tables as a whole.
 
-ghost use Rattle.std.specs.Prelude.{◌≡◌, ◌≤◌, ◌++◌, [], false, length, nat_lt, unwrap_or, slice_get, if◌then◌else◌, IfOk, OnOk};
+ghost use Rattle.std.specs.Prelude.{◌≡◌, ◌≤◌, ◌++◌, [], false, length, nat_lt, true, unwrap_or, slice_get, if◌then◌else◌, IfOk, OnOk};
 ghost use Rattle.kmn_base.specs.declared.limits.TheConstants.{KEY_NAMES, TEXT_BYTES};
 ghost use Rattle.rule_model.specs.Tab.{tab_dictionary};
 ghost use Rattle.kmn_text.specs.Programs.{program_text};
@@ -112,8 +112,8 @@ fn put_tables(
     put_groups(page, names, tables.groups.as_slice())
 }
 
-/// The text of tables, where it is within the limit of a text, and its size.
-#[tactic(auto, using(crate::proofs::FrontTexts::text_of_tables, crate::proofs::MoreText::page_size, crate::proofs::MoreText::page_text))]
+/// The text of tables, where it is within the limit of a text, and else no bytes; in both cases its size.
+#[tactic(auto, using(crate::proofs::FrontTexts::text_of_tables, crate::proofs::MoreText::page_size, crate::proofs::MoreText::page_text, crate::proofs::MoreText::page_past))]
 pub fn page_of(
     alloc: Global,
     front: &Front,
@@ -126,6 +126,7 @@ pub fn page_of(
     requires names { names.now ≡ names_for tables.now }
     ensures size { IfOk result (λ page. page.size ≡ length (program_text (back tables.now))) }
     ensures text { IfOk result (λ page. nat_lt TEXT_BYTES page.size ≡ false → page.text ≡ program_text (back tables.now)) }
+    ensures past { IfOk result (λ page. nat_lt TEXT_BYTES page.size ≡ true → page.text ≡ []) }
 {
     let mut page = Page::new(alloc);
     put_tables(&mut page, front, names, tables, free)?;
