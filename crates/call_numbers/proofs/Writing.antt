@@ -10,12 +10,6 @@ pub written_nowhere : (numbers : List ℕ) → written numbers [] ≡ []
 written_nowhere [] = refl
 written_nowhere (n ∷ numbers) = refl
 
--- it stays as long as it is
-pub written_as_long : (numbers room : List ℕ) → length (written numbers room) ≡ length room
-written_as_long [] room = refl
-written_as_long (n ∷ numbers) [] = refl
-written_as_long (n ∷ numbers) (old ∷ room) = ap suc (written_as_long numbers room)
-
 -- as many as there is place for
 pub written_count : (count : ℕ) (numbers room : List ℕ) → count ≡ min (length numbers) (length room) → take count numbers ++ drop count room ≡ written numbers room
 written_count zero [] room e = refl

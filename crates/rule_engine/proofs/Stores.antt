@@ -8,6 +8,7 @@ use Rattle.rule_model.specs.Keyboard.{StoreMeaning}
 use Rattle.rule_model.specs.System.{system_options}
 use Rattle.rule_model.specs.Tab.{tab, tab_options, with_options}
 use Rattle.rule_model.proofs.PlainOptions.{length-with_options}
+use Rattle.rule_model.proofs.SystemOptions.{at_behind}
 use Rattle.rule_index.proofs.StoreIndexes.{count_of_all}
 use Rattle.rule_engine.specs.Engine.{name_in, name_of}
 
@@ -31,18 +32,12 @@ pub own_name : (tables : Tables) (n : ℕ) (store : Store) → slice_get tables.
 unfolding tab
 own_name tables n store is = named_own (tab_options tables) 0 n tables.stores store is
 
-behind_stores : {X : Type 0} (xs ys : List X) (k : ℕ) → slice_get (xs ++ ys) (length xs + k) ≡ slice_get ys k
-behind_stores [] ys k = let same : 0 + k ≡ k = omega arith in ap (slice_get ys) same
-behind_stores (x ∷ xs) ys k =
-    let next : suc (length xs) + k ≡ suc (length xs + k) = omega arith in
-    ap (slice_get (x ∷ (xs ++ ys))) next ∙ behind_stores xs ys k
-
 named_behind : (tables : Tables) (n k : ℕ) → n ≡ length tables.stores + k → name_in (slice_get system_options k) ≡ name_of tables n
 unfolding tab
 named_behind tables n k is =
     let own : List StoreMeaning = with_options (tab_options tables) 0 tables.stores in
     let place : length own + k ≡ n = omega (arith, is, length-with_options (tab_options tables) 0 tables.stores) in
-    sym (ap name_in (behind_stores own system_options k)) ∙ ap (λ m. name_in (slice_get (own ++ system_options) m)) place
+    sym (ap name_in (at_behind own system_options k)) ∙ ap (λ m. name_in (slice_get (own ++ system_options) m)) place
 
 pub layer_name : (tables : Tables) (n : ℕ) → n ≡ length (tab tables).stores - 2 → codes "&layer" ≡ name_of tables n
 layer_name tables n is = named_behind tables n 0 (omega (arith, is, count_of_all tables))
