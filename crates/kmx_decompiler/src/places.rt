@@ -2,6 +2,7 @@
 
 ghost use Rattle.std.specs.Prelude.{◌≡◌, ◌+◌, ◌*◌, ◌<◌, ◌^◌, [], ◌∷◌, IfOk, None, length, position};
 ghost use Rattle.rule_model.specs.Tab.{is_dictionary, tab_options};
+ghost use Rattle.kmx_format.specs.declared.places.TheConstants.{GROUP_RULES_AT};
 ghost use Rattle.kmx_format.specs.declared.sizes.TheConstants.{GROUP_BYTES, RULE_BYTES, STORE_BYTES};
 ghost use Rattle.kmx_format.specs.TablesOf.{tables_of, word_at};
 ghost use Rattle.kmx_verifier.specs.FaultOf.{IsValid};
@@ -12,11 +13,14 @@ ghost use Rattle.kmx_decompiler.specs.Least.{lesser};
 ghost use Rattle.kmx_decompiler.specs.RecordPlaces.{HaveNearRecords};
 
 use crate::causes::{are_unspelled_outputs, is_unspelled_context, is_unspelled_key};
-use crate::store_causes::is_unspelled_store;
+use crate::store_causes::{NumberedStore, is_unspelled_store};
 use decompile_names::Called;
 use indexed_tables::IndexedTables;
 use kmn_base::Memory;
-use kmx_format::places::{GROUPS_AT, STORES_AT};
+use kmx_format::places::{
+    GROUP_MATCH_AT, GROUP_NOMATCH_AT, GROUP_RULES_AT, GROUPS_AT, RULE_CONTEXT_AT, RULE_OUTPUT_AT,
+    STORE_ELEMENTS_AT, STORES_AT,
+};
 use kmx_format::sizes::{GROUP_BYTES, RULE_BYTES, STORE_BYTES};
 use kmx_parts::word_at;
 use rule_model::system::KEY_DICTIONARY;
@@ -45,9 +49,9 @@ fn in_rule(names: &Called<'_>, least: Option<u32>, place: u32, rule: &Rule) -> O
     let key = is_unspelled_key(names, &rule.key);
     let least = lesser(least, place, key);
     let outputs = are_unspelled_outputs(names, rule.output.as_slice());
-    let least = lesser(least, place + 12, outputs);
+    let least = lesser(least, place + RULE_OUTPUT_AT as u32, outputs);
     let context = is_unspelled_context(names, rule.context.as_slice());
-    lesser(least, place + 16, context)
+    lesser(least, place + RULE_CONTEXT_AT as u32, context)
 }
 
 /// The same of records that stand from a place on.
@@ -74,14 +78,14 @@ fn in_group(
     group: &Group,
 ) -> Option<u32>
     requires own { place + GROUP_BYTES < 2 ^ 32 }
-    requires rules { word_at bytes.now (place + 4) + RULE_BYTES * length group.now.rules < 2 ^ 32 }
+    requires rules { word_at bytes.now (place + GROUP_RULES_AT) + RULE_BYTES * length group.now.rules < 2 ^ 32 }
     ensures { result ≡ lesser (group_causes bytes.now names.now place (group.now ∷ [])) least }
 {
     let on_match = are_unspelled_outputs(names, group.on_match.as_slice());
-    let least = lesser(least, place + 8, on_match);
+    let least = lesser(least, place + GROUP_MATCH_AT as u32, on_match);
     let on_nomatch = are_unspelled_outputs(names, group.on_nomatch.as_slice());
-    let least = lesser(least, place + 12, on_nomatch);
-    let rules = word_at(bytes, place as usize + 4);
+    let least = lesser(least, place + GROUP_NOMATCH_AT as u32, on_nomatch);
+    let rules = word_at(bytes, place as usize + GROUP_RULES_AT);
     in_rules(names, least, rules, group.rules.as_slice())
 }
 
@@ -142,9 +146,13 @@ fn in_stores(
     let mut least = None;
     let mut place = place;
     for (number, store) in stores.iter().enumerate() {
-        let is_dictionary = is_number(number, dictionary);
-        let cause = is_unspelled_store(alloc, indexed, names, number as u32, store, is_dictionary)?;
-        least = lesser(least, place + 8, cause);
+        let numbered = NumberedStore {
+            number: number as u32,
+            store,
+            is_dictionary: is_number(number, dictionary),
+        };
+        let cause = is_unspelled_store(alloc, indexed, names, numbered)?;
+        least = lesser(least, place + STORE_ELEMENTS_AT as u32, cause);
         place += STORE_BYTES as u32;
     }
     Ok(least)

@@ -13,7 +13,16 @@ use decompile_names::Called;
 use indexed_tables::IndexedTables;
 use kmn_base::{Element, Memory};
 use rule_model::Store;
+use rule_model::system::{BITMAP, MNEMONIC_LAYOUT};
 use std::alloc::Global;
+
+/// A store with its number, and whether it is the dictionary.
+#[derive(Clone, Copy)]
+pub(crate) struct NumberedStore<'a> {
+    pub(crate) number: u32,
+    pub(crate) store: &'a Store,
+    pub(crate) is_dictionary: bool,
+}
 
 /// Whether the store of a number, which is used as an option, has no spelling.
 fn is_unspelled_option(names: &Called<'_>, number: u32, store: &Store) -> bool
@@ -38,8 +47,8 @@ fn is_layout_text(elements: &[Element]) -> bool
 fn is_unspelled_system(store: &Store) -> bool
     ensures { result ≡ is_unspelled_system store.now }
 {
-    (store.system == 1 && has_no_character(store.elements.as_slice()))
-        || (store.system == 17 && !is_layout_text(store.elements.as_slice()))
+    (store.system == BITMAP && has_no_character(store.elements.as_slice()))
+        || (store.system == MNEMONIC_LAYOUT && !is_layout_text(store.elements.as_slice()))
 }
 
 /// Whether some item uses the store of a number as an option.
@@ -65,25 +74,23 @@ fn is_unspelled_otherwise(
         || is_unspelled_system(store)
 }
 
-/// Whether the store of a number has no spelling. It is given whether it is the dictionary.
+/// Whether a store with its number has no spelling.
 pub(crate) fn is_unspelled_store(
     alloc: Global,
     indexed: &IndexedTables<'_>,
     names: &Called<'_>,
-    number: u32,
-    store: &Store,
-    is_dictionary: bool,
+    numbered: NumberedStore<'_>,
 ) -> Result<bool, Memory>
-    requires number { number < length indexed.now.stores }
-    requires dictionary { is_dictionary ≡ is_first_dictionary names.now.elements number }
-    ensures { IfOk result (λ unspelled. unspelled ≡ is_unspelled_store names.now (tab_options indexed.now) number store.now) }
+    requires number { numbered.number < length indexed.now.stores }
+    requires dictionary { numbered.is_dictionary ≡ is_first_dictionary names.now.elements numbered.number }
+    ensures { IfOk result (λ unspelled. unspelled ≡ is_unspelled_store names.now (tab_options indexed.now) numbered.entry.number numbered.entry.store.now) }
 {
-    let elements = store.elements.as_slice();
+    let elements = numbered.store.elements.as_slice();
     if has_unspelled_element(names, elements) {
         return Ok(true);
     }
-    if is_dictionary && is_unspelled_dictionary(alloc, elements)? {
+    if numbered.is_dictionary && is_unspelled_dictionary(alloc, elements)? {
         return Ok(true);
     }
-    Ok(is_unspelled_otherwise(indexed, names, number, store))
+    Ok(is_unspelled_otherwise(indexed, names, numbered.number, numbered.store))
 }
