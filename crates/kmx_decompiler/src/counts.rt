@@ -35,22 +35,11 @@ const NONE: WrittenCounts = WrittenCounts {
     elements: 0,
 };
 
-/// A length as a count.
-fn size_of(len: usize) -> u32
-    ensures { result ≡ capped len }
-{
-    if len < 0xFFFF_FFFF {
-        len as u32
-    } else {
-        0xFFFF_FFFF
-    }
-}
-
 /// A count with so much more, which stays at the end of its type.
 fn larger(count: u32, more: usize) -> u32
     ensures { result ≡ capped (count + more) }
 {
-    count.saturating_add(size_of(more))
+    count.saturating_add(u32::try_from(more).unwrap_or(u32::MAX))
 }
 
 impl WrittenCounts {
