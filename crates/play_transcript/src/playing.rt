@@ -47,6 +47,13 @@ pub enum PlayEnd {
     ExpectFailed,
 }
 
+/// A text that a script expects, and the line that says so.
+#[derive(Clone, Copy)]
+struct Expected<'a> {
+    line: u32,
+    text: &'a [char],
+}
+
 /// Plays a script in a session before its first event: prints what each event did and which expected texts differ, and in the
 /// end the text.
 pub fn play<'a, S: Sink>(
@@ -103,7 +110,11 @@ fn play_entry<S: Sink>(
     match entry {
         Entry::Act { event, .. } => play_event(alloc, session, counts, event, out),
         Entry::Expect { line, text } => {
-            play_expect(alloc, session, counts, *line, text.as_slice(), out)
+            let expected = Expected {
+                line: *line,
+                text: text.as_slice(),
+            };
+            play_expect(alloc, session, counts, expected, out)
         }
     }
 }
@@ -275,20 +286,20 @@ fn play_expect<S: Sink>(
     alloc: Global,
     session: &Session,
     counts: Counts,
-    line: u32,
-    text: &[char],
+    expected: Expected<'_>,
     out: &mut S,
 ) -> Result<Played, WriteError>
     requires failed { counts.failed < 2 ^ 64 - 1 }
     ensures counts { WriteCounts (S.faults out.old) (S.faults out.new) result }
     ensures told { S.told out.new ≡ S.told out.old }
-    ensures plays { IfOk result (PlaysExpect session.now session.now counts text.now) }
-    ensures prints { IsTrue (S.told out.old) → Prints (S.written out.old) (S.written out.new) (expect_lines session.now.state line text.now) result }
+    ensures plays { IfOk result (PlaysExpect session.now session.now counts expected.entry.text.now) }
+    ensures prints { IsTrue (S.told out.old) → Prints (S.written out.old) (S.written out.new) (expect_lines session.now.state expected.entry.line expected.entry.text.now) result }
 {
-    if is_text(session.editor().left(), session.editor().right(), text) {
+    let editor = session.editor();
+    if is_text(editor.left(), editor.right(), expected.text) {
         return Ok(Played::On(counts));
     }
-    let line = expect_line(alloc, line)?;
+    let line = expect_line(alloc, expected.line)?;
     put_all(out, line.as_slice())?;
     Ok(Played::On(Counts {
         failed: counts.failed + 1,
