@@ -35,15 +35,24 @@ use play_transcript::{PlayEnd, play};
 use rule_model::{Entry, Tables};
 use std::alloc::Global;
 
+/// The names of the files of a test: its source, the file that it is compiled to, and the script.
+#[derive(Drop)]
+struct TestNames<'a> {
+    source: FileName<'a>,
+    file: FileName<'a>,
+    keys: FileName<'a>,
+}
+
 /// Runs the command that the words are, over a folder and a sink. Its clauses are the fields of `Runs`.
 pub fn run<F: Folder, S: Sink>(alloc: Global, words: &[Text], folder: &mut F, out: &mut S) -> Status
     ensures { Runs words.now F.Folder folder.old folder.new S.Sink out.old out.new result }
 {
     match command_of(words) {
         Some(Command::Compile { source, file }) => compile(alloc, &source, &file, folder, out),
-        Some(Command::Test { source, file, keys }) => test(
-            alloc, &source, &file, &keys, folder, out,
-        ),
+        Some(Command::Test { source, file, keys }) => {
+            let names = TestNames { source, file, keys };
+            test(alloc, &names, folder, out)
+        }
         Some(Command::Verify { file }) => verify_file(alloc, &file, folder, out),
         Some(Command::Decompile { file, source }) => decompile(alloc, &file, &source, folder, out),
         Some(Command::Play { file, keys }) => play_on_file(alloc, &file, &keys, folder, out),
@@ -80,16 +89,19 @@ fn compile<F: Folder, S: Sink>(
 /// Compiles a source, writes the file, and plays a script on it: what is printed is what the source means.
 fn test<F: Folder, S: Sink>(
     alloc: Global,
-    source: &FileName<'_>,
-    file: &FileName<'_>,
-    keys: &FileName<'_>,
+    names: &TestNames<'_>,
     folder: &mut F,
     out: &mut S,
 ) -> Status
-    ensures { Does (test_work source.now file.now keys.now) F.Folder folder.old folder.new S.Sink out.old out.new result }
+    ensures { Does (test_work names.now.source names.now.file names.now.keys) F.Folder folder.old folder.new S.Sink out.old out.new result }
 {
-    match prepare(alloc, source, keys, folder) {
-        Ok(prepared) => match write(alloc, file, prepared.compiled.bytes.as_slice(), folder) {
+    match prepare(alloc, &names.source, &names.keys, folder) {
+        Ok(prepared) => match write(
+            alloc,
+            &names.file,
+            prepared.compiled.bytes.as_slice(),
+            folder,
+        ) {
             Ok(()) => play_file(alloc, &prepared, out),
             Err(error) => write_status(error),
         },

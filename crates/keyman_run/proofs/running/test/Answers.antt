@@ -17,10 +17,10 @@ returns-in-Ok-write g c =
     let good : Status = play_status (trace (tab c.in-Ok.prepared.compiled.tables) (events_of c.in-Ok.prepared.entries)) c.in-Ok.prepared.entries in
     let lines : List ℕ = transcript (tab c.in-Ok.prepared.compiled.tables) c.in-Ok.prepared.entries in
     let bytes : List ℕ = c.in-Ok.prepared.compiled.bytes in
-    does_as (and_then (job_work c.args.source.now c.args.keys.now) (play_job c.args.file.now)) (test_work c.args.source.now c.args.file.now c.args.keys.now) g.F.Folder _ _ g.S.Sink _ _ c.play_file.result
-    (as_meant c.args.source.now c.args.file.now c.args.keys.now)
-    (does_behind prepared_job (job_work c.args.source.now c.args.keys.now) (play_job c.args.file.now) g.F.Folder _ _ _ c.in-Ok.prepared g.S.Sink _ _ c.play_file.result c.in-Ok.ensures.gives
-    (does_written good lines c.args.file.now bytes c.as_slice.result.now g.F.Folder _ _ g.S.Sink _ _ c.play_file.result _
+    does_as (and_then (job_work c.args.names.now.source c.args.names.now.keys) (play_job c.args.names.now.file)) (test_work c.args.names.now.source c.args.names.now.file c.args.names.now.keys) g.F.Folder _ _ g.S.Sink _ _ c.play_file.result
+    (as_meant c.args.names.now.source c.args.names.now.file c.args.names.now.keys)
+    (does_behind prepared_job (job_work c.args.names.now.source c.args.names.now.keys) (play_job c.args.names.now.file) g.F.Folder _ _ _ c.in-Ok.prepared g.S.Sink _ _ c.play_file.result c.in-Ok.ensures.gives
+    (does_written good lines c.args.names.now.file bytes c.as_slice.result.now g.F.Folder _ _ g.S.Sink _ _ c.play_file.result _
     c.as_slice.ensures c.in-Ok-write.ensures.counts c.in-Ok-write.ensures.told c.in-Ok-write.ensures.writes c.play_file.ensures))
 
 pub returns-in-Ok : goal.returns-in-Ok
@@ -29,14 +29,14 @@ returns-in-Ok g c =
     let lines : List ℕ = transcript (tab c.in-Ok.prepared.compiled.tables) c.in-Ok.prepared.entries in
     let bytes : List ℕ = c.in-Ok.prepared.compiled.bytes in
     rw c.write_status.ensures
-    (does_as (and_then (job_work c.args.source.now c.args.keys.now) (play_job c.args.file.now)) (test_work c.args.source.now c.args.file.now c.args.keys.now) g.F.Folder _ _ g.S.Sink _ _ (write_status c.in-Err-write.error)
-    (as_meant c.args.source.now c.args.file.now c.args.keys.now)
-    (does_behind prepared_job (job_work c.args.source.now c.args.keys.now) (play_job c.args.file.now) g.F.Folder _ _ _ c.in-Ok.prepared g.S.Sink _ _ (write_status c.in-Err-write.error) c.in-Ok.ensures.gives
-    (does_unwritten good lines c.args.file.now bytes c.as_slice.result.now g.F.Folder _ _ g.S.Sink _ c.in-Err-write.error
+    (does_as (and_then (job_work c.args.names.now.source c.args.names.now.keys) (play_job c.args.names.now.file)) (test_work c.args.names.now.source c.args.names.now.file c.args.names.now.keys) g.F.Folder _ _ g.S.Sink _ _ (write_status c.in-Err-write.error)
+    (as_meant c.args.names.now.source c.args.names.now.file c.args.names.now.keys)
+    (does_behind prepared_job (job_work c.args.names.now.source c.args.names.now.keys) (play_job c.args.names.now.file) g.F.Folder _ _ _ c.in-Ok.prepared g.S.Sink _ _ (write_status c.in-Err-write.error) c.in-Ok.ensures.gives
+    (does_unwritten good lines c.args.names.now.file bytes c.as_slice.result.now g.F.Folder _ _ g.S.Sink _ c.in-Err-write.error
     c.in-Err-write.ensures.counts c.in-Err-write.ensures.told c.in-Err-write.ensures.writes)))
 
 pub returns : goal.returns
 returns g c =
-    does_as (and_then (job_work c.args.source.now c.args.keys.now) (play_job c.args.file.now)) (test_work c.args.source.now c.args.file.now c.args.keys.now) g.F.Folder _ _ g.S.Sink _ _ c.tell_stop.result
-    (as_meant c.args.source.now c.args.file.now c.args.keys.now)
-    (does_stopped prepared_job (job_work c.args.source.now c.args.keys.now) (play_job c.args.file.now) g.F.Folder _ _ c.in-Err.stop g.S.Sink _ _ c.tell_stop.result c.in-Err.ensures.gives c.tell_stop.ensures)
+    does_as (and_then (job_work c.args.names.now.source c.args.names.now.keys) (play_job c.args.names.now.file)) (test_work c.args.names.now.source c.args.names.now.file c.args.names.now.keys) g.F.Folder _ _ g.S.Sink _ _ c.tell_stop.result
+    (as_meant c.args.names.now.source c.args.names.now.file c.args.names.now.keys)
+    (does_stopped prepared_job (job_work c.args.names.now.source c.args.names.now.keys) (play_job c.args.names.now.file) g.F.Folder _ _ c.in-Err.stop g.S.Sink _ _ c.tell_stop.result c.in-Err.ensures.gives c.tell_stop.ensures)
