@@ -22,7 +22,8 @@ use kmx_format::rule_count;
 use kmx_verifier::{Verified, verify};
 use load_maker::make;
 use play_script::read_script;
-use play_session::{Session, StepError};
+use play_session::Session;
+use play_transcript::refused_with;
 use rule_checker::Checked;
 use rule_model::Entry;
 use std::alloc::{AllocError, Global};
@@ -184,9 +185,10 @@ fn count_event(
             events: progress.events + 1,
             put: progress.put + u128::from(step.outcome.put),
         }),
-        Err(StepError::Place) => Err(event_stop(progress.number, Code::E1)),
-        Err(StepError::Length) => Err(event_stop(progress.number, Code::E2)),
-        Err(StepError::Memory) => Err(Stop::Memory),
+        Err(error) => {
+            let code = refused_with(error)?;
+            Err(event_stop(progress.number, code))
+        }
     }
 }
 
