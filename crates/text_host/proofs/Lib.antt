@@ -1,2 +1,3 @@
 pub mod Alone
+mod Errors
 mod Fields

@@ -1,9 +1,9 @@
-ghost use Rattle.std.specs.Prelude.{◌≡◌, ◌+◌, ◌<◌, ◌≤◌, ◌++◌, [], ◌∷◌, length, slice_get, slice_index, slice_set, IfOk, IfErr, IsSomeAnd, MatchOption, MatchResult, None, Some, Ok};
+ghost use Rattle.std.specs.Prelude.{◌≡◌, ◌≢◌, ◌+◌, ◌<◌, ◌≤◌, ◌++◌, [], ◌∷◌, false, length, slice_get, slice_index, slice_set, IfOk, IfErr, IsSomeAnd, MatchOption, MatchResult, None, Some, Ok};
 ghost use Rattle.kmn_base.specs.declared.events.Event.TheVariants as event;
 ghost use Rattle.kmx_format.specs.TablesOf.{tables_of};
 ghost use Rattle.rule_model.specs.Event.{event_of};
 ghost use Rattle.rule_model.specs.Tab.{tab};
-ghost use Rattle.play_session.specs.Answers.{step_of};
+ghost use Rattle.play_session.specs.Answers.{step_of, takes_memory};
 ghost use Rattle.play_session.specs.Session.{first_session, happened, after_step};
 ghost use Rattle.text_host.specs.Host.{first_host, field_of, with_field, with_new_field, add_refusal, step_refusal, refusal_of};
 ghost use Rattle.text_host.specs.declared.host.TheConstants.{HOST_FIELDS};
@@ -151,12 +151,14 @@ impl<'a> Host<'a> {
 
     /// Does an event in a field, by its number, and leaves every other field as it was. `NoField` comes exactly where there is no
     /// such field, else `Place` and `Length` exactly where the event's meaning refuses it there. They and want of memory change
-    /// nothing.
+    /// nothing. A caret move takes no memory.
+    #[tactic(auto, using(crate::proofs::Errors::no_field, crate::proofs::Errors::session_wants))]
     pub fn step(&mut self, alloc: Global, field: u32, event: &Event) -> Result<Step, HostError>
         ensures happens { IfOk result (λ _. IsSomeAnd (field_of self.old field) (λ session. event_of (tab session.tables) session.state event.now ≡ Ok (happened session event.now))) }
         ensures answer { IfOk result (λ step. IsSomeAnd (field_of self.old field) (λ session. step ≡ step_of session event.now)) }
         ensures leaves { IfOk result (λ _. IsSomeAnd (field_of self.old field) (λ session. self.new ≡ with_field field (after_step session event.now) self.old)) }
         ensures refused { IfErr result (λ error. refusal_of error ≡ step_refusal (field_of self.old field) event.now) }
+        ensures no_memory { IfErr result (λ error. takes_memory event.now ≡ false → error ≢ HostError.Memory) }
         ensures unchanged { IfErr result (λ _. self.new ≡ self.old) }
     {
         let Some(place) = self.place_of(field) else {
