@@ -1,5 +1,5 @@
 -- A file that is written of tables has its arrays one behind the other, and all strings behind them.
-use Rattle.std.proofs.Common.{◌≡◌, ℕ, ◌+◌, ◌*◌, ◌^◌, ◌<◌, ◌≤◌, ◌⊎◌, Bool, true, false, List, [], ◌∷◌, ◌++◌, length, Some, refl, sym, ap, subst, ◌∙◌, inl, inr, arith, length-append, lit<}
+use Rattle.std.proofs.Common.{◌≡◌, ℕ, ◌+◌, ◌*◌, ◌^◌, ◌<◌, ◌≤◌, ◌⊎◌, List, [], ◌∷◌, ◌++◌, length, Some, refl, sym, ap, subst, ◌∙◌, inl, inr, arith, length-append, lit<}
 use Rattle.std.specs.List.{flat_map}
 use Rattle.std.proofs.lemmas.List.Concat.{flat_map-append}
 use Rattle.kmn_base.specs.declared.limits.TheConstants.{FILE_BYTES, PICTURE_BYTES}
@@ -41,10 +41,6 @@ clear_word high word xs place is h = subst (IsClear high) (sym is) (clear_at hig
 laid_at : (rules : List Rule) (place keys count : ℕ) → keys ≡ offset_of rules place → count ≡ length rules → (count ≡ 0) ⊎ ((place ≤ keys) × (keys + 20 * count ≤ place + 20 * length rules))
 laid_at [] place keys count is counted = inl counted
 laid_at (rule ∷ rules) place keys count is counted = inr (omega (arith, is), omega (arith, is, counted))
-
-flag-fits : (b : Bool) → flag b < 2 ^ 32
-flag-fits false = lit< tt
-flag-fits true = lit< tt
 
 module _ (bytes : List ℕ) (small : length bytes < 2 ^ 32) (unit high : ℕ) where
   stores_clear : (at place : ℕ) (stores : List Store) → high ≤ place

@@ -89,11 +89,6 @@ behind_same place number n bytes behind = by_place place number bytes (λ xs. dr
     ∙ ap (drop (n - (place + 4))) tail ∙ drop-drop (n - (place + 4)) (place + 4) bytes ∙ ap (λ k. drop k bytes) (sym split))
     refl
 
--- a word behind it
-pub read_behind : (place number at : ℕ) (bytes : List ℕ) → place + 4 ≤ at → word_at (with_word place number bytes) at ≡ word_at bytes at
-read_behind place number at bytes behind =
-    same_words (with_word place number bytes) bytes at (length-with_word place number bytes) (ap (take 4) (behind_same place number at bytes behind))
-
 -- a word that is replaced twice is that of the last time
 pub overwritten : (place first second : ℕ) (bytes : List ℕ) → place + 4 ≤ length bytes → with_word place second (with_word place first bytes) ≡ with_word place second bytes
 overwritten place first second bytes within =

@@ -1,6 +1,6 @@
 -- What is left of a play behind an entry, where it goes on and where it stops.
-use Rattle.std.proofs.Common.{◌≡◌, ℕ, zero, suc, ◌+◌, ◌<◌, ◌≤◌, Bool, true, false, List, [], ◌∷◌, ◌++◌, length, drop, get_or, cond, Option, Some, None, Result, Ok, Err, refl, sym, ap, ◌∙◌, subst, arith, add-one, drop-cons, append-nil}
-use Rattle.std.specs.Prelude.{nat_le, IfOk}
+use Rattle.std.proofs.Common.{◌≡◌, ℕ, zero, suc, ◌+◌, ◌<◌, ◌≤◌, Bool, true, false, List, [], ◌∷◌, ◌++◌, length, drop, get_or, cond, Option, Some, None, Result, refl, sym, ap, ◌∙◌, subst, arith, add-one, drop-cons, append-nil}
+use Rattle.std.specs.Prelude.{nat_le}
 use Rattle.std.specs.Str.{bytes_eq}
 use Rattle.std.proofs.Math.ListN.{drop_of_length-le}
 use Rattle.std.proofs.lemmas.List.Elements.{All-set, All-append, All-cons, All-nil}
@@ -177,10 +177,6 @@ pub play_ends : {A E : Type 0} (play : Play) (entries : List HostEntry) (i : ℕ
 play_ends play entries i start before after whole result all appended prints =
     prints_rest (end_lines play) start before after whole result
     (subst (λ (rest : List ℕ). AppendsBut rest start before whole) (ap (lines_left play) (drop_of_length-le entries all)) appended) prints
-
-pub ends_if : {E : Type 0} (result : Result PlayEnd E) (given how : PlayEnd) → IfOk result (λ s. s ≡ given) → given ≡ how → IfOk result (λ s. s ≡ how)
-ends_if (Ok s) given how is same = is ∙ same
-ends_if (Err error) given how is same = tt
 
 pub ends_so : (play : Play) (entries : List HostEntry) (i : ℕ) (how : PlayEnd) → length entries ≤ i → end_left play (drop i entries) ≡ how → end_after None play.failed ≡ how
 ends_so play entries i how all ends = sym (ap (end_left play) (drop_of_length-le entries all)) ∙ ends

@@ -38,7 +38,7 @@ same_element_itself (element.Char c) = eq-eqb c c refl
 same_element_itself (element.Mark m) = eq-eqb m m refl
 same_element_itself (element.Key flags code) = λ i. eq-eqb flags flags refl i && eq-eqb code code refl i
 
-same_as_itself : (value : List Element) → same_value value value ≡ true
+pub same_as_itself : (value : List Element) → same_value value value ≡ true
 same_as_itself [] = refl
 same_as_itself (e ∷ value) = ap (λ (t : Bool). t && same_value value value) (same_element_itself e) ∙ same_as_itself value
 

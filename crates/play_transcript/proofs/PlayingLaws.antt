@@ -338,20 +338,8 @@ module _ (front : List ℕ) (session : SessionState) (changes : List Change) (i 
       let first : drop i changes ≡ get_or changes i d ∷ drop (i + 1) changes = rw add-one (drop-cons changes i d within) in
       ap (flat_map (change_line front session)) (first ∙ ap (λ (x : Change). x ∷ drop (i + 1) changes) (sym at))
 
-  pub change_printed : (start before after whole : List ℕ) → AppendsBut (flat_map (change_line front session) (drop i changes)) start before whole → after ≡ before ++ change_line front session change
-      → AppendsBut (flat_map (change_line front session) (drop (i + 1) changes)) start after whole
-  change_printed start before after whole appended put =
-      appended_more (change_line front session change) (flat_map (change_line front session) (drop (i + 1) changes)) start before after whole
-      (subst (λ (lines : List ℕ). AppendsBut lines start before whole) first_change appended) put
-
   pub change_begun : (start before after whole : List ℕ) → AppendsBut (flat_map (change_line front session) (drop i changes)) start before whole → IsBegun before after (change_line front session change)
       → IsBegun start after whole
   change_begun start before after whole appended begun =
       begun_within (change_line front session change) (flat_map (change_line front session) (drop (i + 1) changes)) start before after whole
       (subst (λ (lines : List ℕ). AppendsBut lines start before whole) first_change appended) begun
-
-pub changes_end : (front : List ℕ) (session : SessionState) (changes : List Change) (i : ℕ) (start before whole : List ℕ) → length changes ≤ i → AppendsBut (flat_map (change_line front session) (drop i changes)) start before whole
-    → before ≡ start ++ whole
-changes_end front session changes i start before whole all appended =
-    appended_all [] start before before whole
-    (subst (λ (rest : List ℕ). AppendsBut rest start before whole) (ap (flat_map (change_line front session)) (drop_of_length-le changes all)) appended) (sym (append-nil before))

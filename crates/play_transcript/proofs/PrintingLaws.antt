@@ -1,5 +1,5 @@
 -- Lists that are appended in parts.
-use Rattle.std.proofs.Common.{◌≡◌, ℕ, List, [], ◌∷◌, ◌++◌, take, arith, drop, length, Result, Ok, Err, subst, refl, sym, ◌∙◌, ap, append_assoc, append-nil}
+use Rattle.std.proofs.Common.{◌≡◌, ℕ, List, [], ◌++◌, take, drop, Result, Ok, Err, subst, refl, sym, ◌∙◌, ap, append_assoc, append-nil}
 use Rattle.std.proofs.lemmas.List.{take-append-drop}
 use Rattle.std.specs.Prelude.{IsErrAnd}
 use Rattle.kmn_outside.specs.Outside.{Puts}
@@ -54,10 +54,6 @@ begun_behind before middle after part more is begun = record {
   };
 }
 
--- a list that was appended whole is begun
-pub whole_begun : {X : Type 0} (before after wanted : List X) → after ≡ before ++ wanted → IsBegun before after wanted
-whole_begun before after wanted is = record { rest = []; begun = record { done = wanted; parts = sym (append-nil wanted); appended = is } }
-
 -- a put that took a part of the rest
 pub put_on : (start line before after rest : List ℕ) (count : ℕ) → Puts before after rest (Ok count) → AppendsBut rest start before line → AppendsBut (drop count rest) start after line
 put_on start line before after rest count puts h =
@@ -68,11 +64,6 @@ put_on start line before after rest count puts h =
 pub put_stops : (start line before after rest : List ℕ) (error : WriteError) → Puts before after rest (Err error) → AppendsBut rest start before line → IsBegun start after line
 put_stops start line before after rest write.Failed puts h = record { rest = drop puts.0 rest; begun = put_on start line before after rest puts.0 puts.1 h }
 put_stops start line before after rest write.Memory puts h = record { rest = rest; begun = record { done = h.done; parts = h.parts; appended = puts ∙ h.appended } }
-
--- where nothing is left, all was appended
-pub nothing_left : {X : Type 0} (rest before after wanted : List X) → AppendsBut rest before after wanted → length rest ≡ 0 → after ≡ before ++ wanted
-nothing_left [] before after wanted h none = h.appended ∙ ap (λ list. before ++ list) (sym (h.parts ∙ append-nil h.done))
-nothing_left (x ∷ rest) before after wanted h none = absurd (omega arith)
 
 -- the rest is printed, or where something failed a first part of it
 pub prints_rest : {A E : Type 0} (rest start before after whole : List ℕ) (result : Result A E) → AppendsBut rest start before whole → Prints before after rest result → Prints start after whole result

@@ -1,7 +1,8 @@
 use Rattle.std.proofs.Common.{sym, refl, rules, arith}
 use Rattle.play_session.proofs.Printing.{sessions_begin, sessions_go_on}
+use Rattle.play_transcript.proofs.PlayingLaws.{ends_if}
 use Rattle.play_transcript.proofs.PrintingLaws.{fault_prints}
-use Rattle.play_host.proofs.EntryLaws.{Begins, play_begins, HasGoneOn, gone_on, refused_ends, refused_prints, entry_stops, play_ends, ends_if, ends_so}
+use Rattle.play_host.proofs.EntryLaws.{Begins, play_begins, HasGoneOn, gone_on, refused_ends, refused_prints, entry_stops, play_ends, ends_so}
 use Rattle.play_host.proofs.playing.play_entries.Goals as goal
 
 pub loop-entry-init : goal.loop-entry-init
