@@ -38,7 +38,7 @@ IsCutOff file target before after sink sink_after =
     ((out : Export) × HasExported file target out before after × (IsTrue sink.told → IsBegun sink.written sink_after.written (exported_text out)))
     ⊎ ((why : ExportReason) × IsRefused file why before after × (IsTrue sink.told → IsBegun sink.written sink_after.written (unexported_line why)))
 
--- what a run leaves, by its status
+-- what a run leaves, by its status. At a fault of writing the count that rose says whether it was the folder's or the sink's
 abbrev pub LeavesBy : (file target : List ℕ) → FolderState → FolderState → SinkState → SinkState → Status → Type 0
 LeavesBy file target before after sink sink_after status.Done =
     (out : Export) × HasExported file target out before after × (IsTrue sink.told → sink_after.written ≡ sink.written ++ exported_text out)
@@ -48,7 +48,8 @@ LeavesBy file target before after sink sink_after status.Words = ⊥
 LeavesBy file target before after sink sink_after status.ExpectFailed = ⊥
 LeavesBy file target before after sink sink_after status.ReadFault = HasFailedToRead file before after × IsSilent sink sink_after
 LeavesBy file target before after sink sink_after status.WriteFault =
-    ((out : Export) × HasFailedToWrite file target out before after × IsSilent sink sink_after) ⊎ IsCutOff file target before after sink sink_after
+    (Rose before.faults after.faults × ((out : Export) × HasFailedToWrite file target out before after × IsSilent sink sink_after))
+    ⊎ (Rose sink.faults sink_after.faults × IsCutOff file target before after sink sink_after)
 LeavesBy file target before after sink sink_after status.Memory =
     (HasMaybeRead file before after × IsSilent sink sink_after) ⊎ IsCutOff file target before after sink sink_after
 
