@@ -1,3 +1,4 @@
 pub mod EntryLaws
 pub mod FieldLaws
 pub mod Fields
+pub mod Pieces
