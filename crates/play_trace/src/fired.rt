@@ -2,9 +2,10 @@
 
 ghost use Rattle.std.specs.Prelude.{◌≡◌, ◌++◌, flat_map, IfOk};
 ghost use Rattle.std.specs.String.{string_bytes};
-ghost use Rattle.play_trace.specs.TraceText.{numbers_text, fired_line, hit_if_any, never_chosen, never_line, events_line, hits_text};
+ghost use Rattle.play_trace.specs.TraceText.{fired_line, hit_if_any, never_chosen, never_line, events_line, hits_text};
 
 use kmn_base::{Memory, Seq, Text};
+use rule_model::put_numbers;
 use rule_trace::Hit;
 use std::alloc::{AllocError, Global};
 
@@ -81,21 +82,6 @@ fn never_chosen(alloc: Global, hits: &[Hit]) -> Result<Vec<u32>, AllocError>
         }
     }
     Ok(lines)
-}
-
-/// Numbers joined by dots, or `-` where there are none.
-fn put_numbers(text: &mut String, numbers: &[u32]) -> Result<(), AllocError>
-    ensures { IfOk result (λ _. string_bytes text.new ≡ string_bytes text.old ++ numbers_text numbers.now) }
-{
-    let [first, rest @ ..] = numbers else {
-        return text.push_str("-");
-    };
-    write!(text, "{first}")?;
-    for number in rest {
-        text.push_str(".")?;
-        write!(text, "{number}")?;
-    }
-    Ok(())
 }
 
 /// The bytes of a string.

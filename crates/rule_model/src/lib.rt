@@ -5,12 +5,13 @@
 //! (`docs/MEANING.md` tells it in words): `src` and `tab` give the keyboard of a program and of tables, `trace` the steps
 //! that it takes, `transcript` what is printed of them, and `step_laws` has the laws of every step. The layers above use
 //! the definitions and the laws, compare two texts by `common_prefix` and an item with an element by `is_item`, find the
-//! caret behind an edit by `moved_caret`, and call system stores by the names in `system`. `proofs/` has lemmas for what
-//! computes the meaning over tables: option numbers, groups and caught items.
+//! caret behind an edit by `moved_caret`, print numbers by `put_numbers`, and call system stores by the names in `system`.
+//! `proofs/` has lemmas for what computes the meaning over tables: option numbers, groups and caught items.
 #![tactic(auto)]
 
 mod event_state;
 mod items;
+mod lines;
 mod program;
 mod script;
 pub mod step_laws;
@@ -20,6 +21,7 @@ mod texts;
 
 pub use event_state::{Catch, Caught, EventState};
 pub use items::{is_item, item_of};
+pub use lines::put_numbers;
 pub use program::{BeginDef, GroupDef, KeyName, Program, RuleDef, RuleKind, SrcItem, StoreDef};
 pub use script::Entry;
 pub use tables::{Group, Out, Pat, Rule, Store, Tables};

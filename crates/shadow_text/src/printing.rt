@@ -1,15 +1,13 @@
 //! What is printed of the rules that are told as dead, each line with its LF.
 
-ghost use Rattle.std.specs.Prelude.{◌≡◌, ◌++◌, [], map, filter, flat_map, unwrap_or, IfOk, OnOk};
+ghost use Rattle.std.specs.Prelude.{◌≡◌, ◌++◌, [], filter, flat_map, unwrap_or, IfOk, OnOk};
 ghost use Rattle.std.specs.String.{string_bytes};
-ghost use Rattle.std.specs.Fmt.{decimal};
-ghost use Rattle.rule_model.specs.Lines.{joined};
 ghost use Rattle.kmx_format.specs.Writable.{IsWritable};
 ghost use Rattle.shadow_text.specs.DeadLines.{rule_lines, is_dead, lines_before, dead_line, end_line, dead_text};
 
 use crate::verdicts::{Verdict, rising, verdicts};
 use kmn_base::{Memory, Seq, Text};
-use rule_model::Tables;
+use rule_model::{Tables, put_numbers};
 use std::alloc::{AllocError, Global};
 
 /// How many key records `shadow` takes at most: our own choice, since each is compared with all before it.
@@ -107,21 +105,6 @@ fn put_dead_line(alloc: Global, text: &mut String, all: &[Verdict], line: u32) -
     write!(text, "dead {line} by ")?;
     put_numbers(text, before.as_slice())?;
     text.push_str("\n")?;
-    Ok(())
-}
-
-/// Numbers joined by dots, or `-` where there are none.
-fn put_numbers(text: &mut String, numbers: &[u32]) -> Result<(), AllocError>
-    ensures { IfOk result (λ _. string_bytes text.new ≡ string_bytes text.old ++ joined (map decimal numbers.now)) }
-{
-    let [first, rest @ ..] = numbers else {
-        return text.push_str("-");
-    };
-    write!(text, "{first}")?;
-    for number in rest {
-        text.push_str(".")?;
-        write!(text, "{number}")?;
-    }
     Ok(())
 }
 
