@@ -45,12 +45,19 @@ pub enum TraceEnd {
     Refused,
 }
 
+/// A session with the coverage of the lines that it chooses.
+#[derive(Drop)]
+struct TracedSession<'a> {
+    session: Session<'a>,
+    coverage: Coverage,
+}
+
 /// Plays a script in a session before its first event, with a coverage of nothing yet: prints the lines of the rules that each
 /// event chose, and in the end how often each line was chosen and which never was.
 pub fn trace_play<'a, S: Sink>(
     alloc: Global,
-    mut session: Session<'a>,
-    mut coverage: Coverage,
+    session: Session<'a>,
+    coverage: Coverage,
     entries: &[Entry],
     out: &mut S,
 ) -> Result<TraceEnd, WriteError>
@@ -63,34 +70,34 @@ pub fn trace_play<'a, S: Sink>(
     ensures prints { IsTrue (S.told out.old)
         → Prints (S.written out.old) (S.written out.new) (trace_text (tab session.entry.tables) (lines_of_tables session.entry.tables) entries.now) result }
 {
-    follow(alloc, &mut session, &mut coverage, entries, out)
+    let mut traced = TracedSession { session, coverage };
+    follow(alloc, &mut traced, entries, out)
 }
 
 /// The same on a session and a coverage that are lent.
 fn follow<S: Sink>(
     alloc: Global,
-    session: &mut Session,
-    coverage: &mut Coverage,
+    traced: &mut TracedSession,
     entries: &[Entry],
     out: &mut S,
 ) -> Result<TraceEnd, WriteError>
-    requires first { session.old ≡ first_session session.old.tables }
-    requires none_chosen { All (λ (hit : Hit). hit.count ≡ 0) coverage.old }
-    requires lines { AreLinesOf session.old.tables coverage.old }
+    requires first { traced.old.session ≡ first_session traced.old.session.tables }
+    requires none_chosen { All (λ (hit : Hit). hit.count ≡ 0) traced.old.coverage }
+    requires lines { AreLinesOf traced.old.session.tables traced.old.coverage }
     ensures counts { WriteCounts (S.faults out.old) (S.faults out.new) result }
     ensures told { S.told out.new ≡ S.told out.old }
-    ensures ends { IfOk result (λ end. end ≡ trace_end (trace (tab session.old.tables) (events_of entries.now))) }
+    ensures ends { IfOk result (λ end. end ≡ trace_end (trace (tab traced.old.session.tables) (events_of entries.now))) }
     ensures prints { IsTrue (S.told out.old)
-        → Prints (S.written out.old) (S.written out.new) (trace_text (tab session.old.tables) (lines_of_tables session.old.tables) entries.now) result }
+        → Prints (S.written out.old) (S.written out.new) (trace_text (tab traced.old.session.tables) (lines_of_tables traced.old.session.tables) entries.now) result }
 {
     let mut counts = no_counts();
     for entry in entries {
-        match follow_entry(alloc, session, coverage, counts, entry, out)? {
+        match follow_entry(alloc, traced, counts, entry, out)? {
             Followed::On(next) => counts = next,
             Followed::Refused => return Ok(TraceEnd::Refused),
         }
     }
-    put_end(alloc, counts.events, coverage.hits(), out)
+    put_end(alloc, counts.events, traced.coverage.hits(), out)
 }
 
 /// Nothing is counted.
@@ -107,22 +114,21 @@ fn no_counts() -> TraceCounts
 #[tactic(auto, using(crate::proofs::TraceLaws::nothing_printed))]
 fn follow_entry<S: Sink>(
     alloc: Global,
-    session: &mut Session,
-    coverage: &mut Coverage,
+    traced: &mut TracedSession,
     counts: TraceCounts,
     entry: &Entry,
     out: &mut S,
 ) -> Result<Followed, WriteError>
-    requires numbered { session.old.number ≡ counts.number }
+    requires numbered { traced.old.session.number ≡ counts.number }
     requires events { counts.events < 2 ^ 64 - 1 }
-    requires covers { Covers session.old.tables (hit_lines coverage.old) }
+    requires covers { Covers traced.old.session.tables (hit_lines traced.old.coverage) }
     ensures counts { WriteCounts (S.faults out.old) (S.faults out.new) result }
     ensures told { S.told out.new ≡ S.told out.old }
-    ensures follows { IfOk result (Follows session.old session.new coverage.old coverage.new counts entry.now) }
-    ensures prints { IsTrue (S.told out.old) → Prints (S.written out.old) (S.written out.new) (entry_line session.old entry.now) result }
+    ensures follows { IfOk result (Follows traced.old.session traced.new.session traced.old.coverage traced.new.coverage counts entry.now) }
+    ensures prints { IsTrue (S.told out.old) → Prints (S.written out.old) (S.written out.new) (entry_line traced.old.session entry.now) result }
 {
     match entry {
-        Entry::Act { event, .. } => follow_event(alloc, session, coverage, counts, event, out),
+        Entry::Act { event, .. } => follow_event(alloc, traced, counts, event, out),
         Entry::Expect { .. } => Ok(Followed::On(counts)),
     }
 }
@@ -131,24 +137,23 @@ fn follow_entry<S: Sink>(
 #[tactic(auto, using(play_transcript::proofs::PrintingLaws::faults))]
 fn follow_event<S: Sink>(
     alloc: Global,
-    session: &mut Session,
-    coverage: &mut Coverage,
+    traced: &mut TracedSession,
     counts: TraceCounts,
     event: &Event,
     out: &mut S,
 ) -> Result<Followed, WriteError>
-    requires numbered { session.old.number ≡ counts.number }
+    requires numbered { traced.old.session.number ≡ counts.number }
     requires events { counts.events < 2 ^ 64 - 1 }
-    requires covers { Covers session.old.tables (hit_lines coverage.old) }
+    requires covers { Covers traced.old.session.tables (hit_lines traced.old.coverage) }
     ensures counts { WriteCounts (S.faults out.old) (S.faults out.new) result }
     ensures told { S.told out.new ≡ S.told out.old }
-    ensures follows { IfOk result (FollowsEvent session.old session.new coverage.old coverage.new counts event.now) }
-    ensures prints { IsTrue (S.told out.old) → Prints (S.written out.old) (S.written out.new) (event_line session.old event.now) result }
+    ensures follows { IfOk result (FollowsEvent traced.old.session traced.new.session traced.old.coverage traced.new.coverage counts event.now) }
+    ensures prints { IsTrue (S.told out.old) → Prints (S.written out.old) (S.written out.new) (event_line traced.old.session event.now) result }
 {
-    match session.step(alloc, event) {
+    match traced.session.step(alloc, event) {
         Ok(step) => {
-            put_fired(alloc, step.number, session.chosen(), out)?;
-            coverage.add(session.chosen());
+            put_fired(alloc, step.number, traced.session.chosen(), out)?;
+            traced.coverage.add(traced.session.chosen());
             Ok(Followed::On(TraceCounts {
                 number: step.number,
                 events: counts.events + 1,

@@ -15,12 +15,12 @@ invariant-loop-entry g l =
     record {
       faults : g.S.Sink.faults l.out ≡ g.S.Sink.faults l.initial.out;
       told : g.S.Sink.told l.out ≡ g.S.Sink.told l.initial.out;
-      tables : l.session.tables ≡ l.initial.session.tables;
-      lines : hit_lines l.coverage ≡ hit_lines l.initial.coverage;
-      number : l.session.number ≡ l.counts.number;
+      tables : l.traced.session.tables ≡ l.initial.traced.session.tables;
+      lines : hit_lines l.traced.coverage ≡ hit_lines l.initial.traced.coverage;
+      number : l.traced.session.number ≡ l.counts.number;
       events : l.counts.events ≤ l.entry-index;
-      end : end_left l.session (drop l.entry-index l.entries) ≡ trace_end (trace (tab l.initial.session.tables) (events_of l.entries));
+      end : end_left l.traced.session (drop l.entry-index l.entries) ≡ trace_end (trace (tab l.initial.traced.session.tables) (events_of l.entries));
       printed : IsTrue (g.S.Sink.told l.initial.out)
-          → AppendsBut (text_left l.session l.coverage l.counts (drop l.entry-index l.entries)) (g.S.Sink.written l.initial.out) (g.S.Sink.written l.out)
-          (trace_text (tab l.initial.session.tables) (lines_of_tables l.initial.session.tables) l.entries);
+          → AppendsBut (text_left l.traced.session l.traced.coverage l.counts (drop l.entry-index l.entries)) (g.S.Sink.written l.initial.out) (g.S.Sink.written l.out)
+          (trace_text (tab l.initial.traced.session.tables) (lines_of_tables l.initial.traced.session.tables) l.entries);
     }
