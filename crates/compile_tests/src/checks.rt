@@ -388,7 +388,7 @@ K:store(k) '⟨a×50000⟩'¶+ any(k) > 'x'¶+ any(k) > 'x'¶match > 'y'¶+ 'b' 
 K:store(&casedkeys) [K_A]¶store(k) ⟨[K_A] ×50000⟩¶+ any(k) > 'x' ⇒ ok
 K:store(&casedkeys) [K_A]¶store(k) ⟨[K_A] ×49999⟩¶+ any(k) > 'x'¶+ 'b' > 'c'¶+ [K_A] > 'd' ⇒ C22 7"##;
 
-/// A keyboard of every kind of statement.
+/// A keyboard of every kind of statement: the lines of `examples/sample.kmn`.
 const SAMPLE: &str =
     "A:c Acute and grave vowels¶store(&version) '10.0'¶store(&name) 'Sample Accents'¶\
     store(&copyright) '(c) Example'¶store(&bitmap) 'sample.ico'¶store(&targets) 'any'¶\

@@ -24,7 +24,7 @@ struct End<'a> {
     out: &'a [u8],
 }
 
-/// The file of one rule, of version 17.0.
+/// The file of one rule, of version 17.0: else `one_rule_bytes` of `WorkedFiles` in `kmx_format`, which were worked out by hand.
 fn one_rule() -> [u8; 122] {
     let mut file = [0; 122];
     file[..4].copy_from_slice(b"KXTS");

@@ -7,7 +7,8 @@ use kmn_base::{Memory, RuleKey, Seq, Text};
 use rule_model::{Group, Out, Rule, Store, Tables};
 use std::alloc::Global;
 
-/// The file of one rule, `+ 'a' > 'b'` in line 3, in a group `main` that uses keys.
+/// The file of one rule, `+ 'a' > 'b'` in line 3, in a group `main` that uses keys: the bytes `one_rule_bytes` of `WorkedFiles` in
+/// `kmx_format`, which were worked out by hand.
 pub const ONE_RULE: [u8; 122] = [
     0x4B, 0x58, 0x54, 0x53, 0x00, 0x0A, 0x00, 0x00, 0, 0, 0, 0, 0, 0, 0, 0, 0, 0, 0, 0, 0, 0, 0, 0,
     0, 0, 0, 0, 1, 0, 0, 0, 0, 0, 0, 0, 0x40, 0, 0, 0, 0xFF, 0xFF, 0xFF, 0xFF, 0, 0, 0, 0, 0, 0, 0,
@@ -16,7 +17,7 @@ pub const ONE_RULE: [u8; 122] = [
     0x61, 0, 0x69, 0, 0x6E, 0, 0, 0, 0x62, 0, 0, 0,
 ];
 
-/// The file of a store k of two virtual keys, a store o of x and y, and a record for each key.
+/// The file of a store k of two virtual keys, a store o of x and y, and a record for each key: `two_keys_bytes` of `WorkedFiles`.
 pub const TWO_KEYS: [u8; 206] = [
     0x4B, 0x58, 0x54, 0x53, 0x00, 0x0A, 0x00, 0x00, 0, 0, 0, 0, 0, 0, 0, 0, 0, 0, 0, 0, 0, 0, 0, 0,
     2, 0, 0, 0, 1, 0, 0, 0, 0x40, 0, 0, 0, 0x58, 0, 0, 0, 0xFF, 0xFF, 0xFF, 0xFF, 0, 0, 0, 0, 0, 0,

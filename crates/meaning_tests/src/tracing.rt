@@ -32,7 +32,8 @@ c no rule | K_A - |
 + 'a' > use(g) 'x' use(h)¶group(g)¶nul > 'y'¶group(h)¶'yx' > 'z'¶match > use(g) | K_A 3.5.7 | 3=1 5=1 7=1
 store(v) 'ab'¶+ any(v) > 'x' | K_A 4 ; K_B 4 | 4=2";
 
-/// A keyboard with deadkeys, an option and three groups.
+/// A keyboard with deadkeys, an option and three groups: the lines of `examples/sample.kmn`, with a comment in place of the one
+/// that names a picture.
 const SAMPLE: &str = "c Acute and grave vowels
 store(&version) '10.0'
 store(&name) 'Sample Accents'
@@ -66,7 +67,8 @@ group(after)
 '--' > U+2013
 ";
 
-/// Its events and the lines that they choose.
+/// The presses of `examples/sample.keys` and the lines that they choose, as the second run of `trace_rows` in `run_tests` prints
+/// them.
 const SAMPLE_EVENTS: &str =
     "K_QUOTE 15 ; K_A 17 ; T_flip 21.27 ; K_BKQUOTE 16 ; 16+K_E 18 ; K_HYPHEN 24 ; \
     K_HYPHEN 24.31 ; 5+K_Q 23 ; 16+K_QUOTE 22 ; K_BKSP - ; T_flip 21";

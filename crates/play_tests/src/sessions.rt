@@ -10,7 +10,8 @@ use std::alloc::Global;
 use std::str;
 use std::test::Fail;
 
-/// The file of one rule, `+ 'a' > 'b'` in line 3, in a group `main` that uses keys.
+/// The file of one rule, `+ 'a' > 'b'` in line 3, in a group `main` that uses keys: the bytes `one_rule_bytes` of `WorkedFiles` in
+/// `kmx_format`, which were worked out by hand.
 const ONE_RULE: &[u8] = &[
     0x4B, 0x58, 0x54, 0x53, 0x00, 0x0A, 0x00, 0x00, 0, 0, 0, 0, 0, 0, 0, 0, 0, 0, 0, 0, 0, 0, 0, 0,
     0, 0, 0, 0, 1, 0, 0, 0, 0, 0, 0, 0, 0x40, 0, 0, 0, 0xFF, 0xFF, 0xFF, 0xFF, 0, 0, 0, 0, 0, 0, 0,

@@ -411,7 +411,7 @@ K:platform("mac") if(s = "v") 'a' + 'a' > 'b' ⇒ 3 if(&31=6D 61 63) if(s=76) 61
 K:+ 'a' > call(x:y) ⇒ 3 + 61 > call(x:y)
 K:layer('x') nul + 'a' > 'b' ⇒ 3 if(&33=78) nul + 61 > 62"##;
 
-/// A keyboard of every kind of statement.
+/// A keyboard of every kind of statement: the lines of `examples/sample.kmn`.
 pub const SAMPLE: &str = r##"c Acute and grave vowels
 store(&version) '10.0'
 store(&name) 'Sample Accents'

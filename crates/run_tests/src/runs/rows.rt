@@ -812,7 +812,7 @@ load 1
 
 "##;
 
-/// The keyboard of `SAMPLE`.
+/// The keyboard of `SAMPLE`: the lines of `examples/sample.kmn`, whose script is `examples/sample.keys`.
 pub const SAMPLE: &str = r##"c Acute and grave vowels
 store(&version) '10.0'
 store(&name) 'Sample Accents'
