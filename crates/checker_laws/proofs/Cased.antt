@@ -16,8 +16,8 @@ use Rattle.rule_model.specs.declared.tables.Store.{Store}
 use Rattle.rule_model.specs.Tab.{store_elements}
 use Rattle.rule_model.specs.Naming.{stores_of, is_dropped}
 use Rattle.rule_model.specs.Src.{code_of_element, is_cased_keys, cased_keys}
-use Rattle.store_table.specs.First.{first_code}
-use Rattle.store_table.specs.Known.{Known, known, brought, statement_elements}
+use Rattle.kmn_names.specs.First.{first_code}
+use Rattle.kmn_names.specs.Known.{Known, known, brought, statement_elements}
 use Rattle.item_checker.specs.Items.{is_no_plain_key, puts_option, wants_characters, brings_no_character, wants_plain_keys, brings_no_plain_key, store_item_code, store_head_code, store_code, store_refusal}
 use Rattle.limit_checker.specs.Limits.{cased_codes}
 use Rattle.rule_checker.specs.Refused.{IsRead}

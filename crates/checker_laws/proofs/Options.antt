@@ -20,8 +20,8 @@ use Rattle.rule_model.specs.Src.{pattern_uses, output_uses, rule_uses, group_use
 use Rattle.rule_model.specs.Tab.{with_options}
 use Rattle.compile_laws.specs.WellNamed.{is_fixed}
 use Rattle.compile_laws.proofs.Options.{any_flat_map}
-use Rattle.store_table.specs.Names.{is_named}
-use Rattle.store_table.specs.Known.{known, option_named, rule_options}
+use Rattle.kmn_names.specs.Names.{is_named}
+use Rattle.kmn_names.specs.Known.{known, option_named, rule_options}
 use Rattle.item_checker.specs.Items.{is_option}
 use Rattle.virtual_keys.proofs.NamePlaces.{position_cons, some_place}
 

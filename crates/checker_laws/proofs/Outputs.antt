@@ -27,8 +27,8 @@ use Rattle.compile_laws.proofs.Known.{has_values}
 use Rattle.kmx_format.specs.FileUnits.{unit_item_of_output}
 use Rattle.kmx_format.specs.Writable.{stores_of_output, groups_of_output, sets_system_id, is_any, is_matched, PointsInto, needs_context, IsWritableOutput, IsWritableMatchOutput}
 use Rattle.kmn_parser.specs.ProgramLaws.{IsReadItem}
-use Rattle.store_table.specs.First.{first_code}
-use Rattle.store_table.specs.Known.{known}
+use Rattle.kmn_names.specs.First.{first_code}
+use Rattle.kmn_names.specs.Known.{known}
 use Rattle.item_checker.specs.Items.{is_pattern_item, is_any_item, points_to, misses_pattern, misses_any, index_code, key_index_code, rule_output_code, match_output_code, offset_code}
 use Rattle.limit_checker.specs.Limits.{item_size, output_size}
 use Rattle.rule_checker.specs.Refused.{IsRead}

@@ -28,7 +28,7 @@ use Rattle.compile_laws.specs.Compiles.{has_halves, half_key, file_record, key_r
 use Rattle.compile_laws.specs.Ordered.{in_order, ordered_group, compiled_tables}
 use Rattle.compile_laws.proofs.Ordered.{in_order_permutes}
 use Rattle.kmx_format.specs.File.{all_rules, rules_of}
-use Rattle.store_table.specs.Known.{Known, known}
+use Rattle.kmn_names.specs.Known.{Known, known}
 use Rattle.limit_checker.specs.Limits.{OfStore, OfRule, in_line_order, cased_codes, virtual_count, element_count, key_count, record_count, records_of_statement, all_records}
 use Rattle.rule_checker.specs.Refused.{IsRead}
 use Rattle.checker_laws.proofs.Accepted.{IsUnrefused}

@@ -3,7 +3,7 @@ use Rattle.std.proofs.Common.{◌≡◌, ℕ, Bool, true, false, nat_lt, List, [
 use Rattle.std.specs.List.{AllByRecursion}
 use Rattle.kmn_base.specs.declared.codes.Code.{Code}
 use Rattle.kmn_base.specs.declared.refusals.Refusal.{Refusal}
-use Rattle.store_table.specs.First.{or_else, broken, first_code, at_line, earlier, first_of}
+use Rattle.kmn_names.specs.First.{or_else, broken, first_code, at_line, earlier, first_of}
 
 pub none_both : {A : Type 0} (a b : Option A) → or_else a b ≡ None → (a ≡ None) × (b ≡ None)
 none_both None b h = (refl, h)

@@ -29,8 +29,8 @@ use Rattle.kmx_format.specs.Versions.{is_version, file_versions}
 use Rattle.kmx_format.specs.declared.versions.TheConstants.{OWN_VERSION}
 use Rattle.kmx_format.specs.Writable.{IsWritable, IsWritableGroup}
 use Rattle.kmn_parser.specs.ProgramLaws.{IsReadRule, IsReadGroup}
-use Rattle.store_table.specs.Names.{stated, is_named, is_begun, begins_no_group, begin_code, begin_refusal}
-use Rattle.store_table.specs.Known.{known}
+use Rattle.kmn_names.specs.Names.{stated, is_named, is_begun, begins_no_group, begin_code, begin_refusal}
+use Rattle.kmn_names.specs.Known.{known}
 use Rattle.item_checker.specs.Items.{rule_code, rule_refusal, rules_refusal}
 use Rattle.limit_checker.specs.Limits.{in_line_order, all_records}
 use Rattle.rule_checker.specs.Refused.{IsRead, refused}

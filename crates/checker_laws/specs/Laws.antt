@@ -10,8 +10,8 @@ use Rattle.compile_laws.specs.Numbers.{compiled_stores}
 use Rattle.compile_laws.specs.WellNamed.{IsWellNamed}
 use Rattle.kmx_format.specs.File.{all_rules as records_of}
 use Rattle.kmx_format.specs.Writable.{IsWritable}
-use Rattle.store_table.specs.Known.{known}
-use Rattle.store_table.specs.Numbering.{lists_of}
+use Rattle.kmn_names.specs.Known.{known}
+use Rattle.kmn_names.specs.Numbering.{lists_of}
 use Rattle.limit_checker.specs.Limits.{Statement, in_line_order, sizes, all_records}
 use Rattle.rule_checker.specs.Refused.{IsRead, refused}
 

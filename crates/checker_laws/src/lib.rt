@@ -2,7 +2,7 @@
 //!
 //! A program that is read from a source and not refused is well named, so that its tables mean what it means; its tables
 //! can be written as a file; and what the limits count of its statements is what that file has. It stands on the
-//! definitions of `kmn_parser`, of `store_table`, `item_checker`, `limit_checker` and `rule_checker`, of `compile_laws` and
+//! definitions of `kmn_parser`, of `kmn_names`, `item_checker`, `limit_checker` and `rule_checker`, of `compile_laws` and
 //! of `kmx_format`, and has no code: a layer above calls a function with an empty body for the law in its contract, or cites the lemmas in `proofs/`.
 #![tactic(auto)]
 

@@ -9,7 +9,7 @@ use Rattle.rule_model.specs.declared.program.Program.{Program}
 use Rattle.rule_model.specs.declared.tables.Tables.{Tables}
 use Rattle.rule_model.specs.Naming.{names_of}
 use Rattle.rule_model.specs.Tab.{tab_dictionary}
-use Rattle.store_table.specs.First.{or_refusal}
+use Rattle.kmn_names.specs.First.{or_refusal}
 use Rattle.rule_checker.specs.Refused.{IsRead, refused}
 use Rattle.kmx_format.specs.TablesOf.{tables_of}
 use Rattle.kmx_format.specs.Playable.{IsPlayable}

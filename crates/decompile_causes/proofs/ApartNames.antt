@@ -14,9 +14,9 @@ use Rattle.rule_model.specs.declared.program.GroupDef.{GroupDef}
 use Rattle.rule_model.specs.declared.tables.Store.{Store}
 use Rattle.rule_model.specs.declared.tables.Group.{Group}
 use Rattle.rule_model.specs.Naming.{is_dropped}
-use Rattle.store_table.specs.declared.stating.Stated.{Stated}
-use Rattle.store_table.specs.First.{broken, first_code, first_of}
-use Rattle.store_table.specs.Names.{is_named, kept_name, store_names, group_names, is_store_again, is_group_again, store_item_code, store_code, store_refusal, group_code, group_refusal}
+use Rattle.kmn_names.specs.declared.stating.Stated.{Stated}
+use Rattle.kmn_names.specs.First.{broken, first_code, first_of}
+use Rattle.kmn_names.specs.Names.{is_named, kept_name, store_names, group_names, is_store_again, is_group_again, store_item_code, store_code, store_refusal, group_code, group_refusal}
 use Rattle.decompile_laws.specs.Items.{Names, back_element}
 use Rattle.decompile_laws.specs.Back.{back_stores, back_group, back_groups}
 use Rattle.decompile_laws.proofs.Apart.{same-turned, filled, EachApart, AreApart}

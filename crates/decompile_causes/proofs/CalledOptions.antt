@@ -18,9 +18,9 @@ use Rattle.rule_model.specs.declared.tables.Rule.{Rule}
 use Rattle.rule_model.specs.declared.tables.Group.{Group}
 use Rattle.rule_model.specs.declared.tables.Tables.{Tables}
 use Rattle.rule_model.specs.Tab.{tab_options, pattern_options, output_options, rule_options, group_options}
-use Rattle.store_table.specs.Names.{is_named}
-use Rattle.store_table.specs.Known.{known, option_named}
-use Rattle.store_table.specs.Known.{rule_options as source_options}
+use Rattle.kmn_names.specs.Names.{is_named}
+use Rattle.kmn_names.specs.Known.{known, option_named}
+use Rattle.kmn_names.specs.Known.{rule_options as source_options}
 use Rattle.item_checker.specs.Items.{is_option}
 use Rattle.decompile_laws.specs.Items.{Names, store_called, back_pattern, back_output, back_key, some_items}
 use Rattle.decompile_laws.specs.Back.{back_rule, back_rules, back_statement, match_line, nomatch_line, back_group, back_groups, names_for, written_stores, written_begins, back}

@@ -34,7 +34,7 @@ use Rattle.compile_laws.proofs.Values.{values_known}
 use Rattle.kmx_format.specs.File.{file_of}
 use Rattle.kmx_format.specs.TablesOf.{tables_of, group_without_places, no_places}
 use Rattle.kmx_format.proofs.FileLaw.{law}
-use Rattle.store_table.specs.Known.{known}
+use Rattle.kmn_names.specs.Known.{known}
 use Rattle.item_checker.specs.Items.{is_option, rule_code, rule_refusal, rules_refusal}
 use Rattle.rule_checker.specs.Refused.{IsRead, refused}
 use Rattle.checker_laws.proofs.Unrefused.{none_at_line, Stands, none_first}

@@ -11,7 +11,7 @@ use Rattle.rule_model.specs.declared.tables.Tables.{Tables}
 use Rattle.kmx_format.specs.TablesOf.{rule_without_place, group_without_places, no_places}
 use Rattle.kmx_format.proofs.FileLaw.{law}
 use Rattle.compile_laws.specs.Compiles.{stands_before, Compiles}
-use Rattle.store_table.specs.First.{or_else}
+use Rattle.kmn_names.specs.First.{or_else}
 use Rattle.decompile_causes.specs.declared.no_spelling.NoSpelling.TheVariants.{Order}
 use Rattle.decompile_causes.specs.Unspelled.{longer_behind, first_longer, disorder}
 use Rattle.decompile_causes.specs.Laws.{CompiledIsInOrder}

@@ -6,6 +6,7 @@ use Rattle.std.proofs.lemmas.Bool.{and_parts, or_parts, ne_eqb, le-ltb, cond_bot
 use Rattle.std.proofs.lemmas.List.Elements.{All-head, All-tail, All-from_recursion, recursion_from_All}
 use Rattle.std.proofs.lemmas.List.Folds.{list_all-append, list_any-append}
 use Rattle.std.proofs.lemmas.List.Sorted.{All-permutation}
+use Rattle.kmn_base.specs.declared.units.TheConstants.{SENTINEL}
 use Rattle.kmn_base.specs.declared.items.Element.{Element}
 use Rattle.kmn_base.specs.declared.items.Element.TheVariants as element
 use Rattle.kmn_base.specs.declared.keys.RuleKey.{RuleKey}
@@ -38,10 +39,10 @@ use Rattle.compile_laws.proofs.Ordered.{in_order_permutes}
 use Rattle.kmx_format.specs.Writable.{is_matched}
 use Rattle.kmx_format.specs.TablesOf.{rule_without_place, group_without_places}
 use Rattle.kmn_parser.specs.ProgramLaws.{IsCharacter, IsReadItem}
-use Rattle.store_table.specs.Known.{known}
+use Rattle.kmn_names.specs.Known.{known}
 use Rattle.item_checker.specs.Items.{is_no_character, is_pattern_item, context_item_code, context_code, key_code, rule_output_code, rule_code}
 use Rattle.rule_checker.specs.Refused.{IsRead}
-use Rattle.store_table.specs.First.{or_else, first_code}
+use Rattle.kmn_names.specs.First.{or_else, first_code}
 use Rattle.checker_laws.proofs.Unrefused.{none_both}
 use Rattle.checker_laws.proofs.Lists.{All-append_parts}
 use Rattle.checker_laws.proofs.Accepted.{IsUnrefused}
@@ -68,7 +69,7 @@ value-fine value ok =
     ∙ (λ i. not (ok.in_line i) || ok.one_quote i)
 
 character-key : (c : ℕ) → IsCharacter c → not (is_nameable c) ≡ false
-character-key c is = λ i. not (is.valid i && not (ne_eqb c 0 is.not_first i) && not (ne_eqb c 0xFFFF is.not_last i))
+character-key c is = λ i. not (is.valid i && not (ne_eqb c 0 is.not_first i || ne_eqb c SENTINEL is.not_last i))
 
 -- contexts
 module _ (numbers : Numbers) where

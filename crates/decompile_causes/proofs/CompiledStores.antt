@@ -16,7 +16,7 @@ use Rattle.rule_model.specs.Tab.{is_dictionary}
 use Rattle.compile_laws.specs.Numbers.{values_of, value_store, dictionary_stores, compiled_stores, numbers_of, number_of_store}
 use Rattle.compile_laws.specs.WellNamed.{is_store}
 use Rattle.compile_laws.proofs.Places.{FirstPlace, first_place, at_place, slice_get-append_left}
-use Rattle.store_table.specs.Known.{known}
+use Rattle.kmn_names.specs.Known.{known}
 use Rattle.rule_checker.specs.Refused.{IsRead}
 use Rattle.checker_laws.proofs.Accepted.{IsUnrefused}
 use Rattle.kmn_text.specs.Names.{is_source_name}

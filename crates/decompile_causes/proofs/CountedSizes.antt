@@ -19,7 +19,7 @@ use Rattle.rule_model.specs.Naming.{names_of, stores_of, store_of, is_dropped, s
 use Rattle.compile_laws.specs.Numbers.{values_of, value_store, dictionary_stores, compiled_stores}
 use Rattle.kmx_format.specs.Writable.{elements_of}
 use Rattle.kmx_format.specs.Playable.{IsPlayable}
-use Rattle.store_table.specs.Known.{Known, known, statement_elements}
+use Rattle.kmn_names.specs.Known.{Known, known, statement_elements}
 use Rattle.limit_checker.specs.Limits.{items_of, values_of_statement, statement_size, store_size, dictionary_size, sizes, have_many_elements, limits_refusal}
 use Rattle.rule_checker.specs.Refused.{IsRead}
 use Rattle.checker_laws.proofs.Sizes.{element_count, items_in_order, values_in_order, stores_in_order, dictionary_sized, values_sized}

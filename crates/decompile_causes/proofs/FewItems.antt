@@ -27,11 +27,11 @@ use Rattle.rule_model.specs.Naming.{names_of, all_rules, source_items, mark_name
 use Rattle.rule_model.specs.Tab.{distinct_onto}
 use Rattle.kmx_format.specs.Writable.{IsWritableRule}
 use Rattle.kmx_format.specs.Playable.{IsPlayable, IsPlayableGroup}
-use Rattle.store_table.specs.Known.{Known, known}
+use Rattle.kmn_names.specs.Known.{Known, known}
 use Rattle.limit_checker.specs.Limits.{Statement, OfStore, OfRule, in_line_order, item_size, output_size, cased_codes, virtual_count, key_count, records_of_statement, record_count, mark_count, all_records, group_refusal}
 use Rattle.limit_checker.proofs.FirstPassed.{sum_append}
 use Rattle.checker_laws.proofs.Sizes.{items_in_order}
-use Rattle.store_table.specs.First.{first_of}
+use Rattle.kmn_names.specs.First.{first_of}
 use Rattle.decompile_laws.specs.Marks.{greatest_mark}
 use Rattle.decompile_laws.specs.Items.{Names, back_pattern, back_output, back_key, some_items, key_called}
 use Rattle.decompile_laws.specs.Back.{back_rule, back_rules, back_statement, match_line, nomatch_line, back_group, back_groups, names_for, written_stores, written_begins, written_groups, back}

@@ -16,7 +16,7 @@ use Rattle.rule_model.specs.Tab.{tab_options}
 use Rattle.kmx_format.specs.declared.sizes.TheConstants.{STORE_BYTES, GROUP_BYTES, RULE_BYTES}
 use Rattle.kmx_format.specs.TablesOf.{word_at, tables_of}
 use Rattle.kmn_parser.proofs.ReadStatements.{mapped-none}
-use Rattle.store_table.specs.First.{or_else}
+use Rattle.kmn_names.specs.First.{or_else}
 use Rattle.checker_laws.proofs.Unrefused.{none_both}
 use Rattle.decompile_laws.specs.Items.{Names}
 use Rattle.decompile_laws.specs.Back.{names_for, back}

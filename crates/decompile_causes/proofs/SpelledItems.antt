@@ -3,7 +3,7 @@ use Rattle.std.proofs.Common.{◌≡◌, ℕ, zero, suc, ◌+◌, ◌^◌, ◌<�
 use Rattle.std.specs.Prelude.{All, ◌≢◌, nat_eq, bit_and, filter, filter_map}
 use Rattle.std.specs.List.{list_any, list_all, AllByRecursion, range_with_len}
 use Rattle.std.specs.Fmt.{decimal}
-use Rattle.std.proofs.lemmas.Bool.{or_parts, and_parts, eqb-true, not-false, and_right, eq-eqb, not-true, cond-false, or_from, and_left}
+use Rattle.std.proofs.lemmas.Bool.{or_parts, and_parts, eqb-true, eqb-false, not-false, and_right, not-true, cond-false, or_from, and_left}
 use Rattle.std.proofs.lemmas.Bool.Decides.{nat_tests}
 use Rattle.std.proofs.lemmas.List.Elements.{All-nil, All-cons, All-head, All-tail}
 use lib.Utf8.{scalar}
@@ -13,7 +13,8 @@ use Rattle.kmn_base.specs.declared.items.Element.{Element}
 use Rattle.kmn_base.specs.declared.items.Element.TheVariants as element
 use Rattle.kmn_base.specs.declared.keys.RuleKey.{RuleKey}
 use Rattle.kmn_base.specs.declared.keys.RuleKey.TheVariants as key
-use Rattle.kmn_base.specs.Spelling.{IsSpellable}
+use Rattle.kmn_base.specs.declared.units.TheConstants.{SENTINEL}
+use Rattle.kmn_base.specs.Spelling.{IsSpellable, is_forbidden}
 use Rattle.virtual_keys.specs.Dictionary.{is_nameable}
 use Rattle.kmn_items.specs.declared.syntax.Seen.{Seen}
 use Rattle.kmn_items.specs.declared.syntax.Where.TheVariants as section
@@ -41,7 +42,6 @@ use Rattle.item_checker.specs.Items.{is_no_character}
 use Rattle.decompile_causes.specs.Causes.{is_far_mark, is_unspelled_element, is_unspelled_key, is_unspelled_value, have_both_quotes, stands_behind_match, is_nul}
 use Rattle.decompile_causes.proofs.TameNames.{number_name}
 use Rattle.decompile_causes.proofs.SpelledKeys.{IsKeyName, key_spelled}
-use Rattle.kmn_lines.proofs.Sizes.{clash}
 
 near-mark : (m : ℕ) → is_far_mark m ≡ false → m < 10 ^ 9
 near-mark m h = let near : m ≤ DEADKEYS = (grind (arith, nat_tests, h)) in omega arith
@@ -50,17 +50,14 @@ pub mark_name : (m : ℕ) → is_far_mark m ≡ false → IsSpelledName (decimal
 mark_name m h = (number_name m (near-mark m h)).named
 
 -- characters
-pub character : (c : ℕ) → (scalar c ≡ true) × (c ≢ 0) × (c ≢ 0xFFFF) → IsCharacter c
+pub character : (c : ℕ) → (scalar c ≡ true) × (c ≢ 0) × (c ≢ SENTINEL) → IsCharacter c
 character c h = record { valid = h.0; not_first = h.1; not_last = h.2 }
-
-nonzero : (c n : ℕ) → not (nat_eq c n) ≡ true → c ≢ n
-nonzero c n h e = clash (nat_eq c n) (eq-eqb c n e) (not-true (nat_eq c n) h)
 
 pub unit_character : (c : ℕ) → is_nameable c ≡ true → IsCharacter c
 unit_character c h =
-    let one = and_parts (scalar c && not (nat_eq c 0)) (not (nat_eq c 0xFFFF)) h in
-    let two = and_parts (scalar c) (not (nat_eq c 0)) one.0 in
-    record { valid = two.0; not_first = nonzero c 0 two.1; not_last = nonzero c 0xFFFF one.1 }
+    let both = and_parts (scalar c) (not (is_forbidden c)) h in
+    let neither = or_parts (nat_eq c 0) (nat_eq c SENTINEL) (not-true (is_forbidden c) both.1) in
+    record { valid = both.0; not_first = eqb-false c 0 neither.0; not_last = eqb-false c SENTINEL neither.1 }
 
 module _ (names : Names) (keys : All IsKeyName names.keys) where
   -- elements of stores

@@ -8,7 +8,7 @@ use Rattle.virtual_keys.proofs.NamePlaces.{position_cons}
 use Rattle.rule_model.specs.declared.program.StoreDef.{StoreDef}
 use Rattle.rule_model.specs.declared.tables.Store.{Store}
 use Rattle.rule_model.specs.declared.tables.Group.{Group}
-use Rattle.store_table.specs.Names.{is_named, kept_name, store_names, group_names}
+use Rattle.kmn_names.specs.Names.{is_named, kept_name, store_names, group_names}
 use Rattle.decompile_laws.specs.Names.{is_written}
 use Rattle.decompile_laws.specs.Items.{Names}
 use Rattle.decompile_laws.specs.Back.{back_stores, back_group, back_groups}

@@ -15,11 +15,11 @@ use Rattle.rule_model.specs.declared.program.Program.{Program}
 use Rattle.rule_model.specs.declared.tables.Store.{Store}
 use Rattle.rule_model.specs.Naming.{stores_of, stores_onto, store_of, is_dropped}
 use Rattle.kmn_parser.specs.ProgramLaws.{IsReadStore}
-use Rattle.store_table.specs.First.{broken, first_code, first_of}
-use Rattle.store_table.specs.declared.stating.Stated.{Stated}
-use Rattle.store_table.specs.Names.{stated, is_named, kept_name, store_names, is_store_again}
-use Rattle.store_table.specs.Names.{store_refusal as name_refusal, store_item_code as name_item_code, store_code as name_code}
-use Rattle.store_table.specs.Known.{Known, known, brought, statement_elements}
+use Rattle.kmn_names.specs.First.{broken, first_code, first_of}
+use Rattle.kmn_names.specs.declared.stating.Stated.{Stated}
+use Rattle.kmn_names.specs.Names.{stated, is_named, kept_name, store_names, is_store_again}
+use Rattle.kmn_names.specs.Names.{store_refusal as name_refusal, store_item_code as name_item_code, store_code as name_code}
+use Rattle.kmn_names.specs.Known.{Known, known, brought, statement_elements}
 use Rattle.item_checker.specs.Items.{is_no_character, is_left_out, is_layout_text, is_system_text, is_other_text, puts_option, wants_characters, wants_plain_keys, brings_no_character, brings_no_plain_key, store_item_code, store_head_code, store_code, store_refusal}
 use Rattle.rule_checker.specs.Refused.{IsRead}
 use Rattle.checker_laws.proofs.Unrefused.{none_both, none_earlier, none_at_line, none_broken, Stands, none_first}

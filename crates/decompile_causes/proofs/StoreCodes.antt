@@ -12,8 +12,8 @@ use Rattle.rule_model.specs.declared.program.SrcItem.{SrcItem}
 use Rattle.rule_model.specs.declared.program.SrcItem.TheVariants as source
 use Rattle.rule_model.specs.declared.program.StoreDef.{StoreDef}
 use Rattle.kmx_format.specs.Versions.{is_version, version_numbers}
-use Rattle.store_table.specs.First.{first_code}
-use Rattle.store_table.specs.Known.{Known, brought, statement_elements}
+use Rattle.kmn_names.specs.First.{first_code}
+use Rattle.kmn_names.specs.Known.{Known, brought, statement_elements}
 use Rattle.item_checker.specs.Items.{is_option, is_no_character, is_left_out, is_layout_text, is_system_text, is_other_text, puts_option, wants_characters, wants_plain_keys, brings_no_character, brings_no_plain_key, store_item_code, store_head_code, store_code}
 use Rattle.decompile_laws.specs.Items.{Names, back_element}
 use Rattle.decompile_laws.specs.Names.{written_ids}

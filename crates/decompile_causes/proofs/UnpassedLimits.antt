@@ -14,8 +14,8 @@ use Rattle.kmn_base.specs.Names.{same_name}
 use Rattle.rule_model.specs.declared.program.GroupDef.{GroupDef}
 use Rattle.rule_model.specs.Tab.{distinct_onto}
 use Rattle.rule_model.specs.Naming.{mark_names, key_names}
-use Rattle.store_table.specs.First.{broken, first_of}
-use Rattle.store_table.specs.Known.{Known}
+use Rattle.kmn_names.specs.First.{broken, first_of}
+use Rattle.kmn_names.specs.Known.{Known}
 use Rattle.limit_checker.specs.Limits.{Statement, line_of, items_of, values_of_statement, records_of_statement, statement_size, names_size, dictionary_size, sizes, mark_count, all_records, is_long_context, is_long_output, have_many_elements, are_many_stores, have_many_marks, have_many_records, are_many_groups, limit_code, statement_refusal, group_refusal}
 use Rattle.limit_checker.proofs.FirstPassed.{sum_append}
 use Rattle.limit_checker.proofs.Gathered.{distinct_append}

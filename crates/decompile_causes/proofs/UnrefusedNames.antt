@@ -17,9 +17,9 @@ use Rattle.rule_model.specs.declared.tables.Tables.{Tables}
 use Rattle.rule_model.specs.Tab.{tab_dictionary}
 use Rattle.kmx_format.specs.TablesOf.{tables_of}
 use Rattle.kmx_format.specs.Playable.{IsPlayable}
-use Rattle.store_table.specs.declared.stating.Stated.{Stated}
-use Rattle.store_table.specs.First.{broken, first_code, first_of}
-use Rattle.store_table.specs.Names.{is_named, kept_name, store_names, group_names, stated, is_begun, begins_no_group, is_store_again, begin_code, begin_refusal, store_item_code, store_code, store_refusal, group_refusal, names_refusal}
+use Rattle.kmn_names.specs.declared.stating.Stated.{Stated}
+use Rattle.kmn_names.specs.First.{broken, first_code, first_of}
+use Rattle.kmn_names.specs.Names.{is_named, kept_name, store_names, group_names, stated, is_begun, begins_no_group, is_store_again, begin_code, begin_refusal, store_item_code, store_code, store_refusal, group_refusal, names_refusal}
 use Rattle.decompile_laws.specs.Names.{named_stores, free_names}
 use Rattle.decompile_laws.specs.Marks.{greatest_mark}
 use Rattle.decompile_laws.specs.Items.{Names, store_called, group_called}

@@ -26,8 +26,8 @@ use Rattle.rule_model.specs.declared.tables.Tables.{Tables}
 use Rattle.kmx_format.specs.Writable.{is_any, is_matched, PointsTo, PointsBack, PointsInto, needs_context, IsWritableKey, IsWritableRule}
 use Rattle.kmx_format.specs.TablesOf.{tables_of}
 use Rattle.kmx_format.specs.Playable.{IsPlayable, IsPlayableGroup}
-use Rattle.store_table.specs.First.{or_else, broken, first_code, at_line, earlier, first_of}
-use Rattle.store_table.specs.Known.{Known, known}
+use Rattle.kmn_names.specs.First.{or_else, broken, first_code, at_line, earlier, first_of}
+use Rattle.kmn_names.specs.Known.{Known, known}
 use Rattle.item_checker.specs.Items.{is_pattern_item, is_any_item, passes, points_to, is_key_place, misses_pattern, misses_any, is_far, index_code, context_at_code, context_item_code, context_code, key_code, key_index_code, rule_output_code, match_output_code, rule_code, rule_refusal, rules_refusal}
 use Rattle.decompile_laws.specs.Items.{Names, store_called, back_pattern, back_output, back_key, some_items}
 use Rattle.decompile_laws.specs.Back.{back_rule, back_rules, back_statement, match_line, nomatch_line, back_group, back_groups, names_for, written_stores, written_begins, back}

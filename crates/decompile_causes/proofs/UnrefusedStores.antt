@@ -13,8 +13,8 @@ use Rattle.rule_model.specs.Tab.{tab_dictionary, tab_options}
 use Rattle.kmx_format.specs.TablesOf.{tables_of}
 use Rattle.kmx_format.specs.Playable.{IsPlayable}
 use Rattle.kmn_text.specs.Spelled.{IsStoreName}
-use Rattle.store_table.specs.First.{first_of}
-use Rattle.store_table.specs.Known.{Known, known}
+use Rattle.kmn_names.specs.First.{first_of}
+use Rattle.kmn_names.specs.Known.{Known, known}
 use Rattle.item_checker.specs.Items.{is_option, is_no_character, store_code, store_refusal, items_refusal}
 use Rattle.decompile_laws.specs.Names.{named_stores, written_ids}
 use Rattle.decompile_laws.specs.Marks.{greatest_mark}

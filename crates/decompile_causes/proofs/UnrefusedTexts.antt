@@ -2,7 +2,7 @@
 use Rattle.std.proofs.Common.{◌≡◌, ℕ, List, None, refl}
 use Rattle.rule_model.specs.declared.program.Program.{Program}
 use Rattle.rule_model.specs.declared.tables.Tables.{Tables}
-use Rattle.store_table.specs.Names.{names_refusal}
+use Rattle.kmn_names.specs.Names.{names_refusal}
 use Rattle.item_checker.specs.Items.{items_refusal}
 use Rattle.limit_checker.specs.Limits.{limits_refusal}
 use Rattle.rule_checker.specs.Refused.{start_refusal, refused}

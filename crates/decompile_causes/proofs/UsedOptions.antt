@@ -16,8 +16,8 @@ use Rattle.rule_model.specs.declared.tables.Store.{Store}
 use Rattle.rule_model.specs.Naming.{stores_of, rule_items, all_rules}
 use Rattle.rule_model.specs.Src.{pattern_uses, output_uses, rule_uses, group_uses, numbers_named, src_options, is_plain, is_on_match, is_on_nomatch}
 use Rattle.virtual_keys.proofs.NamePlaces.{position_cons}
-use Rattle.store_table.specs.Names.{is_named}
-use Rattle.store_table.specs.Known.{known, option_named, rule_options}
+use Rattle.kmn_names.specs.Names.{is_named}
+use Rattle.kmn_names.specs.Known.{known, option_named, rule_options}
 use Rattle.virtual_keys.proofs.NamePlaces.{some_place}
 use Rattle.item_checker.specs.Items.{is_option}
 use Rattle.kmn_text.specs.Spelled.{IsSpelledName}

@@ -10,9 +10,9 @@ use Rattle.rule_model.specs.declared.tables.Group.{Group}
 use Rattle.rule_model.specs.declared.tables.Tables.{Tables}
 use Rattle.rule_model.specs.Tab.{tab}
 use Rattle.rule_model.specs.Trace.{trace}
-use Rattle.store_table.specs.First.{first_of}
-use Rattle.store_table.specs.Names.{names_refusal}
-use Rattle.store_table.specs.Known.{known}
+use Rattle.kmn_names.specs.First.{first_of}
+use Rattle.kmn_names.specs.Names.{names_refusal}
+use Rattle.kmn_names.specs.Known.{known}
 use Rattle.item_checker.specs.Items.{rules_refusal, items_refusal}
 use Rattle.rule_checker.specs.Refused.{checked}
 use Rattle.kmn_parser.specs.Source.{parsed}

@@ -3,7 +3,7 @@ use Rattle.std.specs.Prelude.{ℕ, ◌+◌, nat_lt, if◌then◌else◌, List, [
 use Rattle.rule_model.specs.declared.tables.Rule.{Rule}
 use Rattle.rule_model.specs.declared.tables.Group.{Group}
 use Rattle.kmx_format.specs.TablesOf.{tables_of}
-use Rattle.store_table.specs.First.{or_else}
+use Rattle.kmn_names.specs.First.{or_else}
 use Rattle.decompile_laws.specs.Back.{back}
 use Rattle.decompile_causes.specs.declared.no_spelling.NoSpelling.{NoSpelling}
 use Rattle.decompile_causes.specs.declared.no_spelling.NoSpelling.TheVariants.{Order, Unspelled}

@@ -12,9 +12,9 @@ use crate::free_names::free_names;
 use crate::naming::{group_names, store_names};
 use indexed_tables::IndexedTables;
 use kmn_base::{Memory, Text};
+use kmn_names::NameTable;
 use rule_model::{Group, Store, Tables};
 use std::alloc::Global;
-use store_table::NameTable;
 
 /// The names of stores.
 fn names_of_stores(alloc: Global, stores: &[Store]) -> Result<NameTable, Memory>

@@ -5,8 +5,8 @@ ghost use Rattle.decompile_laws.specs.Names.{numbered_name, is_free, free_names}
 ghost use Rattle.decompile_names.specs.Free.{one_if_free};
 
 use kmn_base::{Memory, Text};
+use kmn_names::NameTable;
 use std::alloc::Global;
-use store_table::NameTable;
 
 /// A letter with a number.
 fn numbered_name(alloc: Global, letter: &[u8], number: usize) -> Result<Text, Memory>
@@ -19,7 +19,7 @@ fn numbered_name(alloc: Global, letter: &[u8], number: usize) -> Result<Text, Me
 }
 
 /// Whether a name is the same as none of these.
-#[tactic(auto, using(virtual_keys::proofs::NamePlaces::some_place), unfolding(store_table::specs::Names::is_named))]
+#[tactic(auto, using(virtual_keys::proofs::NamePlaces::some_place), unfolding(kmn_names::specs::Names::is_named))]
 fn is_free(taken: &NameTable, name: &[u8]) -> bool
     ensures { result ≡ is_free taken.now name.now }
 {

@@ -1,7 +1,7 @@
 //! What a compiled file's text calls the stores, groups and keys of its tables: by their own names where a source can
 //! have these, else by the next free ones.
 //!
-//! It stands on `indexed_tables`, where it looks stores and keys up, on `store_table`, whose `NameTable` tells which
+//! It stands on `indexed_tables`, where it looks stores and keys up, on `kmn_names`, whose `NameTable` tells which
 //! names were met, and on `decompile_laws`, whose `names_for` says which names a text has. The layer above calls
 //! `free_stores` for the free names, of which the first may be those of stores of its own, and then `called_by`: it lends
 //! the names one by one (`Called`). `greatest_mark` and `own_keys` tell what such stores have. The other functions answer

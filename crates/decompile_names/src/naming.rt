@@ -10,10 +10,10 @@ ghost use Rattle.indexed_tables.specs.OptionFlags.{with_flags};
 use crate::source_names::is_source_name;
 use crate::used::named_flags;
 use kmn_base::{Memory, Text};
+use kmn_names::NameTable;
 use rule_model::system::{BITMAP, MNEMONIC_LAYOUT};
 use rule_model::{Group, Store, Tables};
 use std::alloc::Global;
-use store_table::NameTable;
 
 /// Whether a name is that of a system store.
 fn is_system_name(name: &[u8]) -> bool
@@ -26,7 +26,7 @@ fn is_system_name(name: &[u8]) -> bool
 }
 
 /// Whether a name can be kept behind these.
-#[tactic(auto, using(virtual_keys::proofs::NamePlaces::some_place), unfolding(store_table::specs::Names::is_named))]
+#[tactic(auto, using(virtual_keys::proofs::NamePlaces::some_place), unfolding(kmn_names::specs::Names::is_named))]
 fn keeps_name(earlier: &NameTable, name: &[u8]) -> bool
     ensures { result ≡ keeps_name earlier.now name.now }
 {

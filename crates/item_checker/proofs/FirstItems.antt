@@ -2,8 +2,8 @@
 use Rattle.std.proofs.Common.{◌≡◌, ℕ, ◌+◌, ◌<◌, List, ◌∷◌, take, drop, length, get_or, sym, ap, ◌∙◌}
 use Rattle.std.proofs.lemmas.List.{drop_more}
 use Rattle.rule_model.specs.declared.program.SrcItem.{SrcItem}
-use Rattle.store_table.specs.First.{or_else}
-use Rattle.store_table.proofs.Firsts.{take_next}
+use Rattle.kmn_names.specs.First.{or_else}
+use Rattle.kmn_names.proofs.Firsts.{take_next}
 use Rattle.item_checker.specs.Items.{context_code, context_item_code}
 
 -- a context with one item more

@@ -24,7 +24,7 @@ use Rattle.item_checker.proofs.FoundKeys.{other_key, stores_found}
 use Rattle.item_checker.specs.declared.summaries.Summary.{Summary}
 use Rattle.item_checker.specs.declared.summaries.Summaries.{Summaries}
 use Rattle.item_checker.specs.declared.summaries.TheConstants.{FRONT_CHARACTERS}
-use Rattle.store_table.specs.Known.{known, rule_options}
+use Rattle.kmn_names.specs.Known.{known, rule_options}
 use Rattle.item_checker.specs.Items.{is_key_element, is_no_plain_key}
 use Rattle.item_checker.specs.Summaries.{AreFacts, AreSummaries, are_found_keys, element_characters, found_summary, front_of, is_far_element, is_found_key, is_mark_element, is_other_key, is_nothing, joined, joined_found, no_summaries, summary, summary_at, with_character, with_characters, with_item, with_items, with_store, with_stores}
 

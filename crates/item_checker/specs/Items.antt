@@ -20,9 +20,9 @@ use Rattle.rule_model.specs.Match.{same_value}
 use Rattle.rule_model.specs.Naming.{elements_named}
 use Rattle.rule_model.specs.Src.{value_elements}
 use Rattle.kmx_format.specs.Versions.{file_versions}
-use Rattle.store_table.specs.First.{or_else, broken, first_code, at_line, earlier, first_of}
-use Rattle.store_table.specs.Known.{Known, known, brought, statement_elements}
-use Rattle.store_table.specs.Names.{is_named}
+use Rattle.kmn_names.specs.First.{or_else, broken, first_code, at_line, earlier, first_of}
+use Rattle.kmn_names.specs.Known.{Known, known, brought, statement_elements}
+use Rattle.kmn_names.specs.Names.{is_named}
 use Rattle.rule_model.specs.declared.system.TheConstants.{CASED_KEYS, MNEMONIC_LAYOUT, VERSION, BITMAP, LEFT_OUT}
 use Rattle.virtual_keys.specs.declared.dictionary.TheConstants.{FIRST_OWN_CODE}
 
@@ -38,9 +38,13 @@ abbrev pub is_no_character : Element → Bool
 is_no_character (element.Char c) = false
 is_no_character other = true
 
--- a mark, or a character past U+FFFF: no key is one
+-- a character past U+FFFF, which no key is
+abbrev pub is_far : ℕ → Bool
+is_far c = nat_lt 0xFFFF c
+
+-- a mark, or such a character: no key is one
 abbrev pub is_unfit_key : Element → Bool
-is_unfit_key (element.Char c) = nat_lt 0xFFFF c
+is_unfit_key (element.Char c) = is_far c
 is_unfit_key (element.Mark mark) = true
 is_unfit_key (element.Key flags code) = false
 
@@ -86,11 +90,7 @@ misses_pattern items offset = not (points_to is_pattern_item items offset)
 abbrev pub misses_any : List SrcItem → ℕ → Bool
 misses_any items offset = not (points_to is_any_item items offset)
 
--- C10: a key character is past U+FFFF
-abbrev pub is_far : ℕ → Bool
-is_far c = nat_lt 0xFFFF c
-
--- C10: a key store is empty, has a mark or has such a character
+-- C10: a key store is empty, has a mark or has a character past U+FFFF
 abbrev pub are_unfit_keys : List Element → Bool
 are_unfit_keys [] = true
 are_unfit_keys (e ∷ elements) = list_any is_unfit_key (e ∷ elements)

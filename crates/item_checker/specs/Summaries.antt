@@ -17,8 +17,8 @@ use Rattle.kmx_format.specs.Versions.{file_versions}
 use Rattle.item_checker.specs.declared.summaries.Summary.{Summary}
 use Rattle.item_checker.specs.declared.summaries.Summaries.{Summaries}
 use Rattle.item_checker.specs.declared.summaries.TheConstants.{FRONT_CHARACTERS}
-use Rattle.store_table.specs.Known.{Known}
-use Rattle.item_checker.specs.Items.{is_key_element, is_no_plain_key}
+use Rattle.kmn_names.specs.Known.{Known}
+use Rattle.item_checker.specs.Items.{is_far, is_key_element, is_no_plain_key}
 use Rattle.rule_model.specs.declared.system.TheConstants.{MNEMONIC_LAYOUT, VERSION}
 use Rattle.virtual_keys.specs.declared.dictionary.TheConstants.{FIRST_OWN_CODE}
 
@@ -32,7 +32,7 @@ is_mark_element other = false
 
 -- a character past U+FFFF
 abbrev pub is_far_element : Element → Bool
-is_far_element (element.Char c) = nat_lt 0xFFFF c
+is_far_element (element.Char c) = is_far c
 is_far_element other = false
 
 abbrev pub element_characters : Element → List ℕ
@@ -101,7 +101,7 @@ are_found_keys names items = list_all (is_found_key names) items
 -- a summary with the elements that an item of a store stands for
 abbrev pub with_item : Summaries → Summary → SrcItem → Summary
 with_item stores sum (source.Char c) =
-    record sum { is_empty = false; has_far = sum.has_far || nat_lt 0xFFFF c; has_other = true; front = with_character sum.front c }
+    record sum { is_empty = false; has_far = sum.has_far || is_far c; has_other = true; front = with_character sum.front c }
 with_item stores sum (source.Dead name) = record sum { is_empty = false; has_mark = true; has_other = true }
 with_item stores sum (source.Key key) = record sum { is_empty = false; has_key = true; has_other = sum.has_other || is_other_key key }
 with_item stores sum (source.Outs name) = joined_found sum (found_summary stores name)

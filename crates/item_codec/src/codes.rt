@@ -1,13 +1,13 @@
 //! The item at the front of bytes, or what is wrong with it.
 
 ghost use Rattle.std.specs.Prelude.{◌≡◌, ◌<◌, ◌∷◌, [], ◌++◌, length, Some, IsTrue, MatchResult};
-ghost use Rattle.item_codec.specs.declared.units.TheConstants.{SENTINEL};
+ghost use Rattle.kmn_base.specs.declared.units.TheConstants.{SENTINEL};
 ghost use Rattle.kmn_base.specs.Spelling.{spelling, IsOperand, IsSpellable, unit_bytes, is_high_surrogate, operand_count, operand_fault, end_fault, operands_fault, without_code, code_fault, sentinel_fault, pair_fault, unit_fault, fault_at};
 ghost use Rattle.item_codec.specs.Walk.{StandsFirst};
 
 use crate::item_codes::{self, EQUAL, UNEQUAL};
-use crate::units::{KEY_END, SENTINEL, first_two_units, first_unit};
-use kmn_base::{BadKind, UnitItem};
+use crate::units::{KEY_END, first_two_units, first_unit};
+use kmn_base::{BadKind, SENTINEL, UnitItem};
 
 /// Why the bytes begin with no item, with the unlisted code of `U2`, else 0.
 #[derive(Clone, Copy, Debug, PartialEq, Eq)]

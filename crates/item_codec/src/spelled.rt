@@ -3,8 +3,8 @@ ghost use Rattle.item_codec.specs.declared.units.TheConstants.{MOST_UNITS};
 ghost use Rattle.kmn_base.specs.Spelling.{char_units, spelling, IsSpellable, unit_bytes};
 
 use crate::item_codes;
-use crate::units::{KEY_END, SENTINEL, put_units};
-use kmn_base::{Memory, Seq, UnitItem};
+use crate::units::{KEY_END, put_units};
+use kmn_base::{Memory, SENTINEL, Seq, UnitItem};
 
 /// Appends the units of a character, or nothing for want of memory.
 pub fn put_char(out: &mut Seq<u8>, c: char) -> Result<(), Memory>

@@ -5,8 +5,6 @@ ghost use Rattle.kmn_base.specs.Spelling.{unit_bytes};
 
 use kmn_base::{Memory, Seq};
 
-/// The unit before the code of each item that is no character.
-pub(crate) const SENTINEL: u16 = 0xFFFF;
 /// The last operand of a virtual key.
 pub(crate) const KEY_END: u16 = 0x10;
 

@@ -21,7 +21,7 @@ use Rattle.rule_model.specs.Tab.{tab}
 use Rattle.rule_model.specs.Transcript.{events_of}
 use Rattle.kmn_base.specs.declared.limits.TheConstants.{KEY_NAMES}
 use Rattle.rule_model.specs.Naming.{names_of}
-use Rattle.store_table.specs.Numbering.{lists_of}
+use Rattle.kmn_names.specs.Numbering.{lists_of}
 use Rattle.rule_checker.specs.Refused.{IsRead, checked, refused}
 use Rattle.rule_expand.proofs.AcceptedTables.{has_tables}
 use Rattle.kmn_compiler.specs.Picture.{picture_name}

@@ -3,6 +3,7 @@ use Rattle.std.specs.Prelude.{ℕ, nat_eq, if◌then◌else◌, List, [], ◌∷
 use Rattle.std.specs.Char.Utf16.{surrogate_pair_char}
 use Rattle.kmn_base.specs.declared.units.UnitItem.{UnitItem}
 use Rattle.kmn_base.specs.declared.units.UnitItem.TheVariants.{Char, Any, Index, Context, Nul, Enter, Stop, Beep, Dead, Key, ContextAt, NotAny, Set, Test, Save, Reset, SystemTest, SetSystem}
+use Rattle.kmn_base.specs.declared.units.TheConstants.{SENTINEL}
 use Rattle.kmn_base.specs.Spelling.{is_high_surrogate}
 
 -- an item of one operand, of two, of three, which are the first of the units
@@ -57,6 +58,6 @@ paired_item high (low ∷ units) = Some (Char (surrogate_pair_char high low))
 abbrev pub first_item : List ℕ → Option UnitItem
 first_item [] = None
 first_item (unit ∷ units) =
-    if nat_eq unit 0xFFFF then item_behind_sentinel units
+    if nat_eq unit SENTINEL then item_behind_sentinel units
     else if is_high_surrogate unit then paired_item unit units
     else Some (Char unit)

@@ -4,6 +4,7 @@ use Rattle.std.specs.List.{list_any}
 use Rattle.std.specs.Char.{IsScalar}
 use Rattle.kmn_base.specs.declared.units.UnitItem.{UnitItem}
 use Rattle.kmn_base.specs.declared.units.UnitItem.TheVariants.{Char, Any, Index, Context, Nul, Enter, Stop, Beep, Dead, Key, ContextAt, NotAny, Set, Test, Save, Reset, SystemTest, SetSystem}
+use Rattle.kmn_base.specs.declared.units.TheConstants.{SENTINEL}
 use Rattle.kmn_base.specs.declared.units.BadKind.{BadKind}
 use Rattle.kmn_base.specs.declared.units.BadKind.TheVariants.{U1, U2, U3, U4, U5, U6}
 use Rattle.kmn_base.specs.declared.units.BadUnits.{BadUnits}
@@ -15,23 +16,27 @@ char_units c = if nat_lt c 0x1_0000 then c ∷ [] else (0xD800 + (c - 0x1_0000) 
 -- the units of an item: of a character its own, else the sentinel, the code and the operands
 abbrev pub spelling : UnitItem → List ℕ
 spelling (Char c) = char_units c
-spelling (Any store) = 0xFFFF ∷ 0x01 ∷ store ∷ []
-spelling (Index store offset) = 0xFFFF ∷ 0x02 ∷ store ∷ offset ∷ []
-spelling Context = 0xFFFF ∷ 0x03 ∷ []
-spelling Nul = 0xFFFF ∷ 0x04 ∷ []
-spelling (Enter group) = 0xFFFF ∷ 0x05 ∷ group ∷ []
-spelling Stop = 0xFFFF ∷ 0x06 ∷ []
-spelling Beep = 0xFFFF ∷ 0x07 ∷ []
-spelling (Dead mark) = 0xFFFF ∷ 0x08 ∷ mark ∷ []
-spelling (Key flags code) = 0xFFFF ∷ 0x0A ∷ flags ∷ code ∷ 0x10 ∷ []
-spelling (ContextAt offset) = 0xFFFF ∷ 0x11 ∷ offset ∷ []
-spelling (NotAny store) = 0xFFFF ∷ 0x12 ∷ store ∷ []
-spelling (Set store value) = 0xFFFF ∷ 0x13 ∷ store ∷ value ∷ []
-spelling (Test store comparison value) = 0xFFFF ∷ 0x14 ∷ store ∷ comparison ∷ value ∷ []
-spelling (Save store) = 0xFFFF ∷ 0x15 ∷ store ∷ []
-spelling (Reset store) = 0xFFFF ∷ 0x16 ∷ store ∷ []
-spelling (SystemTest system comparison value) = 0xFFFF ∷ 0x17 ∷ system ∷ comparison ∷ value ∷ []
-spelling (SetSystem system value) = 0xFFFF ∷ 0x18 ∷ system ∷ value ∷ []
+spelling (Any store) = SENTINEL ∷ 0x01 ∷ store ∷ []
+spelling (Index store offset) = SENTINEL ∷ 0x02 ∷ store ∷ offset ∷ []
+spelling Context = SENTINEL ∷ 0x03 ∷ []
+spelling Nul = SENTINEL ∷ 0x04 ∷ []
+spelling (Enter group) = SENTINEL ∷ 0x05 ∷ group ∷ []
+spelling Stop = SENTINEL ∷ 0x06 ∷ []
+spelling Beep = SENTINEL ∷ 0x07 ∷ []
+spelling (Dead mark) = SENTINEL ∷ 0x08 ∷ mark ∷ []
+spelling (Key flags code) = SENTINEL ∷ 0x0A ∷ flags ∷ code ∷ 0x10 ∷ []
+spelling (ContextAt offset) = SENTINEL ∷ 0x11 ∷ offset ∷ []
+spelling (NotAny store) = SENTINEL ∷ 0x12 ∷ store ∷ []
+spelling (Set store value) = SENTINEL ∷ 0x13 ∷ store ∷ value ∷ []
+spelling (Test store comparison value) = SENTINEL ∷ 0x14 ∷ store ∷ comparison ∷ value ∷ []
+spelling (Save store) = SENTINEL ∷ 0x15 ∷ store ∷ []
+spelling (Reset store) = SENTINEL ∷ 0x16 ∷ store ∷ []
+spelling (SystemTest system comparison value) = SENTINEL ∷ 0x17 ∷ system ∷ comparison ∷ value ∷ []
+spelling (SetSystem system value) = SENTINEL ∷ 0x18 ∷ system ∷ value ∷ []
+
+-- whether a code is no character of a keyboard: U+0000 ends a compiled string, and U+FFFF is its sentinel
+abbrev pub is_forbidden : ℕ → Bool
+is_forbidden c = nat_eq c 0 || nat_eq c SENTINEL
 
 -- an operand is a unit that isn't 0, since 0 ends a string
 abbrev pub IsOperand : ℕ → Type 0
@@ -39,7 +44,7 @@ IsOperand n = (0 < n) × (n < 2 ^ 16)
 
 -- the items that have a spelling
 abbrev pub IsSpellable : UnitItem → Type 0
-IsSpellable (Char c) = IsScalar c × (c ≢ 0) × (c ≢ 0xFFFF)
+IsSpellable (Char c) = IsScalar c × (c ≢ 0) × (c ≢ SENTINEL)
 IsSpellable (Any store) = IsOperand store
 IsSpellable (Index store offset) = IsOperand store × IsOperand offset
 IsSpellable Context = Unit {0}
@@ -139,7 +144,7 @@ pair_fault (low ∷ high ∷ bytes) = if is_low_surrogate (low + 256 * high) the
 
 abbrev pub unit_fault : ℕ → List ℕ → Option (BadKind × ℕ)
 unit_fault unit bytes =
-    if nat_eq unit 0xFFFF then sentinel_fault bytes
+    if nat_eq unit SENTINEL then sentinel_fault bytes
     else if nat_eq unit 0 then Some (U3, 0)
     else if is_high_surrogate unit then pair_fault bytes
     else if is_low_surrogate unit then Some (U1, 0)

@@ -31,4 +31,4 @@ pub use keys::{KeyPress, RuleKey, SHIFT_FLAGS};
 pub use memory::Memory;
 pub use refusals::{CompileError, Refusal};
 pub use sequence::{Seq, Text};
-pub use units::{BadKind, BadUnits, UnitItem};
+pub use units::{BadKind, BadUnits, SENTINEL, UnitItem};

@@ -1,14 +1,23 @@
 //! Texts in UTF-8 and their characters.
 
 ghost use Rattle.std.specs.Prelude.{◌≡◌, IfOk, chars};
+ghost use Rattle.kmn_base.specs.Spelling.{is_forbidden};
 ghost use Rattle.kmn_base.specs.Texts.{character_count, decoded};
 
 use crate::memory::Memory;
 use crate::sequence::Seq;
+use crate::units::SENTINEL;
 use std::alloc::Global;
 
 /// More than any character's code.
 pub const NO_CHARACTER: u32 = 0x11_0000;
+
+/// Whether a code is no character of a keyboard: U+0000, which ends a compiled string, or U+FFFF, which is its sentinel.
+pub fn is_forbidden(code: u32) -> bool
+    ensures { result ≡ is_forbidden code }
+{
+    code == 0 || code == u32::from(SENTINEL)
+}
 
 /// How many characters a text has.
 pub fn character_count(text: &[u8]) -> usize

@@ -1,3 +1,6 @@
+/// The unit before the code of each item that is no character.
+pub const SENTINEL: u16 = 0xFFFF;
+
 /// One item of a compiled string. Store and group numbers count from 1 here, as they are spelled; so do offsets.
 #[derive(Clone, Copy, Debug, PartialEq, Eq)]
 pub enum UnitItem {

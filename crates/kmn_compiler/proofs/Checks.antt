@@ -16,7 +16,7 @@ use Rattle.kmx_writer.specs.Excess.{excess}
 use Rattle.compile_laws.specs.Means.{Means}
 use Rattle.compile_laws.specs.Ordered.{compiled_tables}
 use Rattle.kmn_parser.specs.Source.{parsed}
-use Rattle.store_table.specs.First.{or_refusal}
+use Rattle.kmn_names.specs.First.{or_refusal}
 use Rattle.rule_checker.specs.Refused.{IsRead, refused, checked}
 use Rattle.compile_laws.proofs.Ordered.{program_compiles}
 use Rattle.checker_laws.proofs.Named.{well_named}

@@ -1,9 +1,10 @@
 -- The numbers in words: characters in three bases, and offsets.
-use Rattle.std.specs.Prelude.{ℕ, Bool, false, ◌&&◌, ◌||◌, nat_eq, nat_le, if◌then◌else◌, List, [], ◌∷◌, length, drop, Option, Some, None, is_some}
+use Rattle.std.specs.Prelude.{ℕ, Bool, false, ◌&&◌, nat_eq, nat_le, if◌then◌else◌, List, [], ◌∷◌, length, drop, Option, Some, None, is_some}
 use Rattle.std.specs.Char.{is_digit}
 use Rattle.std.specs.Str.{byte}
 use lib.Utf8.{scalar}
 use Rattle.kmn_base.specs.Digits.{are_digits, bounded_value}
+use Rattle.kmn_base.specs.Spelling.{is_forbidden}
 use Rattle.kmn_base.specs.declared.codes.Code.TheVariants.{L02, L04}
 use Rattle.kmn_base.specs.declared.texts.TheConstants.{NO_CHARACTER}
 use Rattle.kmn_items.specs.declared.syntax.Lead.{Lead}
@@ -35,10 +36,10 @@ is_number_word text = is_some (number_base text)
 abbrev pub number_digits : List ℕ → List ℕ
 number_digits text = if begins_digit 10 text then text else drop 1 text
 
--- what a code point is as an item: U+0000 and U+FFFF are no characters of a keyboard
+-- what a code point is as an item
 abbrev pub character_lead : ℕ → Lead
 character_lead c =
-    if nat_eq c 0 || nat_eq c 0xFFFF then lead.Wrong L02
+    if is_forbidden c then lead.Wrong L02
     else (if scalar c then lead.One c else lead.Wrong L04)
 
 -- what digits of a base are as an item

@@ -5,7 +5,7 @@ use crate::syntax::Lead;
 use kmn_base::Code;
 use kmn_base::digits::{are_digits, bounded_value, is_digit};
 use kmn_base::slices::behind;
-use kmn_base::texts::NO_CHARACTER;
+use kmn_base::texts::{NO_CHARACTER, is_forbidden};
 
 /// The largest number of nine digits.
 const LARGEST_OFFSET: u32 = 999_999_999;
@@ -73,7 +73,7 @@ pub(crate) fn number_digits(text: &[u8]) -> &[u8]
 fn character_lead(code: u32) -> Lead
     ensures { result ≡ character_lead code }
 {
-    if code == 0 || code == 0xFFFF {
+    if is_forbidden(code) {
         return Lead::Wrong(Code::L02);
     }
     match char::from_u32(code) {

@@ -5,6 +5,7 @@ use Rattle.kmn_base.specs.declared.codes.Code.{Code}
 use Rattle.kmn_base.specs.declared.codes.Code.TheVariants.{L02, L03, L04}
 use Rattle.kmn_base.specs.declared.refusals.Refusal.{Refusal}
 use Rattle.kmn_base.specs.Bytes.{is_blank, is_quote, hex_digit}
+use Rattle.kmn_base.specs.Spelling.{is_forbidden}
 use Rattle.kmn_lines.specs.Bytes.{first_or_end, or_else}
 use Rattle.kmn_lines.specs.Lines.{parts_in}
 use Rattle.kmn_lines.specs.declared.logical.Logical.{Logical}
@@ -104,7 +105,7 @@ is_scalar n = nat_lt n 0xD800 || (nat_lt 0xDFFF n && nat_lt n 0x11_0000)
 
 -- what is wrong with the number of 4 to 6 hexadecimal digits
 abbrev pub value_fault : ℕ → Option Code
-value_fault n = if (n == 0) || (n == 0xFFFF) then Some L02 else if is_scalar n then None else Some L04
+value_fault n = if is_forbidden n then Some L02 else if is_scalar n then None else Some L04
 
 -- what is wrong with the digits behind U+
 abbrev pub digits_fault : List ℕ → Option Code

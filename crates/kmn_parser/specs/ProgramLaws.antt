@@ -3,6 +3,7 @@ use Rattle.std.specs.Prelude.{◌≡◌, ◌≢◌, ℕ, ◌^◌, ◌<◌, ◌�
 use lib.Utf8.{scalar}
 use Rattle.kmn_base.specs.declared.keys.TheConstants.{SHIFT_FLAGS, VIRTUAL_KEY}
 use Rattle.kmn_base.specs.declared.limits.TheConstants.{SOURCE_NAME_CHARS}
+use Rattle.kmn_base.specs.declared.units.TheConstants.{SENTINEL}
 use Rattle.kmn_lines.specs.Laws.{IsPlain}
 use Rattle.rule_model.specs.declared.program.KeyName.{KeyName}
 use Rattle.rule_model.specs.declared.program.SrcItem.{SrcItem}
@@ -22,7 +23,7 @@ use Rattle.rule_model.specs.declared.system.TheConstants.{LAYER, KEY_DICTIONARY}
 pub record IsCharacter (c : ℕ) : Type 0 where
   pub valid : scalar c ≡ true
   pub not_first : c ≢ 0
-  pub not_last : c ≢ 0xFFFF
+  pub not_last : c ≢ SENTINEL
 
 -- a name: UTF-8 of 1 to 80 such characters
 pub record IsName (name : List ℕ) : Type 0 where

@@ -7,7 +7,7 @@ ghost use Rattle.kmn_tokens.specs.Scanning.{Gives};
 
 use kmn_base::Code;
 use kmn_base::bytes::hex_digit;
-use kmn_base::texts::NO_CHARACTER;
+use kmn_base::texts::{NO_CHARACTER, is_forbidden};
 
 /// The number that digits write, capped past all characters.
 fn hex_value(digits: &[u8]) -> u32
@@ -32,7 +32,7 @@ fn all_digits(digits: &[u8]) -> bool
 fn char_of(value: u32) -> Result<char, Code>
     ensures { Gives (value_fault value) value result }
 {
-    if value == 0 || value == 0xFFFF {
+    if is_forbidden(value) {
         return Err(Code::L02);
     }
     char::from_u32(value).ok_or(Code::L04)

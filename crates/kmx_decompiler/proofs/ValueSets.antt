@@ -6,7 +6,7 @@ use Rattle.indexmap.specs.IndexSet.{insert_key}
 use Rattle.rule_model.specs.declared.tables.Rule.{Rule}
 use Rattle.rule_model.specs.declared.tables.Group.{Group}
 use Rattle.rule_model.specs.Tab.{distinct_onto}
-use Rattle.store_table.proofs.TextSets.{inserted}
+use Rattle.kmn_names.proofs.TextSets.{inserted}
 use Rattle.decompile_laws.specs.Items.{Names, value_called}
 use Rattle.decompile_laws.specs.WrittenOut.{rule_values, group_values}
 use Rattle.kmx_decompiler.specs.Values.{with_values}

@@ -13,9 +13,9 @@ use decompile_names::is_source_name;
 use indexed_tables::{element_text, first_word};
 use kmn_base::{Element, Memory};
 use kmn_items::is_own_key;
+use kmn_names::NameTable;
 use std::alloc::Global;
 use std::str;
-use store_table::NameTable;
 
 #[tactic(auto, using(crate::proofs::DictionaryWords::is_text, crate::proofs::DictionaryWords::is_no_text))]
 fn is_utf8(text: &[u8]) -> bool

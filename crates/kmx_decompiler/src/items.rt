@@ -11,6 +11,7 @@ ghost use Rattle.decompile_laws.specs.WrittenOut.{output_values, pattern_values}
 ghost use Rattle.decompile_causes.specs.Causes.{is_far_mark, is_far_output, is_far_pattern, is_nul, stands_behind_match};
 
 use kmn_base::limits::DEADKEYS;
+use kmn_base::texts::is_forbidden;
 use kmn_base::{Element, SHIFT_FLAGS};
 use rule_model::{Out, Pat};
 
@@ -32,7 +33,7 @@ pub(crate) fn are_shift_flags(flags: u16) -> bool
 pub(crate) fn is_nameable(unit: u16) -> bool
     ensures { result ≡ is_nameable unit }
 {
-    unit != 0 && unit != 0xFFFF && !(0xD800..0xE000).contains(&unit)
+    !is_forbidden(u32::from(unit)) && !(0xD800..0xE000).contains(&unit)
 }
 
 /// Whether an element is no character.

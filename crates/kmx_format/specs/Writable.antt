@@ -7,6 +7,7 @@ use Rattle.kmn_base.specs.declared.limits.TheConstants.{FILE_NAME_UNITS, STORE_E
 use Rattle.kmn_base.specs.declared.items.Element.{Element}
 use Rattle.kmn_base.specs.declared.keys.RuleKey.{RuleKey}
 use Rattle.kmn_base.specs.declared.keys.RuleKey.TheVariants as key
+use Rattle.kmn_base.specs.declared.units.TheConstants.{SENTINEL}
 use Rattle.kmn_base.specs.Spelling.{IsSpellable}
 use Rattle.rule_model.specs.declared.tables.Pat.{Pat}
 use Rattle.rule_model.specs.declared.tables.Pat.TheVariants as pattern
@@ -24,7 +25,7 @@ use Rattle.rule_model.specs.declared.system.TheConstants.{LAYER, NO_GROUP, PLATF
 -- a name is UTF-8 without U+0000 and U+FFFF, and not too long
 pub record IsWritableName (name : List ℕ) : Type 0 where
   pub utf8 : IsUtf8 name
-  pub characters : All (λ c. (c ≢ 0) × (c ≢ 0xFFFF)) (chars name)
+  pub characters : All (λ c. (c ≢ 0) × (c ≢ SENTINEL)) (chars name)
   pub units : length (name_units name) ≤ FILE_NAME_UNITS
 
 -- each element of a store has a spelling, and there aren't too many

@@ -23,9 +23,9 @@ use Rattle.rule_model.specs.declared.program.Program.{Program}
 use Rattle.rule_model.specs.Tab.{distinct_onto}
 use Rattle.rule_model.specs.Naming.{rule_items, is_dropped, all_rules, mark_names, key_names}
 use Rattle.compile_laws.specs.Numbers.{item_values}
-use Rattle.store_table.specs.First.{broken, at_line, earlier, first_of}
-use Rattle.store_table.specs.Known.{Known, known, statement_elements}
-use Rattle.store_table.proofs.Firsts.{earlier_later}
+use Rattle.kmn_names.specs.First.{broken, at_line, earlier, first_of}
+use Rattle.kmn_names.specs.Known.{Known, known, statement_elements}
+use Rattle.kmn_names.proofs.Firsts.{earlier_later}
 use Rattle.limit_checker.specs.declared.counting.StoreCounts.{StoreCounts}
 use Rattle.limit_checker.specs.declared.totals.Totals.{Totals}
 use Rattle.limit_checker.specs.declared.walking.Walk.{Walk}

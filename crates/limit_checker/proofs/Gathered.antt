@@ -12,7 +12,7 @@ use Rattle.rule_model.specs.declared.program.SrcItem.TheVariants as source
 use Rattle.rule_model.specs.Tab.{distinct_onto}
 use Rattle.rule_model.specs.Naming.{mark_names, key_names}
 use Rattle.compile_laws.specs.Numbers.{item_values}
-use Rattle.store_table.specs.Names.{is_named}
+use Rattle.kmn_names.specs.Names.{is_named}
 use Rattle.virtual_keys.proofs.NamePlaces.{with_name_new}
 use Rattle.limit_checker.specs.declared.totals.Totals.{Totals}
 use Rattle.limit_checker.specs.Limits.{names_size}

@@ -22,8 +22,8 @@ use Rattle.rule_model.specs.Tab.{distinct_onto}
 use Rattle.rule_model.specs.Naming.{is_dropped, rule_items, stores_before, stores_after, all_rules, mark_names, key_names, elements_named}
 use Rattle.rule_model.specs.Hold.{is_exchanged}
 use Rattle.compile_laws.specs.Numbers.{item_values}
-use Rattle.store_table.specs.First.{broken, at_line, earlier, first_of}
-use Rattle.store_table.specs.Known.{Known, known, statement_elements}
+use Rattle.kmn_names.specs.First.{broken, at_line, earlier, first_of}
+use Rattle.kmn_names.specs.Known.{Known, known, statement_elements}
 use Rattle.virtual_keys.specs.declared.dictionary.TheConstants.{FIRST_OWN_CODE}
 
 -- a statement that has items

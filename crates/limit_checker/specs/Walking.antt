@@ -13,8 +13,8 @@ use Rattle.rule_model.specs.declared.program.RuleDef.{RuleDef}
 use Rattle.rule_model.specs.declared.program.RuleKind.{RuleKind}
 use Rattle.rule_model.specs.declared.program.RuleKind.TheVariants as kind
 use Rattle.rule_model.specs.Naming.{is_dropped, rule_items}
-use Rattle.store_table.specs.First.{broken, at_line, earlier}
-use Rattle.store_table.specs.Names.{is_named}
+use Rattle.kmn_names.specs.First.{broken, at_line, earlier}
+use Rattle.kmn_names.specs.Names.{is_named}
 use Rattle.limit_checker.specs.declared.counting.StoreCounts.{StoreCounts}
 use Rattle.limit_checker.specs.declared.totals.Totals.{Totals}
 use Rattle.limit_checker.specs.declared.walking.Walk.{Walk}

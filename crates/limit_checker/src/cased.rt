@@ -7,10 +7,10 @@ ghost use Rattle.limit_checker.specs.KeyCodes.{no_codes};
 
 use crate::key_codes::KeyCodes;
 use kmn_base::{Memory, Seq};
+use kmn_names::NameTable;
 use rule_model::system::{CASED_KEYS, DROPPED};
 use rule_model::{SrcItem, StoreDef};
 use std::alloc::Global;
-use store_table::NameTable;
 
 /// The names of stores, with the codes of the keys that each has.
 #[derive(Drop)]

@@ -10,10 +10,10 @@ use crate::key_codes::KeyCodes;
 use kmn_base::keys::{CAPS, NO_CAPS};
 use kmn_base::limits::OUTPUT_ITEMS;
 use kmn_base::{Memory, Seq};
+use kmn_names::NameTable;
 use rule_model::system::DROPPED;
 use rule_model::{KeyName, SrcItem, StoreDef};
 use std::alloc::Global;
-use store_table::NameTable;
 
 /// The codes of the cased keys, and the names of stores with how many elements each has, and how many records a rule with its
 /// key from there; a count stays at the end of its type.

@@ -1,8 +1,8 @@
 //! The first limit that a program passes: C16 to C22.
 
 ghost use Rattle.std.specs.Prelude.{◌≡◌, List, [], length, IfOk};
-ghost use Rattle.store_table.specs.First.{first_of};
-ghost use Rattle.store_table.specs.Known.{known};
+ghost use Rattle.kmn_names.specs.First.{first_of};
+ghost use Rattle.kmn_names.specs.Known.{known};
 ghost use Rattle.rule_model.specs.declared.program.GroupDef.{GroupDef};
 ghost use Rattle.rule_model.specs.Naming.{all_rules};
 ghost use Rattle.limit_checker.specs.Limits.{group_refusal, in_line_order, limits_refusal, statement_refusal};
@@ -12,9 +12,9 @@ use crate::counting::count_stores;
 use crate::walking::first_passed;
 use kmn_base::limits::GROUPS;
 use kmn_base::{Code, Memory, Refusal};
+use kmn_names::{at_line, earlier};
 use rule_model::{GroupDef, Program};
 use std::alloc::Global;
-use store_table::{at_line, earlier};
 
 /// C16 to C19, C21 and C22.
 #[tactic(auto, using(crate::proofs::FirstPassed::first_passed))]
@@ -39,7 +39,7 @@ fn group_refusal(before: usize, group: &GroupDef) -> Option<Refusal>
 }
 
 /// C20.
-#[tactic(auto, using(store_table::proofs::Firsts::first_kept))]
+#[tactic(auto, using(kmn_names::proofs::Firsts::first_kept))]
 fn groups_refusal(groups: &[GroupDef]) -> Option<Refusal>
     ensures { result ≡ first_of group_refusal [] groups.now }
 {

@@ -11,10 +11,10 @@ use crate::spelled::character_count;
 use crate::values::ValueTable;
 use kmn_base::limits::{ALL_ELEMENTS, DEADKEYS, RECORDS, STORE_ELEMENTS, STORES};
 use kmn_base::{Code, Memory};
+use kmn_names::NameTable;
 use rule_model::system::DROPPED;
 use rule_model::{RuleDef, RuleKind, SrcItem, StoreDef};
 use std::alloc::Global;
-use store_table::NameTable;
 
 /// What was counted up to a statement; each number stays at the end of its type.
 #[derive(Drop)]
@@ -73,7 +73,7 @@ impl Totals {
 }
 
 /// Counts a deadkey where its name is new.
-#[tactic(auto, unfolding(store_table::specs::Names::is_named))]
+#[tactic(auto, unfolding(kmn_names::specs::Names::is_named))]
 fn add_mark(totals: &mut Totals, name: &[u8]) -> Result<(), Memory>
     ensures { OnOk result (totals.new ≡ with_mark totals.old name.now) }
 {

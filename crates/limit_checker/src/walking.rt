@@ -11,9 +11,9 @@ use crate::counting::{StoreCounts, is_long_output};
 use crate::totals::{Totals, add_rule, add_store, totals_code};
 use kmn_base::limits::CONTEXT_ITEMS;
 use kmn_base::{Memory, Refusal};
+use kmn_names::{at_line, earlier, parted_by_line};
 use rule_model::{GroupDef, Program, RuleDef, StoreDef};
 use std::alloc::Global;
-use store_table::{at_line, earlier, parted_by_line};
 
 /// What was counted up to a statement, and the first refusal so far.
 #[derive(Drop)]

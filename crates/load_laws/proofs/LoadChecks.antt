@@ -12,10 +12,10 @@ use Rattle.rule_model.specs.declared.program.RuleDef.{RuleDef}
 use Rattle.kmn_parser.specs.Source.{parsed}
 use Rattle.kmn_text.specs.Programs.{program_text}
 use Rattle.kmn_text.proofs.Programs.{programs_read_back}
-use Rattle.store_table.specs.First.{at_line, earlier, first_of, or_else, or_refusal}
-use Rattle.store_table.specs.Names.{is_named, names_refusal, rule_refusal, stated}
-use Rattle.store_table.specs.declared.stating.Stated.{Stated}
-use Rattle.store_table.specs.Known.{Known, known}
+use Rattle.kmn_names.specs.First.{at_line, earlier, first_of, or_else, or_refusal}
+use Rattle.kmn_names.specs.Names.{is_named, names_refusal, rule_refusal, stated}
+use Rattle.kmn_names.specs.declared.stating.Stated.{Stated}
+use Rattle.kmn_names.specs.Known.{Known, known}
 use Rattle.limit_checker.specs.Counting.{capped, no_counts, virtual_count_of}
 use Rattle.limit_checker.specs.KeyCodes.{no_codes}
 use Rattle.item_checker.specs.Items.{items_refusal, rule_refusal as items_rule_refusal}

@@ -2,9 +2,9 @@
 use Rattle.std.proofs.Common.{◌≡◌, Option, None, Some, Ok, refl, ◌∙◌, arith}
 use Rattle.kmn_base.specs.declared.refusals.Refusal.{Refusal}
 use Rattle.rule_model.specs.declared.program.Program.{Program}
-use Rattle.store_table.specs.First.{or_else, or_refusal}
-use Rattle.store_table.specs.Names.{names_refusal}
-use Rattle.store_table.specs.Numbering.{NameLists, lists_of, numbered}
+use Rattle.kmn_names.specs.First.{or_else, or_refusal}
+use Rattle.kmn_names.specs.Names.{names_refusal}
+use Rattle.kmn_names.specs.Numbering.{NameLists, lists_of, numbered}
 use Rattle.item_checker.specs.Items.{items_refusal}
 use Rattle.limit_checker.specs.Limits.{limits_refusal}
 use Rattle.rule_checker.specs.Refused.{refused, start_refusal}

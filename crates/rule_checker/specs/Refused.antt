@@ -9,9 +9,9 @@ use Rattle.rule_model.specs.Src.{is_unicode}
 use Rattle.kmn_parser.specs.Source.{parsed}
 use Rattle.kmn_parser.specs.ProgramLaws.{IsReadProgram}
 use Rattle.kmn_parser.specs.SourceLaws.{IsInOrder}
-use Rattle.store_table.specs.First.{or_else, broken, at_line, or_refusal}
-use Rattle.store_table.specs.Names.{names_refusal}
-use Rattle.store_table.specs.Numbering.{NameLists, lists_of}
+use Rattle.kmn_names.specs.First.{or_else, broken, at_line, or_refusal}
+use Rattle.kmn_names.specs.Names.{names_refusal}
+use Rattle.kmn_names.specs.Numbering.{NameLists, lists_of}
 use Rattle.item_checker.specs.Items.{items_refusal}
 use Rattle.limit_checker.specs.Limits.{limits_refusal}
 

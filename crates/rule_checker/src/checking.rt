@@ -2,19 +2,19 @@ ghost use Rattle.std.specs.Prelude.{◌≡◌, None, IfOk};
 ghost use Rattle.std.specs.List.{list_any};
 ghost use Rattle.kmn_base.specs.Answers.{Answers};
 ghost use Rattle.rule_model.specs.Src.{is_unicode};
-ghost use Rattle.store_table.specs.First.{or_else, or_refusal};
-ghost use Rattle.store_table.specs.Numbering.{lists_of};
+ghost use Rattle.kmn_names.specs.First.{or_else, or_refusal};
+ghost use Rattle.kmn_names.specs.Numbering.{lists_of};
 ghost use Rattle.item_checker.specs.Items.{items_refusal};
 ghost use Rattle.limit_checker.specs.Limits.{limits_refusal};
 ghost use Rattle.rule_checker.specs.Refused.{IsRead, refused, start_refusal};
 
 use item_checker::items_refusal;
 use kmn_base::{Code, CompileError, Memory, Refusal};
+use kmn_names::{ProgramNames, number};
 use limit_checker::limits_refusal;
 use rule_model::{BeginDef, Program};
 use std::alloc::Global;
 use std::marker::Model;
-use store_table::{ProgramNames, number};
 
 /// A program that was read and isn't refused, with its names. Contracts see it as the program.
 #[derive(Drop)]

@@ -9,7 +9,7 @@ use Rattle.rule_model.specs.Keyboard.{Numbered, StoreMeaning}
 use Rattle.rule_model.specs.Plain.{option_names, option_numbers}
 use Rattle.rule_model.specs.Tab.{tab}
 use Rattle.rule_model.specs.Trace.{options_of}
-use Rattle.rule_model.proofs.PlainOptions.{length-option_numbers, number_found, position-fails, position-passes, same_number}
+use Rattle.rule_model.proofs.PlainOptions.{length-option_numbers, named_here, number_found, same_number}
 use Rattle.rule_engine.specs.Engine.{name_in, name_of}
 use Rattle.rule_engine.proofs.Engines.{number_there}
 
@@ -21,23 +21,10 @@ named_in name (number ∷ numbers) (store ∷ stores) = if is_some number && has
 
 -- it is the place of the first option of that name
 module _ (name : List ℕ) where
-  one_more : (k : ℕ) (option : Option ℕ) → option_map (λ i. k + 1 + i) option ≡ option_map (λ i. k + i) (option_map (λ i. 1 + i) option)
-  one_more k None = refl
-  one_more k (Some i) = let same : k + 1 + i ≡ k + (1 + i) = omega arith in ap Some same
-
-  option_here : (k : ℕ) (other : List ℕ) (others : List (List ℕ)) (passes : Bool) (rest : Option ℕ) → has_name name other ≡ passes
-      → rest ≡ option_map (λ i. k + 1 + i) (position (has_name name) others)
-      → (if passes then Some k else rest) ≡ option_map (λ i. k + i) (position (has_name name) (other ∷ others))
-  option_here k other others true rest here behind =
-      let same : k ≡ k + 0 = omega arith in
-      ap Some same ∙ sym (ap (option_map (λ i. k + i)) (position-passes (has_name name) other others here))
-  option_here k other others false rest here behind =
-      behind ∙ (one_more k (position (has_name name) others) ∙ sym (ap (option_map (λ i. k + i)) (position-fails (has_name name) other others here)))
-
   named_place : (k : ℕ) (stores : List StoreMeaning) → named_in name (option_numbers k stores) stores ≡ option_map (λ i. k + i) (position (has_name name) (option_names stores))
   named_place k [] = refl
   named_place k (s ∷ ss) = by s.is_option
-      (option_here k s.name (option_names ss) (has_name name s.name) (named_in name (option_numbers (k + 1) ss) ss) refl (named_place (k + 1) ss)) (named_place k ss)
+      (named_here (has_name name) k s.name (option_names ss) (has_name name s.name) (named_in name (option_numbers (k + 1) ss) ss) refl (named_place (k + 1) ss)) (named_place k ss)
     where
       by : (b : Bool)
           → (if has_name name s.name then Some k else named_in name (option_numbers (k + 1) ss) ss) ≡ option_map (λ i. k + i) (position (has_name name) (s.name ∷ option_names ss))

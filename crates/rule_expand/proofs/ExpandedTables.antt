@@ -9,7 +9,7 @@ use Rattle.rule_model.specs.declared.tables.Store.{Store}
 use Rattle.rule_model.specs.declared.tables.Tables.{Tables}
 use Rattle.rule_model.specs.Naming.{SourceNames, names_of, stores_of, stores_onto}
 use Rattle.rule_model.specs.Src.{cased_keys}
-use Rattle.store_table.specs.Numbering.{NameLists, lists_of}
+use Rattle.kmn_names.specs.Numbering.{NameLists, lists_of}
 use Rattle.compile_laws.specs.Numbers.{numbers_of, values_of, value_store, dictionary_stores, compiled_stores, version_of}
 use Rattle.compile_laws.specs.WellNamed.{is_word}
 use Rattle.rule_expand.specs.CasedCodes.{cased_codes, HasCodes}

@@ -8,7 +8,7 @@ use Rattle.virtual_keys.specs.Dictionary.{place_in}
 use Rattle.rule_model.specs.declared.tables.Store.{Store}
 use Rattle.rule_model.specs.Naming.{mark_number, elements_named}
 use Rattle.rule_model.specs.Tab.{store_elements}
-use Rattle.store_table.specs.Numbering.{NameLists, below, number_in, mark_in}
+use Rattle.kmn_names.specs.Numbering.{NameLists, below, number_in, mark_in}
 use Rattle.virtual_keys.proofs.NamePlaces.{same_either_way}
 use Rattle.compile_laws.proofs.Places.{first_place}
 use Rattle.virtual_keys.proofs.NamePlaces.{position_cons}

@@ -12,8 +12,8 @@ use Rattle.kmn_base.specs.Texts.{decoded}
 use Rattle.rule_model.specs.declared.program.StoreDef.{StoreDef}
 use Rattle.rule_model.specs.declared.tables.Store.{Store}
 use Rattle.rule_model.specs.Naming.{SourceNames, is_dropped, store_of, stores_onto}
-use Rattle.store_table.specs.Names.{store_names as kept_names}
-use Rattle.store_table.proofs.Naming.{names_onto}
+use Rattle.kmn_names.specs.Names.{store_names as kept_names}
+use Rattle.kmn_names.proofs.Naming.{names_onto}
 use Rattle.rule_model.specs.Src.{value_elements}
 use Rattle.compile_laws.specs.Numbers.{dictionary_stores, value_store}
 use Rattle.compile_laws.specs.WellNamed.{is_word}

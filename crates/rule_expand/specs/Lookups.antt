@@ -6,7 +6,7 @@ use Rattle.kmn_base.specs.Names.{same_name}
 use Rattle.rule_model.specs.declared.tables.Store.{Store}
 use Rattle.rule_model.specs.Naming.{SourceNames}
 use Rattle.rule_model.specs.Tab.{elements_of}
-use Rattle.store_table.specs.Numbering.{NameLists}
+use Rattle.kmn_names.specs.Numbering.{NameLists}
 use Rattle.compile_laws.specs.Numbers.{Numbers}
 use Rattle.rule_expand.specs.CasedCodes.{HasCodes}
 

@@ -4,7 +4,7 @@ ghost use Rattle.std.specs.Prelude.{◌≡◌, true, find, IfOk, OnOk};
 ghost use Rattle.std.specs.List.{list_all};
 ghost use Rattle.rule_model.specs.Naming.{stores_of};
 ghost use Rattle.rule_model.specs.Src.{is_unicode};
-ghost use Rattle.store_table.specs.Numbering.{lists_of};
+ghost use Rattle.kmn_names.specs.Numbering.{lists_of};
 ghost use Rattle.compile_laws.specs.Numbers.{numbers_of, number_of_start, version_of, values_of, compiled_stores};
 ghost use Rattle.compile_laws.specs.Compiles.{is_ansi};
 ghost use Rattle.rule_expand.specs.Groups.{have_unit_keys};
@@ -19,11 +19,11 @@ use crate::values::{Values, values_of};
 use crate::versions::version_of;
 use indexmap::IndexSet;
 use kmn_base::{Memory, Seq};
+use kmn_names::ProgramNames;
 use rule_checker::Checked;
 use rule_model::system::NO_GROUP;
 use rule_model::{BeginDef, Program, Store, Tables};
 use std::alloc::Global;
-use store_table::ProgramNames;
 
 /// The number of the group that `begin Unicode` names.
 fn unicode_start(numbers: &Lookups<'_>, begins: &[BeginDef]) -> u32

@@ -7,7 +7,7 @@
 ghost use Rattle.std.specs.Prelude.{◌≡◌, nat_eq};
 ghost use Rattle.std.specs.List.{list_any};
 ghost use Rattle.rule_model.specs.Naming.{mark_number, key_number, elements_named};
-ghost use Rattle.store_table.specs.Numbering.{number_in};
+ghost use Rattle.kmn_names.specs.Numbering.{number_in};
 ghost use Rattle.compile_laws.specs.Numbers.{number_of_store, number_of_group, number_of_value};
 ghost use Rattle.rule_expand.specs.CasedCodes.{cased_codes};
 ghost use Rattle.rule_expand.specs.Lookups.{source_names, AreFew, BeginWith, AreNumbers, place_of_store, elements_at};
@@ -15,9 +15,9 @@ ghost use Rattle.rule_expand.specs.Lookups.{source_names, AreFew, BeginWith, Are
 use crate::values::Values;
 use indexmap::IndexSet;
 use kmn_base::Element;
+use kmn_names::ProgramNames;
 use rule_model::{KeyName, Store};
 use std::marker::Model;
-use store_table::ProgramNames;
 
 /// The number of a deadkey's mark, 1 for a name that has none.
 #[tactic(auto, using(crate::proofs::NumberLaws::mark_found))]

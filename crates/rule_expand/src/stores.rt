@@ -13,10 +13,10 @@ use crate::values::Values;
 use kmn_base::limits::KEY_NAMES;
 use kmn_base::texts::decoded;
 use kmn_base::{Element, Memory, Seq};
+use kmn_names::ProgramNames;
 use rule_model::system::{DROPPED, KEY_DICTIONARY};
 use rule_model::{SrcItem, Store, StoreDef};
 use std::alloc::Global;
-use store_table::ProgramNames;
 use virtual_keys::{FIRST_OWN_CODE, KeyDictionary};
 
 /// Appends the elements that an item of a store statement stands for, behind these stores.

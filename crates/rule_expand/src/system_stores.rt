@@ -3,18 +3,18 @@
 ghost use Rattle.std.specs.Prelude.{◌≡◌, [], position, find, IfOk};
 ghost use Rattle.rule_model.specs.Naming.{store_of, stores_of, stores_onto};
 ghost use Rattle.rule_model.specs.Tab.{store_elements};
-ghost use Rattle.store_table.specs.Numbering.{lists_of};
+ghost use Rattle.kmn_names.specs.Numbering.{lists_of};
 ghost use Rattle.rule_expand.specs.Expanded.{HasTables};
 ghost use Rattle.rule_expand.specs.Lookups.{source_names, AreFew, BeginWith};
 ghost use Rattle.rule_expand.specs.Stated.{is_of, states};
 
 use crate::stores::{statement_stores, store_of};
 use kmn_base::{Element, Memory, Seq};
+use kmn_names::ProgramNames;
 use rule_checker::Checked;
 use rule_model::system::DROPPED;
 use rule_model::{Program, StoreDef};
 use std::alloc::Global;
-use store_table::ProgramNames;
 
 /// The place of the first statement whose store has a system id.
 fn system_place(stores: &[StoreDef], system: u32) -> Option<usize>

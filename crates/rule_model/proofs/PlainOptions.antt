@@ -69,7 +69,7 @@ shifted : (k : ℕ) (o : Option ℕ) → option_map (λ i. k + 1 + i) o ≡ opti
 shifted k None = refl
 shifted k (Some x) = let q : k + 1 + x ≡ k + (1 + x) = omega arith in ap Some q
 
-named_here : (p : List ℕ → Bool) (k : ℕ) (name : List ℕ) (names : List (List ℕ)) (passes : Bool) (rest : Option ℕ) → p name ≡ passes
+pub named_here : (p : List ℕ → Bool) (k : ℕ) (name : List ℕ) (names : List (List ℕ)) (passes : Bool) (rest : Option ℕ) → p name ≡ passes
     → rest ≡ option_map (λ i. k + 1 + i) (position p names) → (if passes then Some k else rest) ≡ option_map (λ i. k + i) (position p (name ∷ names))
 named_here p k name names true rest here e =
     let q : k ≡ k + 0 = omega arith in ap Some q ∙ sym (ap (option_map (λ i. k + i)) (position-passes p name names here))

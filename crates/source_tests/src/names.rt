@@ -6,10 +6,10 @@
 
 use crate::fixtures::name_of;
 use kmn_base::{Code, CompileError, Memory, Seq};
+use kmn_names::{ProgramNames, number};
 use rule_model::{BeginDef, GroupDef, KeyName, Program, RuleDef, RuleKind, SrcItem, StoreDef};
 use std::alloc::Global;
 use std::test::Fail;
-use store_table::{ProgramNames, number};
 
 fn item(alloc: Global, word: &str) -> Result<SrcItem, Memory> {
     let (sign, name) = word.split_at_checked(1).unwrap_or(("", ""));

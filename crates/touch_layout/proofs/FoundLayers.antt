@@ -19,8 +19,8 @@ use Rattle.kmn_base.specs.Names.{same_name}
 use Rattle.virtual_keys.specs.Dictionary.{name_in}
 use Rattle.rule_model.specs.declared.tables.Rule.{Rule}
 use Rattle.rule_model.specs.declared.tables.Group.{Group}
-use Rattle.store_table.specs.Names.{is_named}
-use Rattle.store_table.specs.Numbering.{with_marks}
+use Rattle.kmn_names.specs.Names.{is_named}
+use Rattle.kmn_names.specs.Numbering.{with_marks}
 use Rattle.touch_layout.proofs.RecordedNames.{named_once, or_false, or_true}
 use Rattle.touch_layout.specs.declared.layers.TouchLayer.{TouchLayer}
 use Rattle.touch_layout.specs.Faults.{fault, whole_layout}

@@ -10,9 +10,9 @@ use Rattle.kmn_base.specs.Names.{same_name}
 use Rattle.virtual_keys.specs.Dictionary.{with_name}
 use Rattle.rule_model.specs.declared.tables.Rule.{Rule}
 use Rattle.rule_model.specs.declared.tables.Group.{Group}
-use Rattle.store_table.specs.Names.{is_named}
-use Rattle.store_table.specs.Numbering.{with_marks}
-use Rattle.store_table.proofs.ByAppearance.{marks_append}
+use Rattle.kmn_names.specs.Names.{is_named}
+use Rattle.kmn_names.specs.Numbering.{with_marks}
+use Rattle.kmn_names.proofs.ByAppearance.{marks_append}
 use Rattle.virtual_keys.proofs.NamePlaces.{some_place}
 use Rattle.touch_layout.specs.Ids.{recorded_name, rule_names, recorded_names}
 

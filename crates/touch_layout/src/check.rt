@@ -3,7 +3,7 @@
 ghost use Rattle.std.specs.Prelude.{◌≡◌, IfOk, IfErr, Some, None, Ok, option_map, map};
 ghost use Rattle.serde_json.specs.View.{view};
 ghost use Rattle.rule_model.specs.Tab.{tab};
-ghost use Rattle.store_table.specs.Names.{is_named};
+ghost use Rattle.kmn_names.specs.Names.{is_named};
 ghost use Rattle.touch_layout.specs.Ids.{has_record};
 ghost use Rattle.touch_layout.specs.Keys.{key_view, keys_view};
 ghost use Rattle.touch_layout.specs.LayerIds.{layer_of};
@@ -21,11 +21,11 @@ use indexed_tables::IndexedTables;
 use indexmap::IndexSet;
 use kmn_base::limits::TEXT_BYTES;
 use kmn_base::{Code, Memory};
+use kmn_names::NameTable;
 use rule_model::{Group, Tables};
 use serde_json::Value;
 use std::alloc::Global;
 use std::str;
-use store_table::NameTable;
 
 /// Whether an id isn't empty and is one that no key can have.
 fn has_strange_id(key: &TouchKey<'_>) -> bool

@@ -3,17 +3,17 @@
 ghost use Rattle.std.specs.Prelude.{◌≡◌, [], IfOk, OnOk};
 ghost use Rattle.virtual_keys.specs.Dictionary.{with_name};
 ghost use Rattle.rule_model.specs.Tab.{tab};
-ghost use Rattle.store_table.specs.Numbering.{with_marks};
+ghost use Rattle.kmn_names.specs.Numbering.{with_marks};
 ghost use Rattle.touch_layout.specs.Ids.{recorded_name, recorded_names, rule_names};
 
 use indexed_tables::IndexedTables;
 use kmn_base::{Memory, RuleKey};
+use kmn_names::NameTable;
 use rule_model::{Group, Rule};
 use std::alloc::Global;
-use store_table::NameTable;
 
 /// Adds a name where it is new.
-#[tactic(auto, unfolding(store_table::specs::Names::is_named))]
+#[tactic(auto, unfolding(kmn_names::specs::Names::is_named))]
 fn add_new(names: &mut NameTable, name: &[u8]) -> Result<(), Memory>
     ensures { OnOk result (names.new ≡ with_name names.old name.now) }
 {

@@ -6,6 +6,7 @@ use lib.Utf8.{scalar}
 use Rattle.kmn_base.specs.declared.limits.TheConstants.{SOURCE_NAME_CHARS}
 use Rattle.kmn_base.specs.Bytes.{hex_digit}
 use Rattle.kmn_base.specs.Names.{same_name}
+use Rattle.kmn_base.specs.Spelling.{is_forbidden}
 use Rattle.virtual_keys.specs.declared.dictionary.TheConstants.{FIRST_OWN_CODE}
 
 -- whether a byte is a hexadecimal digit
@@ -16,9 +17,9 @@ is_hex_digit byte = is_some (hex_digit byte)
 abbrev pub hex_value : List ℕ → ℕ
 hex_value digits = fold (λ value digit. 16 * value + unwrap_or (hex_digit digit) 0) 0 digits
 
--- a Unicode scalar value other than U+0000 and U+FFFF
+-- a Unicode scalar value that is a character of a keyboard
 abbrev pub is_nameable : ℕ → Bool
-is_nameable c = scalar c && not (nat_eq c 0) && not (nat_eq c 0xFFFF)
+is_nameable c = scalar c && not (is_forbidden c)
 
 -- whether a group of bytes is 4 to 6 hexadecimal digits of a character that a name may have
 abbrev pub is_group : List ℕ → Bool

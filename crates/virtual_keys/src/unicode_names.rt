@@ -7,6 +7,7 @@ use arrayvec::ArrayVec;
 use kmn_base::bytes::hex_digit;
 use kmn_base::limits::SOURCE_NAME_CHARS;
 use kmn_base::names::same_name;
+use kmn_base::texts::is_forbidden;
 
 /// The number that hexadecimal digits write.
 fn hex_value(digits: &[u8]) -> Option<u32>
@@ -24,7 +25,7 @@ fn hex_value(digits: &[u8]) -> Option<u32>
 fn nameable(code: u32) -> Option<char>
     ensures { result ≡ (if is_nameable code then Some code else None) }
 {
-    if code == 0 || code == 0xFFFF {
+    if is_forbidden(code) {
         return None;
     }
     char::from_u32(code)

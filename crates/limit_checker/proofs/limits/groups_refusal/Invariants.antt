@@ -1,5 +1,5 @@
 use Rattle.std.proofs.Common.{◌≡◌, [], take, drop}
-use Rattle.store_table.specs.First.{earlier, first_of}
+use Rattle.kmn_names.specs.First.{earlier, first_of}
 use Rattle.limit_checker.specs.Limits.{group_refusal}
 use Rattle.limit_checker.proofs.limits.groups_refusal.Given as goal
 
