@@ -104,7 +104,7 @@ marks_at_hand text cache h =
     sym (ap (prefix_len is_mark) (reverse-append (map Char front) cache) ∙ prefix_before (reverse cache) (reverse (map Char front)) none)
 
 -- where nothing is at hand after filling, there is nothing
-none_in : (items : List Item) → length items ≡ 0 → items ≡ without_last 1 items
+pub none_in : (items : List Item) → length items ≡ 0 → items ≡ without_last 1 items
 none_in [] e = refl
 none_in (x ∷ items) e = absurd (omega arith)
 

@@ -78,7 +78,7 @@ impl Inserted {
     }
 
     /// The buffer, in which an event puts its characters.
-    pub fn into_buffer(self) -> Vec<char>
+    pub(crate) fn into_buffer(self) -> Vec<char>
         ensures { length result.items ≡ self.room }
     {
         self.buffer

@@ -4,7 +4,8 @@ ghost use Rattle.kmn_base.specs.Lists.{characters, without_last, window, put, re
 ghost use Rattle.rule_model.specs.Enter.{without_end_marks, without_last_character};
 ghost use Rattle.rule_model.specs.KeyEvent.{deleted, inserted};
 
-use crate::{Inserted, Standing};
+use crate::Inserted;
+use crate::standing::Standing;
 use context_cache::Cache;
 use kmn_base::Item;
 use std::marker::Model;
@@ -124,6 +125,7 @@ impl<'a> Left<'a> {
     #[tactic(auto, using(crate::proofs::Lefts::marks_at_hand))]
     fn take_marks(&mut self)
         ensures items { self.new.items ≡ without_end_marks self.old.items }
+        ensures cache { self.new.cache ≡ without_end_marks self.old.cache }
         ensures lent { self.new.lent ≡ self.old.lent }
         ensures put { self.new.put ≡ self.old.put }
     {
@@ -132,9 +134,10 @@ impl<'a> Left<'a> {
     }
 
     /// Takes the last item, if there is one.
-    #[tactic(auto, using(crate::proofs::Lefts::none_left))]
+    #[tactic(auto, using(crate::proofs::Lefts::none_left, crate::proofs::Lefts::none_in))]
     fn take_one(&mut self)
         ensures items { self.new.items ≡ without_last 1 self.old.items }
+        ensures cache { self.new.cache ≡ without_last 1 (window self.old.items) }
         ensures lent { self.new.lent ≡ self.old.lent }
         ensures put { self.new.put ≡ self.old.put }
     {
@@ -147,6 +150,7 @@ impl<'a> Left<'a> {
     /// Takes the last character and the marks around it.
     pub fn take_character(&mut self)
         ensures items { self.new.items ≡ without_last_character self.old.items }
+        ensures cache { self.new.cache ≡ without_end_marks (without_last 1 (window (without_end_marks self.old.items))) }
         ensures lent { self.new.lent ≡ self.old.lent }
         ensures put { self.new.put ≡ self.old.put }
     {

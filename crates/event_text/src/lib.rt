@@ -13,4 +13,3 @@ mod standing;
 
 pub use inserted::Inserted;
 pub use left::{Edited, Left};
-pub use standing::Standing;

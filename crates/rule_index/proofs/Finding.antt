@@ -2,7 +2,7 @@
 use Rattle.std.proofs.Common.{◌≢◌, eqb, Some, None, slice_get, Option, ◌≡◌, ◌<◌, ◌≤◌, ℕ, true, false, List, length, slice_index_or, inl, inr, refl, sym, ◌∙◌, ap, subst, arith}
 use Rattle.std.specs.List.{All, Contains}
 use Rattle.std.specs.List.Sorted.{IsPermutation, IsNonDecreasingBy}
-use Rattle.std.proofs.lemmas.List.Sorted.{All-permutation, Contains-permutation}
+use Rattle.std.proofs.lemmas.List.Sorted.{All-permutation, Contains-permutation, length_permutation}
 use Rattle.std.proofs.lemmas.Bool.{cases_lt, cases_Bool, eqb-true, eq-eqb, cond-true, cond-false}
 use Rattle.std.proofs.lemmas.List.{get_or_default}
 use Rattle.std.proofs.lemmas.Option.{slice_get_cases, slice_get_within, get_or_from_slice_get}
@@ -14,7 +14,7 @@ use Rattle.rule_index.specs.Next.{IsFirstOf, NoneOf, FirstOf}
 -- rows in the order of their numbers, sorted by rank, are the index
 pub index_from : (classes : List ℕ) (before rows : List Row) → length classes ≤ RECORDS → AreNumbered classes before → IsPermutation before rows
     → IsNonDecreasingBy rank rows → IsIndexOf classes rows
-index_from classes before rows few given moved sorted = record { few = few; sorted = sorted; numbers = numbers; right = right; complete = complete }
+index_from classes before rows few given moved sorted = record { few = few; count = sym (length_permutation before rows moved) ∙ given.0; sorted = sorted; numbers = numbers; right = right; complete = complete }
   where
     numbers : All (λ row. row.number < length classes) rows
     numbers = All-permutation (λ row. row.number < length classes) before rows moved (λ k d h. let e = given.1 k d h in omega (arith, e.0, given.0))

@@ -25,9 +25,10 @@ pub record HasRow (classes : List ℕ) (rows : List Row) (n : ℕ) : Type 0 wher
   pub number : (d : Row) → (slice_index_or rows place d).number ≡ n
   pub class : (d : Row) → (slice_index_or rows place d).class ≡ slice_index_or classes n 0
 
--- the rows of all classes, sorted
+-- the rows of all classes, one for each, sorted
 pub record IsIndexOf (classes : List ℕ) (rows : List Row) : Type 0 where
   pub few : length classes ≤ RECORDS
+  pub count : length rows ≡ length classes
   pub sorted : IsNonDecreasingBy rank rows
   pub numbers : All (λ row. row.number < length classes) rows
   pub right : All (λ row. row.class ≡ slice_index_or classes row.number 0) rows
