@@ -14,7 +14,7 @@ use Rattle.rule_index.specs.Next.{IsFirstOf, NoneOf, FirstOf}
 -- rows in the order of their numbers, sorted by rank, are the index
 pub index_from : (classes : List ℕ) (before rows : List Row) → length classes ≤ RECORDS → AreNumbered classes before → IsPermutation before rows
     → IsNonDecreasingBy rank rows → IsIndexOf classes rows
-index_from classes before rows few given moved sorted = record { few = few; count = sym (length_permutation before rows moved) ∙ given.0; sorted = sorted; numbers = numbers; right = right; complete = complete }
+index_from classes before rows few given moved sorted = record { few = few; count = length_permutation before rows moved ∙ given.0; sorted = sorted; numbers = numbers; right = right; complete = complete }
   where
     numbers : All (λ row. row.number < length classes) rows
     numbers = All-permutation (λ row. row.number < length classes) before rows moved (λ k d h. let e = given.1 k d h in omega (arith, e.0, given.0))

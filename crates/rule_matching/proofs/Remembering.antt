@@ -104,6 +104,22 @@ only_this_is_new choice store distance place stores before after within was writ
           ]
     ]
 
+-- what was known of another place stays known
+pub others_stay_remembered : (choice store distance : ℕ) (stores : List StorePlaces) (before after : StorePlaces)
+    → store < length stores → slice_get stores store ≡ Some before
+    → ((d : ℕ) → d ≢ distance → known_of choice (Some after) d ≡ known_of choice (Some before) d)
+    → (s d : ℕ) → (s ≢ store) ⊎ (d ≢ distance) → known_of choice (slice_get (set stores store after) s) d ≡ known_of choice (slice_get stores s) d
+others_stay_remembered choice store distance stores before after within was others s d (inl other) =
+    ap (λ o. known_of choice o d) (others_stay stores store s after other)
+others_stay_remembered choice store distance stores before after within was others s d (inr other) =
+    elim (same_or_other s store) [
+      | inr elsewhere ↦ ap (λ o. known_of choice o d) (others_stay stores store s after elsewhere)
+      | inl here ↦
+          let there : slice_get (set stores store after) s ≡ Some after = ap (slice_get (set stores store after)) here ∙ written_there stores store after within in
+          let was_here : slice_get stores s ≡ Some before = ap (slice_get stores) here ∙ was in
+          ap (λ o. known_of choice o d) there ∙ others d other ∙ sym (ap (λ o. known_of choice o d) was_here)
+    ]
+
 -- that place is known
 pub this_is_known : (choice store distance : ℕ) (stores : List StorePlaces) (after : StorePlaces) → store < length stores
     → known_of choice (slice_get (set stores store after) store) distance ≡ known_of choice (Some after) distance

@@ -145,6 +145,7 @@ impl KnownPlaces {
         ensures only { (s d : ℕ) (p : Option ℕ) → known_place self.new s d ≡ Some p
             → (known_place self.old s d ≡ Some p) ⊎ ((s ≡ store) × (d ≡ distance) × (p ≡ place)) }
         ensures known { store < room self.old → distance < WINDOW_ITEMS → known_place self.new store distance ≡ memorable place }
+        ensures others { (s d : ℕ) → (s ≢ store) ⊎ (d ≢ distance) → known_place self.new s d ≡ known_place self.old s d }
         ensures room { room self.new ≡ room self.old }
     {
         let store = store as usize;

@@ -8,7 +8,7 @@ ghost use Rattle.rule_model.specs.Tab.{tab_pattern, tab_rule};
 ghost use Rattle.kmx_parts.specs.ContextItems.{pattern_of};
 ghost use Rattle.rule_index.specs.Groups.{IsRuleIndexOf};
 ghost use Rattle.rule_matching.specs.Choices.{all_caught, caught_in, content_of, meaning_in, record_in, RemembersFor};
-ghost use Rattle.rule_matching.specs.Matching.{allowed_catches, catch_of, compares_store, is_allowed, item_before, item_meaning, looks_at_store};
+ghost use Rattle.rule_matching.specs.Matching.{allowed_catches, catch_of, compares_store, is_allowed, item_before, item_meaning, looks_at_store, RemembersRight};
 ghost use Rattle.rule_matching.specs.Moment.{content_at, held_record, AreShort};
 ghost use Rattle.rule_matching.specs.PlaceMemory.{rooms};
 
@@ -245,6 +245,7 @@ pub fn first_held<'g>(
         (holds (content_at moment.now) left.now entered.now.press) (map (tab_rule moment.now.tables.stores entered.now.group.now.using_keys) entered.now.group.now.rules) }
     ensures none { result ≡ None → caught.new ≡ caught.old }
     ensures among { IfSome result (λ rule. Contains entered.now.group.now.rules rule) }
+    ensures right { RemembersRight moment.now left.now places.new }
     ensures rooms { rooms places.new ≡ rooms places.old }
 {
     places.forget();
