@@ -1,9 +1,10 @@
 //! Why a compiled file has no text that a source could be, and what holds of the text where it has one.
 //!
-//! `specs/Unspelled` has the definition, over the tables of `kmx_format` and the text of `kmn_text` and
-//! `decompile_laws`: the decompiler's contract is said by it, and `NoSpelling` prints the reason (`specs/Reasons`). `laws`
-//! says that the text of a file is accepted, compiles to a file within the limits and means what the file means, and that
-//! what a source compiles to has a text but for its size; `specs/Written` says what of a program that was read this takes.
+//! It stands on `kmx_format` for the tables of a file, on `decompile_laws` and `kmn_text` for the text of these, and for its laws on the
+//! language, the checker and `compile_laws`. `specs/Unspelled` has the definition. The layers above say the decompiler's contract by
+//! it, print the reason by `NoSpelling` (`specs/Reasons`), and cite `laws`: the text of a file is accepted, compiles to a file within
+//! the limits and means what the file means, and what a source compiles to has a text but for its size; `specs/Written` says what of
+//! a program that was read this takes.
 #![tactic(auto)]
 
 mod laws;

@@ -1,7 +1,7 @@
 //! The program of the exporter: it makes of a compiled file one that Keyman's own engine plays.
 //!
-//! It stands on `export_run`, whose `export_run` reads, exports and writes over a folder and a sink. `main` calls it over the real
-//! files and standard output with the words of the call.
+//! It stands on `program_words` for the words of the call, and on `export_run`, whose `export_run` reads, exports and writes over a
+//! folder and a sink. `main` calls it over the real files and standard output by `run_words`, which promises what it does (`Runs`).
 #![tactic(auto)]
 
 ghost use Rattle.std.specs.Prelude.{◌≡◌, IfErr, IfOk};

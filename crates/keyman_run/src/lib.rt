@@ -3,8 +3,9 @@
 //!
 //! It stands on the compiler, the verifier, the decompiler, the check of touch layouts, `play_transcript`, `play_trace`,
 //! `shadow_text` and `play_host`, on `keyman_words` for the command that words ask for, on `keyman_lines` for the lines that are
-//! printed of reasons and endings, on `keyman_status` for how a run ends, and on `kmn_outside` for the folder and the sink. `specs/Orders` has the order of work of each
-//! command as a value: which file is read first, how it goes on by what came, and how it ends. `specs/Run` says once what a run of
+//! printed of reasons and endings, on `keyman_status` for how a run ends, on `load_maker` and `load_laws` for `load`, and on
+//! `kmn_outside` for the folder and the sink. `specs/Orders` has the order of work of each command
+//! as a value: which file is read first, how it goes on by what came, and how it ends. `specs/Run` says once what a run of
 //! such work asks for, leaves and answers (`Does`); each command's contract is its row. The layer above calls `run`, whose clauses
 //! say the whole by name, and ends with the number of its `Status`.
 #![tactic(auto)]

@@ -1,7 +1,7 @@
 //! The program: it compiles keyboard sources, verifies compiled files, decompiles them and plays key presses on them.
 //!
-//! It stands on `keyman_run`, whose `run` does one command over a folder and a sink. `main` calls it over the real files and
-//! standard output with the words of the call.
+//! It stands on `program_words` for the words of the call, and on `keyman_run`, whose `run` does one command over a folder and a sink.
+//! `main` calls it over the real files and standard output by `run_words`, which promises what `run` does (`Runs`).
 #![tactic(auto)]
 
 ghost use Rattle.std.specs.Prelude.{◌≡◌, IfErr, IfOk};

@@ -2,8 +2,9 @@
 //!
 //! It stands on `rule_checker` for programs that aren't refused, on `kmn_names` for the numbers of names, on
 //! `compile_laws` for the tables that a program compiles to, on `kmx_format` for the versions, on `checker_laws` for the laws
-//! of an accepted program, and on `indexmap` for the values. `specs/Expanded` says what the expanded tables are (`expanded_tables`). The layer above calls
-//! `expand`, and then puts the records in order; for the elements of one system store alone it calls `system_elements`.
+//! of an accepted program, and on `indexmap` for the values. `specs/Expanded` says what the expanded tables are
+//! (`expanded_tables`). The layer above calls `expand`, and then puts the records in order; for the elements of one system store alone
+//! it calls `system_elements`.
 //!
 //! What is looked up is found by hash, and the elements of a store are gathered once. What all records of a rule have in
 //! common is made once (`Template`), and each record takes time in its own length.

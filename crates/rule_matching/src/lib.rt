@@ -3,8 +3,9 @@
 //! It stands on `rule_model`, whose `specs` say when a rule holds, on `kmx_parts`, which lends the file's parts where they
 //! lie, on `rule_index` for what is looked up in the tables, and on `option_store` for the values of options. The layer above
 //! lends a `Moment`, the keyboard with what its stores hold, an `EnteredGroup`, which is a group with its index and the press, the
-//! last items before the caret, and a `PlaceMemory`: `first_held` answers the first record of the group that holds then, and what
-//! it has caught. A moment is seen as a `MomentValue`, and what each store has then is `content_at` of it. It is told for each
+//! last items before the caret, a `PlaceMemory`, and room for what is caught: `first_held` answers the first record of the group that
+//! holds then, and writes there what it has caught (`MatchedItems`).
+//! A moment is seen as a `MomentValue`, and what each store has then is `content_at` of it. It is told for each
 //! store whether the platform has its words (`truths_at`), so that no condition walks over words. The memory knows in which stores
 //! the items before the caret stand, a mark for each store and distance (`specs/StoreMarks`), and the places that were looked for
 //! (`specs/KnownPlaces`). What it knows doesn't matter to the layer above: `first_held` forgets it
