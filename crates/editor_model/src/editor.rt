@@ -1,4 +1,4 @@
-ghost use Rattle.std.specs.Prelude.{◌≡◌, ◌≢◌, ◌+◌, ◌-◌, ◌^◌, ◌≤◌, ◌<◌, [], ◌∷◌, ◌++◌, length, take, drop, Err, OnOk, IfOk};
+ghost use Rattle.std.specs.Prelude.{◌≡◌, ◌≢◌, ◌+◌, ◌-◌, ◌^◌, ◌≤◌, ◌<◌, [], ◌∷◌, ◌++◌, length, take, drop, Err, OnOk, IfOk, IfErr};
 ghost use Rattle.kmn_base.specs.Lists.{without_last};
 ghost use Rattle.rule_model.specs.Event.{edit_refusal, edited_text, moved_caret};
 ghost use Rattle.editor_model.specs.Text.{whole, IsAt, left_after, right_after};
@@ -78,6 +78,8 @@ impl Editor {
         ensures left { self.new.left ≡ self.old.left }
         ensures right { self.new.right ≡ self.old.right }
         ensures room { OnOk result (n ≤ self.new.spare) }
+        ensures kept { self.old.spare ≤ self.new.spare }
+        ensures unchanged { IfErr result (λ _. self.new ≡ self.old) }
     {
         if n <= self.end - self.start {
             return Ok(());
@@ -130,6 +132,7 @@ impl Editor {
         ensures answer { IsAnswerTo (caret_refusal n (length (whole self.old))) result }
         ensures no_memory { result ≢ Err EditError.Memory }
         ensures becomes { Becomes (whole self.old) n self.old self.new result }
+        ensures room { self.new.spare ≡ self.old.spare }
     {
         if n as usize > self.len() {
             return Err(EditError::Place);
@@ -166,6 +169,7 @@ impl Editor {
         ensures answer { IsAnswerTo (edit_refusal from to (length text.now) (length (whole self.old))) result }
         ensures becomes { Becomes (edited_text from to text.now (whole self.old))
             (moved_caret from to (length text.now) (length self.old.left)) self.old self.new result }
+        ensures room { self.old.spare ≤ self.new.spare + length text.now }
     {
         self.try_edit(from, to, text.len())?;
         self.reserve(alloc, text.len())?;
@@ -181,7 +185,8 @@ impl Editor {
         requires ordered { from ≤ to }
         requires within { to ≤ length (whole self.old) }
         requires room { length text.now ≤ self.old.spare }
-        ensures { IsAt (edited_text from to text.now (whole self.old)) (from + length text.now) self.new }
+        ensures at { IsAt (edited_text from to text.now (whole self.old)) (from + length text.now) self.new }
+        ensures room { self.old.spare ≤ self.new.spare + length text.now }
     {
         self.go_to(to as usize);
         self.apply(to - from, text);
