@@ -1,6 +1,6 @@
 //! The lines of a script one by one.
 
-ghost use Rattle.std.specs.Prelude.{◌≡◌, ◌<◌, ◌≤◌, ◌∷◌, length, position, Ok};
+ghost use Rattle.std.specs.Prelude.{◌≡◌, ◌+◌, ◌<◌, ◌≤◌, ◌∷◌, length, take, drop, position, Ok};
 ghost use Rattle.std.specs.List.{position_or_len};
 ghost use Rattle.kmn_base.specs.declared.limits.TheConstants.{TEXT_BYTES};
 ghost use Rattle.play_script.specs.Lines.{text_lines, is_end, end_size, without_mark};
@@ -152,6 +152,8 @@ fn end_size(text: &[u8]) -> usize
 #[tactic(auto, using(crate::proofs::TextLaws::first_steps))]
 pub fn first_line(text: &[u8]) -> (&[u8], &[u8])
     requires { 0 < length text.now }
+    ensures first { result.0.now ≡ take (position_or_len is_end text.now) text.now }
+    ensures rest { result.1.now ≡ drop (position_or_len is_end text.now + end_size (drop (position_or_len is_end text.now) text.now)) text.now }
     ensures parts { text_lines text.now ≡ result.0.now ∷ text_lines result.1.now }
     ensures nearer { length result.1.now < length text.now }
 {
