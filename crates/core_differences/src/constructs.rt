@@ -1,8 +1,8 @@
 //! What a record has that Keyman's own engine does otherwise.
 
-ghost use Rattle.std.specs.Prelude.{◌≡◌, map, sum};
+ghost use Rattle.std.specs.Prelude.{◌≡◌};
 ghost use Rattle.std.specs.List.{list_any};
-ghost use Rattle.core_differences.specs.Constructs.{is_use, is_condition, is_nul, has_offset, puts_by_offset, units_at_most, goes_on_behind_use, is_matched_behind_use, has_late_nul, has_offset_behind_nul, is_always, has_both_sides, is_alt_graph, is_long, has_construct};
+ghost use Rattle.core_differences.specs.Constructs.{is_use, is_condition, is_nul, has_offset, puts_by_offset, units_at_most, goes_on_behind_use, has_late_nul, has_offset_behind_nul, has_both_sides, is_alt_graph, is_long, has_construct};
 
 use crate::construct::Construct;
 use kmn_base::RuleKey;

@@ -1,6 +1,6 @@
 //! Lines, each once, rising.
 
-ghost use Rattle.std.specs.Prelude.{◌≡◌, [], ◌++◌, slice_get, OnOk, IfOk};
+ghost use Rattle.std.specs.Prelude.{◌≡◌, [], slice_get, OnOk, IfOk};
 ghost use Rattle.std.specs.List.{fold};
 ghost use Rattle.std.specs.Ordering.{nat_cmp};
 ghost use Rattle.std.specs.BTreeSet.{insert_key};

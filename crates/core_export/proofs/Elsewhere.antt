@@ -1,5 +1,5 @@
 -- A byte that is in none of the words which are replaced stays, and there are as many.
-use Rattle.std.proofs.Common.{◌≡◌, ℕ, zero, suc, ◌+◌, ◌*◌, ◌<◌, ◌≤◌, Bool, true, false, eqb, List, [], ◌∷◌, length, take, drop, refl, sym, ap, subst, ◌∙◌, inl, inr, arith}
+use Rattle.std.proofs.Common.{◌≡◌, ℕ, zero, suc, ◌+◌, ◌*◌, ◌<◌, ◌≤◌, Bool, true, false, List, [], ◌∷◌, length, take, drop, refl, sym, ap, subst, ◌∙◌, inl, inr, arith}
 use Rattle.std.specs.Prelude.{slice_get, nat_lt, nat_eq, if◌then◌else◌}
 use Rattle.std.proofs.lemmas.Bool.{cases_Bool, eqb-true}
 use Rattle.std.proofs.lemmas.Bool.Decides.{nat_tests}
@@ -9,7 +9,7 @@ use Rattle.kmx_format.specs.TablesOf.{word_at}
 use Rattle.kmx_parts.specs.View.{store_count, group_count}
 use Rattle.core_export.specs.Checksum.{checksum}
 use Rattle.core_export.specs.Words.{with_word}
-use Rattle.core_export.specs.Export.{pointed, pointed_stores, pointed_records, pointed_groups, played_version, summed, replaced, exported, IsInWord, IsInZero, IsInContents, IsInContexts, IsInGroups, IsReplaced, InChecksum, InVersion, InContent, InContext, OnlyReplaced}
+use Rattle.core_export.specs.Export.{pointed, pointed_stores, pointed_records, pointed_groups, played_version, summed, replaced, exported, IsInWord, IsInZero, IsInContents, IsInContexts, IsInGroups, InChecksum, InVersion, InContent, InContext, OnlyReplaced}
 use Rattle.core_export.proofs.Replaced.{length-with_word, before_same, behind_same}
 
 -- ---- as many bytes
