@@ -1,12 +1,8 @@
--- Values element by element, and tests in another order.
+-- Tests in another order.
 use Rattle.std.proofs.Common.{◌≡◌, Bool, true, false, refl}
 use Rattle.std.specs.Prelude.{◌&&◌}
 
 -- of four tests the last may be asked first, and the third before the second
-and_false : (a : Bool) → (a && false) ≡ false
-and_false true = refl
-and_false false = refl
-
 pub asked_first : (a b c d : Bool) → (d && (a && (c && b))) ≡ (a && (b && (c && d)))
 asked_first true true c true = refl
 asked_first true false true true = refl
