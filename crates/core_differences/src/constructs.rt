@@ -16,12 +16,14 @@ use virtual_keys::{has, has_either};
 /// How many units that engine keeps of what stands before the caret.
 const KEPT_UNITS: usize = 63;
 
+/// Whether an item of an output is a `use`.
 fn is_use(output: &Out) -> bool
     ensures { result ≡ is_use output.now }
 {
     matches!(output, Out::Enter(_))
 }
 
+/// Whether an item of a context is a condition.
 fn is_condition(item: &Pat) -> bool
     ensures { result ≡ is_condition item.now }
 {
@@ -31,18 +33,21 @@ fn is_condition(item: &Pat) -> bool
     )
 }
 
+/// Whether an item of a context is `nul`.
 fn is_nul(item: &Pat) -> bool
     ensures { result ≡ is_nul item.now }
 {
     matches!(item, Pat::Nul)
 }
 
+/// Whether an item of a context names another by its offset.
 fn has_offset(item: &Pat) -> bool
     ensures { result ≡ has_offset item.now }
 {
     matches!(item, Pat::Index(_, _) | Pat::ContextAt(_))
 }
 
+/// Whether an item of an output names one of the context by its offset.
 fn puts_by_offset(output: &Out) -> bool
     ensures { result ≡ puts_by_offset output.now }
 {
@@ -60,6 +65,7 @@ fn units_at_most(item: &Pat) -> usize
     }
 }
 
+/// Whether an output has a `use`.
 fn some_use(outputs: &[Out]) -> bool
     ensures { result ≡ list_any is_use outputs.now }
 {
@@ -71,6 +77,7 @@ fn some_use(outputs: &[Out]) -> bool
     false
 }
 
+/// Whether a context has `nul`.
 fn some_nul(context: &[Pat]) -> bool
     ensures { result ≡ list_any is_nul context.now }
 {
@@ -82,6 +89,7 @@ fn some_nul(context: &[Pat]) -> bool
     false
 }
 
+/// Whether a context has an item that names another by its offset.
 fn some_offset(context: &[Pat]) -> bool
     ensures { result ≡ list_any has_offset context.now }
 {
@@ -93,6 +101,7 @@ fn some_offset(context: &[Pat]) -> bool
     false
 }
 
+/// Whether an output has an item that names one of the context by its offset.
 fn some_put_by_offset(outputs: &[Out]) -> bool
     ensures { result ≡ list_any puts_by_offset outputs.now }
 {
