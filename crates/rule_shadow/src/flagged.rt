@@ -38,7 +38,11 @@ impl<'a> Model for FlaggedTables<'a> {
 
 impl<'a> FlaggedTables<'a> {
     /// Tables with their flags and the sets of their stores.
-    pub fn new(tables: &'a Tables, flags: &'a [bool], sets: &'a StoreSets) -> FlaggedTables<'a>
+    pub(crate) fn new(
+        tables: &'a Tables,
+        flags: &'a [bool],
+        sets: &'a StoreSets,
+    ) -> FlaggedTables<'a>
         requires flags { TellOptions tables.now flags.now }
         requires sets { AreSetsOf tables.now.stores sets.now }
         ensures { result ≡ tables.now }
@@ -51,7 +55,7 @@ impl<'a> FlaggedTables<'a> {
     }
 
     /// Tables with their flags alone.
-    pub fn without_sets(tables: &'a Tables, flags: &'a [bool]) -> FlaggedTables<'a>
+    pub(crate) fn without_sets(tables: &'a Tables, flags: &'a [bool]) -> FlaggedTables<'a>
         requires { TellOptions tables.now flags.now }
         ensures { result ≡ tables.now }
     {
@@ -63,7 +67,7 @@ impl<'a> FlaggedTables<'a> {
     }
 
     /// The elements of a store, none where there is no such store.
-    pub fn elements(&self, store: u32) -> &[Element]
+    pub(crate) fn elements(&self, store: u32) -> &[Element]
         ensures { result.now ≡ elements_of self.now.stores store }
     {
         match self.tables.stores.as_slice().get(store as usize) {
@@ -73,7 +77,7 @@ impl<'a> FlaggedTables<'a> {
     }
 
     /// Whether a store has an item: by its set, or element by element where there are no sets.
-    pub fn has_item(&self, store: u32, item: Item) -> bool
+    pub(crate) fn has_item(&self, store: u32, item: Item) -> bool
         ensures { result ≡ is_some (place_of item (elements_of self.now.stores store)) }
     {
         match self.sets {
@@ -84,7 +88,7 @@ impl<'a> FlaggedTables<'a> {
 
     /// Whether a store is no option. Behind the stores of tables stand the two system options.
     #[tactic(auto, using(crate::proofs::Flags::fixed_behind))]
-    pub fn is_fixed(&self, store: u32) -> bool
+    pub(crate) fn is_fixed(&self, store: u32) -> bool
         ensures { result ≡ is_fixed self.now store }
     {
         let count = self.tables.stores.len();
@@ -97,7 +101,7 @@ impl<'a> FlaggedTables<'a> {
     }
 
     /// The group of a number.
-    pub fn group(&self, group: u32) -> Option<&'a Group>
+    pub(crate) fn group(&self, group: u32) -> Option<&'a Group>
         ensures { option_copied result ≡ slice_get self.now.groups group }
     {
         self.tables.groups.as_slice().get(group as usize)

@@ -15,7 +15,7 @@ pub struct Subject<'a> {
 
 impl<'a> Subject<'a> {
     /// The records of its group that stand before it.
-    pub fn rules_before(&self) -> &'a [Rule]
+    pub(crate) fn rules_before(&self) -> &'a [Rule]
         ensures rules { result.now ≡ take self.now.number self.now.group.now.rules }
         ensures few { length result.now < 2 ^ 32 }
     {
