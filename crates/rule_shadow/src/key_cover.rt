@@ -5,6 +5,7 @@ ghost use Rattle.std.specs.List.{list_all};
 ghost use Rattle.virtual_keys.specs.Fits.{key_fits};
 ghost use Rattle.rule_shadow.specs.Keys.{all_codes, all_modifiers, plain_modifiers, presses_of, fitting_presses, covers_key};
 
+use kmn_base::keys::{CAPS, SHIFT};
 use kmn_base::{KeyPress, Memory, RuleKey};
 use std::alloc::Global;
 use virtual_keys::Pressed;
@@ -19,14 +20,14 @@ static CODES: [u16; 90] = [
 ];
 
 /// The modifiers that can be held, in every way.
-static MODIFIERS: [u16; 64] = [
+static HELD_MODIFIERS: [u16; 64] = [
     0, 256, 16, 272, 8, 264, 24, 280, 4, 260, 20, 276, 12, 268, 28, 284, 2, 258, 18, 274, 10, 266,
     26, 282, 6, 262, 22, 278, 14, 270, 30, 286, 1, 257, 17, 273, 9, 265, 25, 281, 5, 261, 21, 277,
     13, 269, 29, 285, 3, 259, 19, 275, 11, 267, 27, 283, 7, 263, 23, 279, 15, 271, 31, 287,
 ];
 
 /// Those of them without control and alt, with which alone a key gives a character.
-static PLAIN_MODIFIERS: [u16; 4] = [0, 256, 16, 272];
+static PLAIN_MODIFIERS: [u16; 4] = [0, CAPS, SHIFT, SHIFT + CAPS];
 
 /// The codes of the keys that have a name.
 #[tactic(auto, unfolding(crate::specs::Keys::all_codes, virtual_keys::specs::Keys::key_codes))]
@@ -41,7 +42,7 @@ fn all_codes() -> &'static [u16]
 fn all_modifiers() -> &'static [u16]
     ensures { result.now ≡ all_modifiers }
 {
-    &MODIFIERS
+    &HELD_MODIFIERS
 }
 
 /// The modifiers without control and alt.
