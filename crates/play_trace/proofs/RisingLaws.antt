@@ -2,6 +2,7 @@
 use Rattle.std.proofs.Common.{◌≡◌, ℕ, zero, suc, ◌+◌, ◌<◌, ◌⊎◌, inl, inr, Bool, true, false, if◌then◌else◌, List, [], ◌∷◌, length, Contains, refl, sym, ◌∙◌, subst, arith}
 use Rattle.std.specs.Prelude.{nat_eq, nat_lt, slice_index, slice_index_or}
 use Rattle.std.specs.List.Sorted.{IsStrictlyIncreasing}
+use Rattle.std.proofs.lemmas.Bool.{eqb-true}
 use Rattle.std.proofs.lemmas.Bool.Decides.{nat_tests}
 use Rattle.std.proofs.lemmas.List.Elements.{Contains-append_right}
 use Rattle.kmn_base.specs.Rising.{AllAbove, Rises}
@@ -77,9 +78,6 @@ put_by below same line first rest = if below then line ∷ first ∷ rest else (
 is_below : (a b : ℕ) → nat_lt a b ≡ true → a < b
 is_below a b is = grind (arith, nat_tests)
 
-is_same : (a b : ℕ) → nat_eq a b ≡ true → a ≡ b
-is_same a b is = grind (arith, nat_tests)
-
 is_above : (a b : ℕ) → nat_lt a b ≡ false → nat_eq a b ≡ false → b < a
 is_above a b below same = grind (arith, nat_tests)
 
@@ -121,7 +119,7 @@ in_put n line (x ∷ xs) i = in_by n line x xs (in_put n line xs) (nat_lt line x
 put_in_by : (n line first : ℕ) (rest : List ℕ) → ((n ≡ line) ⊎ IsIn n rest → IsIn n (put_line line rest)) → (below same : Bool) → nat_eq line first ≡ same
     → (n ≡ line) ⊎ IsIn n (first ∷ rest) → IsIn n (put_by below same line first rest)
 put_in_by n line first rest more true same is_equal i = i
-put_in_by n line first rest more false true is_equal (inl is) = inl (is ∙ is_same line first is_equal)
+put_in_by n line first rest more false true is_equal (inl is) = inl (is ∙ eqb-true line first is_equal)
 put_in_by n line first rest more false true is_equal (inr i) = i
 put_in_by n line first rest more false false is_equal (inl is) = inr (more (inl is))
 put_in_by n line first rest more false false is_equal (inr (inl is)) = inl is

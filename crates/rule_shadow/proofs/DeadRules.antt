@@ -21,6 +21,7 @@ use Rattle.rule_model.specs.Enter.{chosen_in}
 use Rattle.rule_model.specs.Naming.{names_of, rule_items}
 use Rattle.rule_model.specs.Src.{src, src_rule, src_group, is_plain, cased_keys}
 use Rattle.rule_model.specs.Tab.{tab, tab_rule}
+use Rattle.rule_model.proofs.PlainOptions.{position-passes, position-fails}
 use Rattle.kmx_format.specs.Writable.{IsWritable}
 use Rattle.compile_laws.specs.WellNamed.{IsWellNamed, is_known_group}
 use Rattle.compile_laws.specs.Numbers.{numbers_of}
@@ -32,7 +33,7 @@ use Rattle.compile_laws.proofs.Linked.{Linked}
 use Rattle.compile_laws.proofs.Stores.{linked}
 use Rattle.compile_laws.proofs.Choices.{ChosenRule, best_now, best-map, src_chosen, tab_chosen, choice-kept}
 use Rattle.rule_shadow.specs.Laws.{AreCovered, CoveredRulesAreDead}
-use Rattle.rule_shadow.proofs.Sound.{passes_first, passes_later, covered_never_go_first}
+use Rattle.rule_shadow.proofs.Sound.{covered_never_go_first}
 
 -- the record that goes first has the number of the first that holds
 record Numbered (caught : RuleMeaning → Option Caught) (f : Rule → RuleMeaning) (xs : List Rule) (c : Chosen) : Type 0 where
@@ -54,7 +55,7 @@ first_numbered caught f (x ∷ xs) c e = by (caught (f x)) refl e (first_numbere
           rule = rest.rule;
           at = rest.at;
           meant = rest.meant;
-          is_first = passes_later (λ x. is_some (caught (f x))) x xs (ap is_some is) ∙ ap (option_map (λ i. 1 + i)) rest.is_first ∙ (let n : 1 + rest.number ≡ suc rest.number = omega arith in ap Some n);
+          is_first = position-fails (λ x. is_some (caught (f x))) x xs (ap is_some is) ∙ ap (option_map (λ i. 1 + i)) rest.is_first ∙ (let n : 1 + rest.number ≡ suc rest.number = omega arith in ap Some n);
         }
     by (Some k) is h more =
         record {
@@ -62,7 +63,7 @@ first_numbered caught f (x ∷ xs) c e = by (caught (f x)) refl e (first_numbere
           rule = x;
           at = refl;
           meant = ap (λ (c : Chosen). c.0) (same_Some {A = Chosen} (f x, k) c h);
-          is_first = passes_first (λ x. is_some (caught (f x))) x xs (ap is_some is);
+          is_first = position-passes (λ x. is_some (caught (f x))) x xs (ap is_some is);
         }
 
 all_at : {X : Type 0} (q : X → Bool) (xs : List X) (k : ℕ) (x : X) → list_all q xs ≡ true → slice_get xs k ≡ Some x → q x ≡ true

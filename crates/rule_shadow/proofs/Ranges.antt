@@ -1,6 +1,6 @@
 -- The items that a context that holds has caught are within the ranges of its places.
 use Rattle.std.proofs.Common.{◌≡◌, ℕ, zero, suc, ◌+◌, Bool, true, false, not, ◌||◌, List, [], ◌∷◌, ◌++◌, map, drop, Option, Some, None, refl, sym, ap, ◌∙◌, subst, arith, inl, inr, if◌then◌else◌}
-use Rattle.std.specs.Prelude.{filter_map, slice_get, unwrap_or, position, is_some, option_and_then}
+use Rattle.std.specs.Prelude.{filter_map, slice_get, unwrap_or, is_some, option_and_then}
 use Rattle.std.specs.List.{list_any, cons_option}
 use Rattle.std.proofs.lemmas.Bool.{cases_Bool, cond-true, cond-false, eqb-true}
 use Rattle.std.proofs.lemmas.Bool.Decides.{nat_tests}
@@ -19,6 +19,7 @@ use Rattle.rule_model.specs.Match.{is_item, same_item, item_of, item_caught, pla
 use Rattle.rule_model.specs.Tab.{tab, tab_options, tab_pattern, with_options, elements_of}
 use Rattle.rule_model.specs.System.{system_options}
 use Rattle.rule_model.proofs.PlainOptions.{content_of_other}
+use Rattle.virtual_keys.proofs.NamePlaces.{some_place}
 use Rattle.kmx_format.specs.Writable.{is_matched}
 use Rattle.rule_shadow.specs.declared.cert.Range.{Range}
 use Rattle.rule_shadow.specs.declared.cert.Range.TheVariants as range
@@ -31,20 +32,6 @@ same_is (item.Char c) (item.Char d) e = ap item.Char (eqb-true c d e)
 same_is (item.Char c) (item.Mark m) e = let absurd_case : false ≡ true = e in cc
 same_is (item.Mark m) (item.Char c) e = let absurd_case : false ≡ true = e in cc
 same_is (item.Mark m) (item.Mark n) e = ap item.Mark (eqb-true m n e)
-
-position-first : {X : Type 0} (p : X → Bool) (x : X) (xs : List X) → p x ≡ true → is_some (position p (x ∷ xs)) ≡ true
-position-first p x xs h = grind (arith, nat_tests)
-
-position-later : {X : Type 0} (p : X → Bool) (x : X) (xs : List X) → p x ≡ false → is_some (position p (x ∷ xs)) ≡ is_some (position p xs)
-position-later p x xs h = grind (arith, nat_tests)
-
--- there is a place exactly where some element passes
-pub position-any : {X : Type 0} (p : X → Bool) (xs : List X) → is_some (position p xs) ≡ list_any p xs
-position-any p [] = refl
-position-any p (x ∷ xs) = elim (cases_Bool (p x)) [
-  | inl yes_x ↦ position-first p x xs yes_x ∙ sym (ap (λ b. b || list_any p xs) yes_x)
-  | inr no_x ↦ position-later p x xs no_x ∙ (position-any p xs ∙ sym (ap (λ b. b || list_any p xs) no_x))
-]
 
 -- an element that is the same as an item stands for it
 stands_for : (x : Item) (e : Element) → is_item x e ≡ true → item_of e ≡ Some x
@@ -183,7 +170,7 @@ module _ (tables : Tables) (values : List (List Element)) where
       → matches (content (tab tables).stores values) cs (tab_pattern tables.stores p) x ≡ true → IsWithin (stated_range tables rs p) x
   stated_within rs cs (pattern.Char c) x h e = char_is x c e
   stated_within rs cs (pattern.Mark m) x h e = mark_is x m e
-  stated_within rs cs (pattern.Any store) x h e = any_within store x (sym (position-any (is_item x) (content (tab tables).stores values (Numbered store))) ∙ e)
+  stated_within rs cs (pattern.Any store) x h e = any_within store x (sym (some_place (is_item x) (content (tab tables).stores values (Numbered store))) ∙ e)
   stated_within rs cs (pattern.NotAny store) x h e = tt
   stated_within rs cs (pattern.Index store offset) x h e = any_within store x (element_any x (content (tab tables).stores values (Numbered store)) (place_caught cs offset) e)
   stated_within rs cs (pattern.ContextAt offset) x h e = context_within rs cs offset x h (item_same x (item_caught cs offset) e)

@@ -23,6 +23,8 @@ use Rattle.rule_model.specs.Content.{content}
 use Rattle.rule_model.specs.Match.{is_item, same_item, catches_from}
 use Rattle.rule_model.specs.Hold.{holds}
 use Rattle.rule_model.specs.Tab.{tab, tab_pattern, tab_rule, elements_of}
+use Rattle.rule_model.proofs.PlainOptions.{position-passes, position-fails}
+use Rattle.virtual_keys.proofs.NamePlaces.{some_place}
 use Rattle.kmx_format.specs.Writable.{IsWritable, IsWritableRule, IsWritableGroup, IsWritableKey}
 use Rattle.rule_shadow.specs.declared.cert.Cert.{Cert, By, Split', Row_of-Cert, end_of-Cert, more_of-Cert}
 use Rattle.rule_shadow.specs.declared.cert.Place.{Place}
@@ -32,7 +34,7 @@ use Rattle.rule_shadow.specs.declared.cert.Range.TheVariants as range
 use Rattle.rule_shadow.specs.Places.{Narrowing, is_fixed, items_of, patterns_of, first_given, range_of, places_from}
 use Rattle.rule_shadow.specs.Covers.{covers_if_any, items_at, split_items, narrowed, nothing_narrowed, covers_under, covers_parts, covers_record, covers_in}
 use Rattle.rule_shadow.specs.Laws.{CoveredNeverGoFirst, is_held}
-use Rattle.rule_shadow.proofs.Ranges.{same_is, position-any, among_items, fixed_content, Agrees, AreAt, IsMet, caught_stand}
+use Rattle.rule_shadow.proofs.Ranges.{same_is, among_items, fixed_content, Agrees, AreAt, IsMet, caught_stand}
 use Rattle.rule_shadow.proofs.Records.{taken_items, covering_holds, held_parts, length-patterns}
 
 pub all_at : {X : Type 0} (P : X → Type 0) (xs : List X) (k : ℕ) (x : X) → All P xs → slice_get xs k ≡ Some x → P x
@@ -107,7 +109,7 @@ module _ (tables : Tables) (group : Group) (values : List (List Element)) (left 
         let stand = caught_stand tables values r.context narrowing [] [] text held.catches tt agrees caught_text in
         let places = places_from tables narrowing [] r.context in
         let one = at_pattern places text k (pattern.Any store) stand (ap (λ ps. slice_get ps k) (places-patterns tables narrowing [] r.context) ∙ at) in
-        let found : list_any (is_item one.0) (content (tab tables).stores values (Numbered store)) ≡ true = sym (position-any (is_item one.0) (content (tab tables).stores values (Numbered store))) ∙ one.2 in
+        let found : list_any (is_item one.0) (content (tab tables).stores values (Numbered store)) ≡ true = sym (some_place (is_item one.0) (content (tab tables).stores values (Numbered store))) ∙ one.2 in
         elim (cases_Bool (is_fixed tables store)) [
           | inl fixed ↦
               let all : items_of tables store ≡ items = same_Some (items_of tables store) items (sym (cond-true (is_fixed tables store) (Some (items_of tables store)) None fixed) ∙ is) in
@@ -149,13 +151,6 @@ nothing_agrees tables values zero text = tt
 nothing_agrees tables values (suc n) [] = tt
 nothing_agrees tables values (suc n) (x ∷ text) = (tt, nothing_agrees tables values n text)
 
--- the first place of what passes
-pub passes_first : {X : Type 0} (p : X → Bool) (x : X) (xs : List X) → p x ≡ true → position p (x ∷ xs) ≡ Some 0
-passes_first p x xs h = grind (arith, nat_tests)
-
-pub passes_later : {X : Type 0} (p : X → Bool) (x : X) (xs : List X) → p x ≡ false → position p (x ∷ xs) ≡ option_map (λ i. 1 + i) (position p xs)
-passes_later p x xs h = grind (arith, nat_tests)
-
 moved : (o : Option ℕ) (n : ℕ) → option_map (λ i. 1 + i) o ≡ Some (suc n) → o ≡ Some n
 moved None n e = let absurd_case : None ≡ Some (suc n) = e in cc
 moved (Some m) n e = let h = same_Some (1 + m) (suc n) e in let same : m ≡ n = omega (arith, h) in ap Some same
@@ -169,11 +164,11 @@ first_is : {X : Type 0} (p : X → Bool) (xs : List X) (n : ℕ) → position p 
 first_is p [] n e = let absurd_case : None ≡ Some n = e in cc
 first_is p (x ∷ xs) zero e = elim (cases_Bool (p x)) [
   | inl yes_x ↦ (x, refl, yes_x)
-  | inr no_x ↦ absurd (not_first (position p xs) (sym (passes_later p x xs no_x) ∙ e))
+  | inr no_x ↦ absurd (not_first (position p xs) (sym (position-fails p x xs no_x) ∙ e))
 ]
 first_is p (x ∷ xs) (suc n) e = elim (cases_Bool (p x)) [
-  | inl yes_x ↦ let h = same_Some 0 (suc n) (sym (passes_first p x xs yes_x) ∙ e) in absurd (omega (arith, h))
-  | inr no_x ↦ first_is p xs n (moved (position p xs) n (sym (passes_later p x xs no_x) ∙ e))
+  | inl yes_x ↦ let h = same_Some 0 (suc n) (sym (position-passes p x xs yes_x) ∙ e) in absurd (omega (arith, h))
+  | inr no_x ↦ first_is p xs n (moved (position p xs) n (sym (position-fails p x xs no_x) ∙ e))
 ]
 
 -- nothing before it does
@@ -181,10 +176,10 @@ none_before : {X : Type 0} (p : X → Bool) (xs : List X) (n k : ℕ) (y : X) �
 none_before p [] n k y e less at passes = let absurd_case : None ≡ Some n = e in cc
 none_before p (x ∷ xs) zero k y e less at passes = absurd (omega (arith, less))
 none_before p (x ∷ xs) (suc n) zero y e less at passes =
-    let h = same_Some 0 (suc n) (sym (passes_first p x xs (ap p (same_Some x y at) ∙ passes)) ∙ e) in omega (arith, h)
+    let h = same_Some 0 (suc n) (sym (position-passes p x xs (ap p (same_Some x y at) ∙ passes)) ∙ e) in omega (arith, h)
 none_before p (x ∷ xs) (suc n) (suc k) y e less at passes = elim (cases_Bool (p x)) [
-  | inl yes_x ↦ let h = same_Some 0 (suc n) (sym (passes_first p x xs yes_x) ∙ e) in omega (arith, h)
-  | inr no_x ↦ none_before p xs n k y (moved (position p xs) n (sym (passes_later p x xs no_x) ∙ e)) (omega (arith, less)) at passes
+  | inl yes_x ↦ let h = same_Some 0 (suc n) (sym (position-passes p x xs yes_x) ∙ e) in omega (arith, h)
+  | inr no_x ↦ none_before p xs n k y (moved (position p xs) n (sym (position-fails p x xs no_x) ∙ e)) (omega (arith, less)) at passes
 ]
 
 pub some_caught : (o : Option Caught) → is_some o ≡ true → (c : Caught) × (o ≡ Some c)
