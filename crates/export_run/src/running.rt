@@ -1,4 +1,3 @@
-ghost use Rattle.std.specs.Prelude.{◌≡◌};
 ghost use Rattle.export_run.specs.Runs.{Exports, Runs};
 
 use crate::printing::{tell_exported, tell_stop};

@@ -1,6 +1,5 @@
 //! The command `host`: a script is played in the fields of a host over a compiled file, whoever made it.
 
-ghost use Rattle.std.specs.Prelude.{◌≡◌};
 ghost use Rattle.kmx_format.specs.TablesOf.{tables_of};
 ghost use Rattle.rule_model.specs.Tab.{tab};
 ghost use Rattle.play_host.specs.HostText.{host_end, host_text};

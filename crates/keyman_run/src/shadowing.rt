@@ -1,6 +1,5 @@
 //! The command `shadow`: a source is compiled, and what is printed is which of its lines never fire.
 
-ghost use Rattle.std.specs.Prelude.{◌≡◌};
 ghost use Rattle.keyman_run.specs.Inputs.{few_records};
 ghost use Rattle.keyman_run.specs.Orders.{shadow_work};
 ghost use Rattle.keyman_run.specs.Run.{Does};

@@ -1,8 +1,6 @@
 ghost use Rattle.std.specs.Prelude.{◌≡◌, ◌-◌, ◌<◌, ◌^◌, [], None, IsTrue, IsSomeAnd, IfOk, IfErr};
 ghost use Rattle.kmn_outside.specs.Outside.{WriteCounts};
 ghost use Rattle.kmn_base.specs.declared.events.Event.TheVariants as event;
-ghost use Rattle.rule_model.specs.Act.{one_more};
-ghost use Rattle.rule_model.specs.Event.{whole_text};
 ghost use Rattle.play_transcript.specs.Ends.{end_after};
 ghost use Rattle.play_transcript.specs.Printing.{Prints};
 ghost use Rattle.text_host.specs.Host.{first_host, field_of, refusal_of};

@@ -1,4 +1,4 @@
-ghost use Rattle.std.specs.Prelude.{◌≡◌, ◌≢◌, ◌+◌, ◌<◌, ◌≤◌, ◌++◌, [], ◌∷◌, false, length, slice_get, slice_index, slice_set, IfOk, IfErr, IsSomeAnd, MatchOption, MatchResult, None, Some, Ok};
+ghost use Rattle.std.specs.Prelude.{◌≡◌, ◌≢◌, ◌+◌, ◌<◌, ◌≤◌, false, length, IfOk, IfErr, IsSomeAnd, MatchOption, None, Some, Ok};
 ghost use Rattle.kmn_base.specs.declared.events.Event.TheVariants as event;
 ghost use Rattle.kmx_format.specs.TablesOf.{tables_of};
 ghost use Rattle.rule_model.specs.Event.{event_of};
@@ -74,9 +74,7 @@ pub struct Host<'a> {
 
 impl<'a> Model for Host<'a> {
     ghost use Rattle.std.specs.Prelude.{◌≡◌, ◌≤◌, length};
-    ghost use Rattle.std.specs.List.{All};
     ghost use Rattle.kmx_format.specs.TablesOf.{tables_of};
-    ghost use Rattle.play_session.specs.Session.{SessionState};
     ghost use Rattle.text_host.specs.declared.host.TheConstants.{HOST_FIELDS};
     ghost use Rattle.text_host.specs.Host.{HostState, AreOver};
 

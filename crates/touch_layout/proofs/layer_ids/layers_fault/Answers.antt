@@ -1,4 +1,4 @@
-use Rattle.std.proofs.Common.{arith, ap, sym, ◌∙◌, Some, get_or}
+use Rattle.std.proofs.Common.{arith, sym, ◌∙◌, get_or}
 use Rattle.touch_layout.proofs.FoundLayers.{fault_here, fault_behind, held, ids_next, no_layer}
 use Rattle.touch_layout.proofs.layer_ids.layers_fault.Goals as goal
 
