@@ -1,9 +1,8 @@
 -- What a session stands for, and what an event makes of it.
-use Rattle.std.specs.Prelude.{◌≡◌, ℕ, ◌*◌, ◌+◌, ◌≤◌, Bool, true, false, if◌then◌else◌, List, [], ◌++◌, length, map}
+use Rattle.std.specs.Prelude.{◌≡◌, ℕ, ◌*◌, ◌+◌, ◌≤◌, Bool, if◌then◌else◌, List, [], ◌++◌, length, map}
 use Rattle.kmn_base.specs.declared.items.Item.{Item}
 use Rattle.kmn_base.specs.declared.items.Item.TheVariants.{Char}
 use Rattle.kmn_base.specs.declared.events.Event.{Event}
-use Rattle.kmn_base.specs.declared.events.Event.TheVariants as event
 use Rattle.kmn_base.specs.Lists.{characters, without_last, window, IsSound}
 use Rattle.rule_model.specs.declared.tables.Tables.{Tables}
 use Rattle.rule_model.specs.Act.{one_more}
@@ -110,10 +109,3 @@ after_step session event =
       chosen = chosen (tab session.tables) session.state event;
       changes = changes_between session.tables (values_of session.state) (values_of (happened session event).after);
     }
-
--- an event is a key press
-abbrev pub is_key : Event → Bool
-is_key (event.Key press) = true
-is_key (event.Setting name value) = false
-is_key (event.Caret place) = false
-is_key (event.Edit from to text) = false
