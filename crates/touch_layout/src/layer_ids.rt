@@ -2,7 +2,6 @@
 
 ghost use Rattle.std.specs.Prelude.{◌≡◌, not, true, List, [], ◌∷◌, ◌++◌, map, IfOk, OnOk};
 ghost use Rattle.std.specs.List.{list_any};
-ghost use Rattle.std.specs.Str.{str_to_ascii_lowercase};
 ghost use Rattle.touch_layout.specs.Keys.{key_view};
 ghost use Rattle.touch_layout.specs.Layers.{Layer, layer_view, layers_view};
 ghost use Rattle.touch_layout.specs.LayerIds.{FindsSame, folded, is_equal_layer, layer_of};
@@ -12,6 +11,7 @@ use crate::faults::LayoutFault;
 use crate::keys::TouchKey;
 use crate::layers::TouchLayer;
 use indexmap::IndexSet;
+use kmn_base::names::in_lower_case;
 use kmn_base::{Code, Memory};
 use std::alloc::Global;
 
@@ -46,15 +46,6 @@ pub(crate) fn has_next_layer<'v>(ids: &IndexSet<(u32, &'v str)>, key: &TouchKey<
     ids.contains(&(key.place.platform, key.next_layer))
 }
 
-/// An id in lower case.
-fn in_lower_case(alloc: Global, id: &str) -> Result<Vec<u8>, Memory>
-    ensures { IfOk result (λ copy. copy.items ≡ str_to_ascii_lowercase id.now) }
-{
-    let mut copy = Vec::from_slice(alloc, id.as_bytes())?;
-    copy.make_ascii_lowercase();
-    Ok(copy)
-}
-
 /// Adds a layer, and answers whether it is none of those before it, without ASCII case.
 fn add_layer(
     alloc: Global,
@@ -66,7 +57,7 @@ fn add_layer(
     ensures added { IfOk result (λ new. new ≡ true → map (λ id. layer_of id.0 id.1.items) ids.new.keys
         ≡ map (λ id. layer_of id.0 id.1.items) ids.old.keys ++ folded (layer_view layer.now) ∷ []) }
 {
-    let id = in_lower_case(alloc, layer.id)?;
+    let id = in_lower_case(alloc, layer.id.as_bytes())?;
     let new = ids.insert((layer.place.platform, id))?;
     Ok(new)
 }
