@@ -5,7 +5,7 @@ use Rattle.std.specs.Option.{option_map_or, option_or}
 use Rattle.std.specs.List.{list_any}
 use Rattle.std.specs.Str.{str_to_ascii_lowercase}
 use Rattle.std.specs.Cmp.Lexicographic.{nat_list_eq_equiv}
-use Rattle.std.proofs.lemmas.Bool.{and_parts}
+use Rattle.std.proofs.lemmas.Bool.{and_parts, eqb-true}
 use Rattle.std.proofs.lemmas.Bool.Decides.{nat_tests}
 use Rattle.std.proofs.lemmas.Grind.{common_steps}
 use Rattle.std.proofs.lemmas.List.{drop_more, get_or_default, map-append}
@@ -76,13 +76,10 @@ same_keys_fault dictionary groups names ids layers keys named finds =
     ∙ same_faults (has_record dictionary groups) ids layers finds keys
 
 -- equal layers are found by the same keys
-same_number : (a b : ℕ) → nat_eq a b ≡ true → a ≡ b
-same_number a b h = grind (arith, nat_tests, h)
-
 found_equal : (key : Key) (a b : Layer) → is_equal_layer a b ≡ true → is_next_layer key a ≡ is_next_layer key b
 found_equal key a b h =
     let both = and_parts (nat_eq a.place.platform b.place.platform) (bytes_eq a.id b.id) h in
-    (λ j. nat_eq (same_number a.place.platform b.place.platform both.0 j) key.place.platform && bytes_eq ((bytes_eq-Decides a.id b.id).0 both.1 j) key.next_layer)
+    (λ j. nat_eq (eqb-true a.place.platform b.place.platform both.0 j) key.place.platform && bytes_eq ((bytes_eq-Decides a.id b.id).0 both.1 j) key.next_layer)
 
 pub any_mapped : {X Y : Type 0} (test : Y → Bool) (f : X → Y) (xs : List X) → list_any test (map f xs) ≡ list_any (λ x. test (f x)) xs
 any_mapped test f [] = refl
