@@ -85,10 +85,7 @@ fn bracket(text: &[u8]) -> Option<(&[u8], &[u8])>
 fn needed_bracket(line: u32, text: &[u8]) -> Result<(&[u8], &[u8]), ScriptError>
     ensures { MatchResult result (λ parts. bracket text.now ≡ Some (parts.0.now, parts.1.now)) (λ error. (bracket text.now ≡ None) × (error ≡ ScriptError.Refused (record { line = line; code = P03 }))) }
 {
-    match bracket(text) {
-        Some(parts) => Ok(parts),
-        None => Err(refused(line, Code::P03)),
-    }
+    bracket(text).ok_or(refused(line, Code::P03))
 }
 
 /// How many events and previews there are with one more; P07 where that is past the limit.
