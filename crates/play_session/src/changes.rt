@@ -129,21 +129,17 @@ fn saved_before<'c>(engine: &'c Engine, before: &'c [Cell], option: usize) -> Op
 fn saved_in<'c>(engine: &'c Engine, cell: &'c Cell) -> Option<StoreValue<'c>>
     ensures { option_map elements_in result ≡ saved_value (stated (tab engine.now.tables).stores) cell.now }
 {
-    match cell.saved {
-        Some(saved) => Some(engine.held(saved, cell.text.as_slice())),
-        None => None,
-    }
+    let saved = cell.saved?;
+    Some(engine.held(saved, cell.text.as_slice()))
 }
 
 /// Whether there is a saved value now that was not saved before.
 fn is_newly_saved(before: Option<StoreValue>, after: Option<StoreValue>) -> bool
     ensures { result ≡ is_newly_saved (option_map elements_in before.entry) (option_map elements_in after.entry) }
 {
-    match after {
-        Some(after) => match before {
-            Some(before) => !before.is_same(after),
-            None => true,
-        },
-        None => false,
+    match (before, after) {
+        (_, None) => false,
+        (None, Some(_)) => true,
+        (Some(before), Some(after)) => !before.is_same(after),
     }
 }
