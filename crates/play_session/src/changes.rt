@@ -93,7 +93,8 @@ fn current_stays(engine: &Engine, before: &[Cell], store: u32, option: usize) ->
     is_current(engine, &before[option], store, option)
 }
 
-/// Whether the current value of an option is the one that a cell holds. Nothing is compared where both are of one store.
+/// Whether the current value of an option is the one that a cell holds. Nothing is compared where both are of one store. The
+/// number of the option is for the contract alone: the body looks its store up.
 #[tactic(auto, using(crate::proofs::Comparing::content_is_value))]
 fn is_current(engine: &Engine, was: &Cell, store: u32, option: usize) -> bool
     requires { option_number (tab engine.now.tables).stores (Numbered store) ≡ Some option }

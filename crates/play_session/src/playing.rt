@@ -145,7 +145,7 @@ pub(crate) fn edit_event(
     Ok(())
 }
 
-/// A setting of the host.
+/// A setting of the host. The editor is for the contract alone: a state has its text.
 #[tactic(auto, using(crate::proofs::Moves::setting_steps))]
 pub(crate) fn setting_event(
     alloc: Global,
