@@ -198,6 +198,7 @@ fn read_named_picture<F: Folder>(
 pub fn key_names(checked: &Checked) -> &KeyDictionary
     ensures { result.now ≡ (src checked.now).dictionary }
 {
+    // What this call says, that the program was read and isn't refused, is what the lemma needs.
     let _program = checked.program();
     checked.names().keys()
 }
