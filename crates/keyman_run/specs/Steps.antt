@@ -70,8 +70,8 @@ text_stop (decompile.Refused why) = stop.Refused (reason.Text why)
 text_stop decompile.Memory = stop.Memory
 
 -- a refusal at line 1
-abbrev pub first_line : Code → Reason
-first_line code = reason.Line (record { line = 1; code = code })
+abbrev pub at_line_one : Code → Reason
+at_line_one code = reason.Line (record { line = 1; code = code })
 
 -- why a run stops where an input wasn't read: a longer one than its limit is refused for this reason
 abbrev pub read_stop : Reason → ReadError → Stop

@@ -9,7 +9,7 @@ ghost use Rattle.keyman_run.specs.Run.{Does};
 ghost use Rattle.keyman_status.specs.Tells.{Tells};
 ghost use Rattle.keyman_run.specs.Steps.{Gives, itself};
 
-use crate::preparing::{Stop, first_line, own_names, read_file, read_stop};
+use crate::preparing::{Stop, at_line_one, own_names, read_file, read_stop};
 use crate::running::{end_status, tell_stop};
 use host_script::{HostEntry, read_host};
 use keyman_status::{Status, write_status};
@@ -97,7 +97,7 @@ fn read_host_entries<F: Folder>(
 {
     let script = read(alloc, keys, TEXT_BYTES, folder).map_err(|error| read_stop(
         error,
-        first_line(Code::P06),
+        at_line_one(Code::P06),
     ))?;
     Ok(read_host(alloc, script.as_slice(), names)?)
 }

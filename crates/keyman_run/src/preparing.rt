@@ -3,7 +3,7 @@ ghost use Rattle.rule_model.specs.Src.{src};
 ghost use Rattle.rule_model.specs.Tab.{tab};
 ghost use Rattle.kmn_compiler.specs.Picture.{picture_name};
 ghost use Rattle.keyman_run.specs.Orders.{bytes_work, compiled_work, file_work, job_work, picture_work, script_work, source_work};
-ghost use Rattle.keyman_run.specs.Steps.{Gives, IsCompiled, itself, prepared_job, first_line, read_stop};
+ghost use Rattle.keyman_run.specs.Steps.{Gives, IsCompiled, itself, prepared_job, at_line_one, read_stop};
 
 use keyman_lines::Reason;
 use keyman_words::{FileName, beside, read};
@@ -143,7 +143,7 @@ fn read_source<F: Folder>(
 {
     let source = read(alloc, name, TEXT_BYTES, folder).map_err(|error| read_stop(
         error,
-        first_line(Code::L05),
+        at_line_one(Code::L05),
     ))?;
     Ok(front(alloc, source.as_slice())?)
 }
@@ -214,7 +214,7 @@ fn read_entries<F: Folder>(
 {
     let script = read(alloc, keys, TEXT_BYTES, folder).map_err(|error| read_stop(
         error,
-        first_line(Code::P06),
+        at_line_one(Code::P06),
     ))?;
     Ok(read_script(alloc, script.as_slice(), names)?)
 }
@@ -257,8 +257,8 @@ pub fn read_own_entries<F: Folder>(
 }
 
 /// A refusal at line 1.
-pub fn first_line(code: Code) -> Reason
-    ensures { result ≡ first_line code }
+pub fn at_line_one(code: Code) -> Reason
+    ensures { result ≡ at_line_one code }
 {
     Reason::Line(Refusal { line: 1, code })
 }

@@ -24,11 +24,11 @@ pub fn read_text<F: Folder>(
     ensures text { IsTrue (F.told folder.old) → IfOk result (λ text. IsSomeAnd (F.files folder.old name.now) (λ bytes. IsTextOf bytes text)) }
 {
     let bytes = read_file(alloc, name, folder)?;
-    text_of(alloc, bytes.as_slice())
+    decompiled(alloc, bytes.as_slice())
 }
 
 /// The text that the bytes of a file go back to.
-fn text_of(alloc: Global, bytes: &[u8]) -> Result<Text, Stop>
+fn decompiled(alloc: Global, bytes: &[u8]) -> Result<Text, Stop>
     ensures states { States itself (text_of_file bytes.now) result }
     ensures text { IfOk result (λ text. IsTextOf bytes.now text) }
 {

@@ -5,15 +5,15 @@ use Rattle.play_script.specs.Answers.{Answers}
 use Rattle.host_script.specs.HostEntries.{host_entries}
 use Rattle.keyman_run.specs.Inputs.{host_script_of}
 use Rattle.keyman_run.specs.Orders.{host_script_work}
-use Rattle.keyman_run.specs.Steps.{itself, first_line, script_stop}
+use Rattle.keyman_run.specs.Steps.{itself, at_line_one, script_stop}
 use Rattle.keyman_run.proofs.InputLaws.{IsStopped, gives_stop, gives_whole, given_concludes, value_stated, broken_stated}
 use Rattle.keyman_run.proofs.RunLaws.{gives_handed}
 use Rattle.keyman_run.proofs.hosting.read_host_entries.Goals as goal
 
 pub returns-in_err-script : goal.returns-in_err-script
 returns-in_err-script g c =
-    let is : IsStopped (first_line P06) c.read.result (Err c.in_err-script.field-0.0) = search rules in
-    gives_stop itself c.args.keys.now TEXT_BYTES _ _ (first_line P06) g.F.Folder c.args.folder.now _ c.read.result c.in_err-script.field-0.0 c.from_residual.result is c.from_residual.ensures.1
+    let is : IsStopped (at_line_one P06) c.read.result (Err c.in_err-script.field-0.0) = search rules in
+    gives_stop itself c.args.keys.now TEXT_BYTES _ _ (at_line_one P06) g.F.Folder c.args.folder.now _ c.read.result c.in_err-script.field-0.0 c.from_residual.result is c.from_residual.ensures.1
     (given_concludes (host_script_of c.args.names.now)) refl c.read.ensures.counts c.read.ensures.told c.read.ensures.reads
 
 pub returns-in_err-read_host : goal.returns-in_err-read_host

@@ -5,15 +5,15 @@ use Rattle.kmn_base.specs.declared.limits.TheConstants.{TEXT_BYTES}
 use Rattle.rule_checker.specs.Refused.{checked}
 use Rattle.keyman_run.specs.Inputs.{program_of}
 use Rattle.keyman_run.specs.Orders.{source_work}
-use Rattle.keyman_run.specs.Steps.{itself, compile_stop, first_line}
+use Rattle.keyman_run.specs.Steps.{itself, compile_stop, at_line_one}
 use Rattle.keyman_run.proofs.InputLaws.{IsStopped, gives_stop, gives_whole, given_concludes, value_stated, error_stated}
 use Rattle.keyman_run.proofs.RunLaws.{gives_handed}
 use Rattle.keyman_run.proofs.preparing.read_source.Goals as goal
 
 pub returns-in_err-source : goal.returns-in_err-source
 returns-in_err-source g c =
-    let is : IsStopped (first_line L05) c.read.result (Err c.in_err-source.field-0.0) = search rules in
-    gives_stop itself c.args.name.now TEXT_BYTES _ _ (first_line L05) g.F.Folder c.args.folder.now _ c.read.result c.in_err-source.field-0.0 c.from_residual.result is c.from_residual.ensures.1
+    let is : IsStopped (at_line_one L05) c.read.result (Err c.in_err-source.field-0.0) = search rules in
+    gives_stop itself c.args.name.now TEXT_BYTES _ _ (at_line_one L05) g.F.Folder c.args.folder.now _ c.read.result c.in_err-source.field-0.0 c.from_residual.result is c.from_residual.ensures.1
     (given_concludes program_of) refl c.read.ensures.counts c.read.ensures.told c.read.ensures.reads
 
 pub returns-in_err-front : goal.returns-in_err-front

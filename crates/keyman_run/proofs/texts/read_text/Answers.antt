@@ -19,9 +19,9 @@ returns-in_err-bytes-clause-gives g c =
 pub returns-clause-gives : goal.returns-clause-gives
 returns-clause-gives g c =
     gives_behind itself itself (bytes_work c.args.name.now) text_behind g.F.Folder _ _ _ c.in_ok-bytes.bytes _ c.in_ok-bytes.ensures
-    (gives_stated itself (text_of_file c.in_ok-bytes.bytes) g.F.Folder _ c.text_of.result
-    (subst (λ (bytes : List ℕ). States itself (text_of_file bytes) c.text_of.result) c.as_slice.ensures c.text_of.ensures.states))
+    (gives_stated itself (text_of_file c.in_ok-bytes.bytes) g.F.Folder _ c.decompiled.result
+    (subst (λ (bytes : List ℕ). States itself (text_of_file bytes) c.decompiled.result) c.as_slice.ensures c.decompiled.ensures.states))
 
 pub returns-clause-text : goal.returns-clause-text
 returns-clause-text g c = λ told.
-    text_found (g.F.Folder.files c.args.folder.now) c.args.name.now c.as_slice.result.now c.in_ok-bytes.bytes c.text_of.result (c.in_ok-bytes.ensures.gives told).0 c.as_slice.ensures c.text_of.ensures.text
+    text_found (g.F.Folder.files c.args.folder.now) c.args.name.now c.as_slice.result.now c.in_ok-bytes.bytes c.decompiled.result (c.in_ok-bytes.ensures.gives told).0 c.as_slice.ensures c.decompiled.ensures.text

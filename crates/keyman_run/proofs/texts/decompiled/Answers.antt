@@ -4,7 +4,7 @@ use Rattle.keyman_run.specs.Inputs.{tables_of_file, text_of_file, unless_unspell
 use Rattle.keyman_run.specs.Steps.{itself, verify_stop}
 use Rattle.keyman_run.proofs.LoadLaws.{states_handed, states_stopped}
 use Rattle.keyman_run.proofs.TextLaws.{text_has, unread_states}
-use Rattle.keyman_run.proofs.texts.text_of.Goals as goal
+use Rattle.keyman_run.proofs.texts.decompiled.Goals as goal
 
 pub returns-in_err-file-clause-states : goal.returns-in_err-file-clause-states
 returns-in_err-file-clause-states c =
