@@ -1,6 +1,9 @@
 -- What an answer of the exporter says of the run.
-use Rattle.std.proofs.Common.{List, ℕ, Result, Ok, Err}
-use Rattle.kmx_verifier.specs.FaultOf.{IsValid}
+use Rattle.std.proofs.Common.{◌≡◌, List, ℕ, Some, Result, Ok, Err, sym, subst}
+use Rattle.std.specs.Result.{IsErrAnd}
+use Rattle.kmx_verifier.specs.FaultOf.{IsRefusal, IsValid, fault_of}
+use Rattle.kmx_verifier.specs.declared.faults.VerifyError.{VerifyError}
+use Rattle.kmx_verifier.specs.declared.faults.VerifyError.TheVariants as verify
 use Rattle.core_export.specs.Export.{IsExportError}
 use Rattle.core_export.specs.declared.errors.ExportError.{ExportError}
 use Rattle.core_export.specs.declared.errors.ExportError.TheVariants as error
@@ -8,7 +11,7 @@ use Rattle.export_run.specs.declared.reading.ExportReason.TheVariants.{File, Sav
 use Rattle.export_run.specs.declared.reading.Export.{Export}
 use Rattle.export_run.specs.declared.reading.ExportStop.{ExportStop}
 use Rattle.export_run.specs.declared.reading.ExportStop.TheVariants as stop
-use Rattle.export_run.specs.Reads.{Answers, States, export_stop}
+use Rattle.export_run.specs.Reads.{Answers, States, export_stop, verify_stop}
 
 -- why a file isn't exported
 pub stop_answered : (bytes : List ℕ) (why : ExportError) → IsExportError bytes why → Answers bytes (Err (export_stop why))
@@ -26,3 +29,17 @@ states_answered bytes (Err (stop.Refused NoZeroUnit)) valid h = (valid, h)
 states_answered bytes (Err (stop.Refused Entangled)) valid h = (valid, h)
 states_answered bytes (Err stop.ReadFault) valid h = absurd h
 states_answered bytes (Err stop.Memory) valid h = h
+
+-- why bytes are no valid file
+pub fault_stated : (bytes : List ℕ) (error : VerifyError) → IsRefusal error (λ fault. fault_of bytes ≡ Some fault) → States bytes (Err (verify_stop error))
+fault_stated bytes (verify.Refused fault) h = h
+fault_stated bytes verify.Memory h = h
+
+-- what stops a step is handed on
+pub answers_handed : (bytes : List ℕ) (why : ExportStop) (result : Result Export ExportStop) → IsErrAnd result (λ given. given ≡ why) → Answers bytes (Err why) → Answers bytes result
+answers_handed bytes why (Ok out) is answers = absurd is
+answers_handed bytes why (Err given) is answers = subst (λ (s : ExportStop). Answers bytes (Err s)) (sym is) answers
+
+pub states_handed : (bytes : List ℕ) (why : ExportStop) (result : Result Export ExportStop) → IsErrAnd result (λ given. given ≡ why) → States bytes (Err why) → States bytes result
+states_handed bytes why (Ok out) is states = absurd is
+states_handed bytes why (Err given) is states = subst (λ (s : ExportStop). States bytes (Err s)) (sym is) states

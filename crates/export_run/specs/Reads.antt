@@ -3,6 +3,8 @@ use Rattle.std.specs.Prelude.{◌≡◌, ◌⊎◌, ℕ, true, false, IsTrue, Li
 use Rattle.kmn_outside.specs.Outside.{Files, Rose, SameFiles, call_of}
 use Rattle.kmx_format.specs.TablesOf.{tables_of}
 use Rattle.kmx_verifier.specs.FaultOf.{IsValid, fault_of}
+use Rattle.kmx_verifier.specs.declared.faults.VerifyError.{VerifyError}
+use Rattle.kmx_verifier.specs.declared.faults.VerifyError.TheVariants as verify
 use Rattle.core_differences.specs.Differences.{differences}
 use Rattle.core_export.specs.Export.{Exports, IsExportError}
 use Rattle.core_export.specs.declared.errors.ExportError.{ExportError}
@@ -31,6 +33,11 @@ IsReason bytes (File fault) = fault_of bytes ≡ Some fault
 IsReason bytes (SavesTwice line) = IsValid bytes × IsReasonOfValid bytes (SavesTwice line)
 IsReason bytes NoZeroUnit = IsValid bytes × IsReasonOfValid bytes NoZeroUnit
 IsReason bytes Entangled = IsValid bytes × IsReasonOfValid bytes Entangled
+
+-- why a run stops where bytes are no valid file
+abbrev pub verify_stop : VerifyError → ExportStop
+verify_stop (verify.Refused fault) = stop.Refused (File fault)
+verify_stop verify.Memory = stop.Memory
 
 -- why a run stops where a valid file isn't exported
 abbrev pub export_stop : ExportError → ExportStop

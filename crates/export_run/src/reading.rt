@@ -1,7 +1,7 @@
 //! The export of the file of a name, or why there is none.
 
 ghost use Rattle.std.specs.Prelude.{◌≡◌};
-ghost use Rattle.export_run.specs.Reads.{Answers, Gives, States, export_stop};
+ghost use Rattle.export_run.specs.Reads.{Answers, Gives, States};
 
 use core_differences::Difference;
 use core_export::{ExportError, differences, export};
@@ -40,6 +40,44 @@ pub enum ExportStop {
     Memory,
 }
 
+impl From<Memory> for ExportStop {
+    ghost use Rattle.export_run.specs.declared.reading.ExportStop.TheVariants as stop;
+
+    ghost from_gives = { λ _ given. given ≡ stop.Memory };
+
+    fn from(_memory: Memory) -> ExportStop {
+        ExportStop::Memory
+    }
+}
+
+impl From<VerifyError> for ExportStop {
+    ghost use Rattle.export_run.specs.Reads.{verify_stop};
+
+    ghost from_gives = { λ error given. given ≡ verify_stop error };
+
+    fn from(error: VerifyError) -> ExportStop {
+        match error {
+            VerifyError::Refused(fault) => ExportStop::Refused(ExportReason::File(fault)),
+            VerifyError::Memory => ExportStop::Memory,
+        }
+    }
+}
+
+impl From<ExportError> for ExportStop {
+    ghost use Rattle.export_run.specs.Reads.{export_stop};
+
+    ghost from_gives = { λ error given. given ≡ export_stop error };
+
+    fn from(error: ExportError) -> ExportStop {
+        match error {
+            ExportError::SavesTwice(line) => ExportStop::Refused(ExportReason::SavesTwice(line)),
+            ExportError::NoZeroUnit => ExportStop::Refused(ExportReason::NoZeroUnit),
+            ExportError::Entangled => ExportStop::Refused(ExportReason::Entangled),
+            ExportError::Memory => ExportStop::Memory,
+        }
+    }
+}
+
 /// Why a file that passes its limit is refused.
 const LONG_FILE: ExportReason = ExportReason::File(Fault {
     code: Code::V15,
@@ -68,36 +106,15 @@ pub fn read_export<F: Folder>(
 fn export_bytes(alloc: Global, bytes: &[u8]) -> Result<Export, ExportStop>
     ensures { States bytes.now result }
 {
-    match verify(alloc, bytes) {
-        Ok(file) => export_file(alloc, &file),
-        Err(VerifyError::Refused(fault)) => Err(ExportStop::Refused(ExportReason::File(fault))),
-        Err(VerifyError::Memory) => Err(ExportStop::Memory),
-    }
+    let file = verify(alloc, bytes)?;
+    export_file(alloc, &file)
 }
 
 /// Exports a file.
-#[tactic(auto, using(crate::proofs::Answered::stop_answered))]
 fn export_file(alloc: Global, file: &Verified<'_>) -> Result<Export, ExportStop>
     ensures { Answers file.now result }
 {
-    let bytes = match export(alloc, file) {
-        Ok(bytes) => bytes,
-        Err(error) => return Err(export_stop(error)),
-    };
-    match differences(alloc, file) {
-        Ok(differences) => Ok(Export { bytes, differences }),
-        Err(Memory) => Err(ExportStop::Memory),
-    }
-}
-
-/// Why a run stops where a valid file isn't exported.
-fn export_stop(error: ExportError) -> ExportStop
-    ensures { result ≡ export_stop error }
-{
-    match error {
-        ExportError::SavesTwice(line) => ExportStop::Refused(ExportReason::SavesTwice(line)),
-        ExportError::NoZeroUnit => ExportStop::Refused(ExportReason::NoZeroUnit),
-        ExportError::Entangled => ExportStop::Refused(ExportReason::Entangled),
-        ExportError::Memory => ExportStop::Memory,
-    }
+    let bytes = export(alloc, file)?;
+    let differences = differences(alloc, file)?;
+    Ok(Export { bytes, differences })
 }
