@@ -7,12 +7,8 @@ use Rattle.export_run.specs.declared.reading.Export.{Export}
 use Rattle.keyman_status.specs.declared.status.Status.{Status}
 use Rattle.keyman_status.specs.declared.status.Status.TheVariants as status
 use Rattle.export_run.specs.Lines.{unexported_line, exported_text}
-use Rattle.keyman_status.specs.Seen.{FolderView, FolderState, SinkView, SinkState, seen_folder, seen_sink}
+use Rattle.keyman_status.specs.Seen.{FolderView, FolderState, SinkView, SinkState, IsSilent, seen_folder, seen_sink}
 use Rattle.export_run.specs.Reads.{HasExport, HasReason, HasRead, HasFailedToRead, HasMaybeRead}
-
--- nothing was printed
-abbrev pub IsSilent : SinkState → SinkState → Type 0
-IsSilent before after = IsTrue before.told → after.written ≡ before.written
 
 -- the file was read, and its export was written under the target's name: no other name differs
 pub record HasExported (file target : List ℕ) (out : Export) (before after : FolderState) : Type 0 where

@@ -22,7 +22,7 @@ use Rattle.keyman_run.specs.Endings.{Ending, ends, file_asks}
 use Rattle.keyman_run.specs.Inputs.{Pictured}
 use Rattle.keyman_run.specs.Orders.{host_script_work, program_work, tables_work}
 use Rattle.play_transcript.specs.Printing.{IsBegun}
-use Rattle.keyman_status.specs.Seen.{FolderView, SinkView, FolderState, SinkState, seen_folder, seen_sink}
+use Rattle.keyman_status.specs.Seen.{FolderView, SinkView, FolderState, SinkState, IsSilent, seen_folder, seen_sink}
 use Rattle.keyman_run.specs.Work.{Work, reads, comes_to}
 
 -- the file of an ending is written, and no other name differs
@@ -57,10 +57,6 @@ pub record HasFailedToWrite (wanted : List Ask) (ending : Ending) (before after 
   pub file : ending.file ≡ Some (name, bytes)
   pub asked : after.calls ≡ before.calls ++ (map answered wanted ++ failed (write_of name) ∷ [])
   pub files : SameOthers name before.files after.files
-
--- nothing was printed, where a sink tells it
-abbrev pub IsSilent : SinkState → SinkState → Type 0
-IsSilent before after = IsTrue before.told → after.written ≡ before.written
 
 -- the run came to its end with this status: all of its output was printed
 pub record IsEnded (wanted : List Ask) (end : Option Ending) (before after : FolderState) (sink sink_after : SinkState) (how : Status) : Type 0 where

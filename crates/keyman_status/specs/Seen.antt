@@ -1,5 +1,5 @@
 -- What the contracts see of the outside at one moment.
-use Rattle.std.specs.Prelude.{ℕ, Bool, List}
+use Rattle.std.specs.Prelude.{◌≡◌, ℕ, Bool, IsTrue, List}
 use Rattle.kmn_outside.specs.Outside.{Files}
 use Rattle.kmn_outside.specs.declared.traits.Call.{Call}
 use Rattle.kmn_outside.specs.declared.traits.Folder as folder_trait
@@ -30,3 +30,7 @@ seen_folder view folder = record { told = view.told folder; files = view.files f
 
 abbrev pub seen_sink : {S : Type 0} → SinkView S → S → SinkState
 seen_sink view sink = record { told = view.told sink; written = view.written sink; faults = view.faults sink }
+
+-- nothing was printed, where a sink tells it
+abbrev pub IsSilent : SinkState → SinkState → Type 0
+IsSilent before after = IsTrue before.told → after.written ≡ before.written
