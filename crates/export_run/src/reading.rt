@@ -5,9 +5,10 @@ ghost use Rattle.export_run.specs.Reads.{Answers, Gives, States};
 
 use core_differences::Difference;
 use core_export::{ExportError, differences, export};
+use keyman_lines::LONG_FILE;
 use keyman_words::{FileName, read};
 use kmn_base::limits::FILE_BYTES;
-use kmn_base::{Code, Memory, Seq};
+use kmn_base::{Memory, Seq};
 use kmn_outside::{Folder, ReadError};
 use kmx_verifier::{Fault, Verified, VerifyError, verify};
 use std::alloc::Global;
@@ -78,13 +79,6 @@ impl From<ExportError> for ExportStop {
     }
 }
 
-/// Why a file that passes its limit is refused.
-const LONG_FILE: ExportReason = ExportReason::File(Fault {
-    code: Code::V15,
-    at: 0,
-    unit: 0,
-});
-
 /// Reads the file of a name, and exports it.
 pub fn read_export<F: Folder>(
     alloc: Global,
@@ -96,7 +90,7 @@ pub fn read_export<F: Folder>(
     match read(alloc, file, FILE_BYTES, folder) {
         Ok(bytes) => export_bytes(alloc, bytes.as_slice()),
         Err(ReadError::Failed) => Err(ExportStop::ReadFault),
-        Err(ReadError::Over(_)) => Err(ExportStop::Refused(LONG_FILE)),
+        Err(ReadError::Over(_)) => Err(ExportStop::Refused(ExportReason::File(LONG_FILE))),
         Err(ReadError::Memory) => Err(ExportStop::Memory),
     }
 }

@@ -3,6 +3,13 @@ use kmn_base::{Code, Refusal};
 use kmx_verifier::Fault;
 use touch_layout::LayoutFault;
 
+/// The fault of a compiled file that passes its limit.
+pub const LONG_FILE: Fault = Fault {
+    code: Code::V15,
+    at: 0,
+    unit: 0,
+};
+
 /// Why a source, a script, a file or a layout is refused before anything is written.
 #[derive(Clone, Copy, Debug, PartialEq, Eq)]
 pub enum Reason {

@@ -5,13 +5,13 @@ ghost use Rattle.kmn_compiler.specs.Picture.{picture_name};
 ghost use Rattle.keyman_run.specs.Orders.{bytes_work, compiled_work, file_work, job_work, picture_work, script_work, source_work};
 ghost use Rattle.keyman_run.specs.Steps.{Gives, IsCompiled, itself, prepared_job, at_line_one, read_stop};
 
-use keyman_lines::Reason;
+use keyman_lines::{LONG_FILE, Reason};
 use keyman_words::{FileName, beside, read};
 use kmn_base::limits::{FILE_BYTES, PICTURE_BYTES, TEXT_BYTES};
 use kmn_base::{Code, CompileError, Memory, Refusal, Seq};
 use kmn_compiler::{Compiled, back, front, picture_name};
 use kmn_outside::{Folder, ReadError};
-use kmx_verifier::{Fault, VerifyError};
+use kmx_verifier::VerifyError;
 use load_maker::LoadError;
 use play_script::{ScriptError, read_script};
 use play_session::Session;
@@ -219,13 +219,6 @@ fn read_entries<F: Folder>(
     Ok(read_script(alloc, script.as_slice(), names)?)
 }
 
-/// Why a compiled file that passes its limit is refused.
-const LONG_FILE: Reason = Reason::File(Fault {
-    code: Code::V15,
-    at: 0,
-    unit: 0,
-});
-
 /// Reads the compiled file of a name.
 pub fn read_file<F: Folder>(
     alloc: Global,
@@ -234,7 +227,7 @@ pub fn read_file<F: Folder>(
 ) -> Result<Seq<u8>, Stop>
     ensures { Gives itself (bytes_work name.now) F.Folder folder.old folder.new result }
 {
-    read(alloc, name, FILE_BYTES, folder).map_err(|error| read_stop(error, LONG_FILE))
+    read(alloc, name, FILE_BYTES, folder).map_err(|error| read_stop(error, Reason::File(LONG_FILE)))
 }
 
 /// The names of the own keys of a session's file.
