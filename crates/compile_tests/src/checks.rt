@@ -1,8 +1,9 @@
 //! Sources, each with its first refusal or with `ok`, in rows that `source_of` reads.
 
 use crate::rows::source_of;
-use kmn_base::{CompileError, Refusal};
+use kmn_base::CompileError;
 use kmn_compiler::front;
+use source_tests::fixtures::is_refusal;
 use std::alloc::Global;
 use std::test::Fail;
 
@@ -400,16 +401,6 @@ const SAMPLE: &str =
     any(acute) + [K_BKSP] > index(plain, 1) dk(acute)¶+ [T_flip] > use(flip)¶if(quotes = \"1\") + '\"' > U+201C¶\
     + [CTRL ALT K_Q] > set(quotes = \"1\") save(quotes)¶+ '-' > '-'¶match > use(after)¶group(flip)¶\
     any(acute) > index(grave, 1)¶any(grave) > index(acute, 1)¶nomatch > beep¶group(after)¶'--' > U+2013 ⇒ ok";
-
-/// Whether a row has the code and the line of a refusal.
-fn is_refusal(refusal: Refusal, wanted: &str) -> bool {
-    match wanted.split_once(' ') {
-        Some((code, line)) => {
-            refusal.code.text() == code.as_bytes() && line.parse::<u32>().ok() == Some(refusal.line)
-        }
-        None => false,
-    }
-}
 
 /// Whether the parser, and behind it the checker, answers of a row's source as the row has it.
 fn is_right(alloc: Global, row: &str) -> Result<bool, Fail> {

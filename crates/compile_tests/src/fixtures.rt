@@ -1,7 +1,10 @@
-//! What several tests take: the first lines of a keyboard, and a text that gets a line more.
+//! What several tests take: the first lines of a keyboard, a text that gets a line more, and tables of one group.
 
 ghost use Rattle.std.specs.Prelude.{◌≡◌, ◌∷◌, ◌++◌, [], IfOk};
+ghost use Rattle.kmx_format.specs.WorkedFiles.{main_tables};
 
+use kmn_base::{Memory, Seq, Text};
+use rule_model::{Group, Rule, Store, Tables};
 use std::alloc::{AllocError, Global};
 
 /// The two lines of a keyboard with the group `main`, which uses keys.
@@ -15,4 +18,24 @@ pub fn with_line(alloc: Global, text: &[u8], line: &[u8]) -> Result<Vec<u8>, All
     longer.extend_from_slice(line)?;
     longer.push(b'\n')?;
     Ok(longer)
+}
+
+/// Tables of the version 10.0 with one group, which is called main and uses keys.
+pub fn tables(alloc: Global, stores: Seq<Store>, rules: Seq<Rule>) -> Result<Tables, Memory>
+    ensures { IfOk result (λ tables. tables ≡ main_tables stores rules) }
+{
+    let group = Group {
+        name: Text::from_slice(alloc, b"main")?,
+        using_keys: true,
+        rules,
+        on_match: Seq::new(alloc),
+        on_nomatch: Seq::new(alloc),
+    };
+    Ok(Tables {
+        version: 0x0A00,
+        start_ansi: 0xFFFF_FFFF,
+        start_unicode: 0,
+        stores,
+        groups: Seq::from_vec(vec![in alloc; group]?),
+    })
 }

@@ -3,7 +3,7 @@
 //!
 //! They stand here because a crate with tests is proved twice, once with them and once without: so each of those crates is
 //! proved once, and the tests are proved over them, beside those of `source_tests`. `rows` has the sources of rows, and
-//! `fixtures` what the tests of compiling take. No layer stands above.
+//! `fixtures` what the tests of compiling take; `file_tests` and `meaning_tests` take of it the tables of one group.
 #![tactic(auto)]
 
 #[cfg(test)]

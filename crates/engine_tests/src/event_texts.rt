@@ -8,7 +8,7 @@ use event_text::{Edited, Inserted, Left};
 use kmn_base::Item::{Char, Mark};
 use kmn_base::limits::EVENT_PUTS;
 use kmn_base::{Item, Memory};
-use meaning_tests::events::sign;
+use meaning_tests::events::put_items;
 use std::alloc::Global;
 use std::fmt::Write;
 use std::test::Fail;
@@ -63,14 +63,6 @@ fn edited(text: &[char], inserted: Inserted, cache: Cache, steps: &str) -> Edite
         act(&mut left, step);
     }
     left.finish()
-}
-
-/// Appends the signs of items.
-fn put_items(text: &mut String, items: &[Item]) -> Result<(), Memory> {
-    for item in items {
-        text.push(sign(*item))?;
-    }
-    Ok(())
 }
 
 /// How many characters are deleted, what is inserted, and the last items, as a row writes them.

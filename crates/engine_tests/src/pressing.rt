@@ -1,9 +1,9 @@
 //! Presses of keys on an engine, texts that it reads again, and the options that it finds by name.
 
 use kmn_base::{Item, Memory, Outcome, Seq};
-use kmn_compiler::compile;
 use kmx_verifier::verify;
 use meaning_tests::events::{press, sign};
+use meaning_tests::fixtures::compiled;
 use rule_engine::Engine;
 use std::alloc::Global;
 use std::fmt::Write;
@@ -43,11 +43,6 @@ fn put_rule(text: &mut String, record: &str) -> Result<(), Memory> {
     put_items(text, output)?;
     text.push('\n')?;
     Ok(())
-}
-
-/// The file of a source.
-fn compiled(alloc: Global, source: &str) -> Result<Seq<u8>, Fail> {
-    Ok(compile(alloc, source.as_bytes(), &[])?.bytes)
 }
 
 /// The file of a keyboard of one group, which uses keys, with these records.

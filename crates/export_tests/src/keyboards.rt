@@ -1,10 +1,10 @@
 //! Keyboards exported: what is printed of where another engine does something else, and where an event may save twice.
 
-use crate::fixtures::seq;
 use crate::sources::file;
 use export_run::export_run;
 use kmn_base::Seq;
 use kmn_outside::{MemoryFolder, MemorySink};
+use run_tests::commands::words;
 use std::alloc::Global;
 use std::test::Fail;
 
@@ -41,15 +41,13 @@ store(o) '1'¶H¶+ 'a' > use(g)¶group(g)¶'b' > use(h)¶group(h)¶'c' > save(o)
 
 /// What a run of `in out` over a folder with that file prints.
 fn printed(alloc: Global, file: Seq<u8>) -> Result<Seq<u8>, Fail> {
-    let mut words = Vec::new(alloc);
-    words.push(seq(alloc, b"in")?)?;
-    words.push(seq(alloc, b"out")?)?;
+    let words = words(alloc, "in out")?;
     let mut files = Vec::new(alloc);
-    files.push((seq(alloc, b"in")?, file))?;
+    files.push((Seq::from_slice(alloc, b"in")?, file))?;
     let mut folder = MemoryFolder::new(alloc, Seq::from_vec(files), Seq::new(alloc));
     let mut sink = MemorySink::new(alloc, Seq::new(alloc));
     export_run(alloc, words.as_slice(), &mut folder, &mut sink);
-    Ok(seq(alloc, sink.written())?)
+    Ok(Seq::from_slice(alloc, sink.written())?)
 }
 
 /// Whether a line of what is printed stands as it is wanted: the size is let go.

@@ -1,9 +1,10 @@
 //! Runs over a folder and a sink in memory.
 
-use crate::fixtures::seq;
+use crate::fixtures::one_rule;
 use export_run::export_run;
-use kmn_base::{Seq, Text};
+use kmn_base::Seq;
 use kmn_outside::{MemoryFolder, MemorySink};
+use run_tests::commands::words;
 use std::alloc::Global;
 use std::test::Fail;
 
@@ -22,29 +23,6 @@ struct End<'a> {
     status: u8,
     printed: &'a str,
     out: &'a [u8],
-}
-
-/// The file of one rule, of version 17.0: else `one_rule_bytes` of `WorkedFiles` in `kmx_format`, which were worked out by hand.
-fn one_rule() -> [u8; 122] {
-    let mut file = [0; 122];
-    file[..4].copy_from_slice(b"KXTS");
-    file[5] = 0x11;
-    file[28] = 1;
-    file[36] = 64;
-    file[40..44].copy_from_slice(&[0xFF; 4]);
-    file[64] = 108;
-    file[68] = 88;
-    file[80] = 1;
-    file[84] = 1;
-    file[88] = b'a';
-    file[92] = 3;
-    file[100] = 118;
-    file[108] = b'm';
-    file[110] = b'a';
-    file[112] = b'i';
-    file[114] = b'n';
-    file[118] = b'b';
-    file
 }
 
 /// Its export: three words differ. The checksum was taken by another program, which inverts it at the end.
@@ -71,20 +49,14 @@ fn entangled() -> [u8; 122] {
     file
 }
 
-/// The words, which are parted by single spaces.
-fn words(alloc: Global, text: &str) -> Result<Vec<Text>, Fail> {
-    let mut words = Vec::new(alloc);
-    for word in text.split(' ') {
-        words.push(seq(alloc, word.as_bytes())?)?;
-    }
-    Ok(words)
-}
-
 /// Whether a run ends so.
 fn ends(alloc: Global, run: &Run, end: &End) -> Result<bool, Fail> {
     let words = words(alloc, run.words)?;
     let mut files = Vec::new(alloc);
-    files.push((seq(alloc, b"in")?, seq(alloc, run.file)?))?;
+    files.push((
+        Seq::from_slice(alloc, b"in")?,
+        Seq::from_slice(alloc, run.file)?,
+    ))?;
     let folder_fails = Vec::from_slice(alloc, &[run.folder_call])?;
     let mut folder = MemoryFolder::new(alloc, Seq::from_vec(files), Seq::from_vec(folder_fails));
     let sink_fails = Vec::from_slice(alloc, &[run.sink_call])?;

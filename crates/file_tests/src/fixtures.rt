@@ -1,10 +1,10 @@
-//! What several tests take: four files, and tables of one group.
+//! What several tests take: four files, and a rule.
 
 ghost use Rattle.std.specs.Prelude.{◌≡◌, IfOk};
-ghost use Rattle.kmx_format.specs.WorkedFiles.{plain_rule, main_tables};
+ghost use Rattle.kmx_format.specs.WorkedFiles.{plain_rule};
 
-use kmn_base::{Memory, RuleKey, Seq, Text};
-use rule_model::{Group, Out, Rule, Store, Tables};
+use kmn_base::{Memory, RuleKey, Seq};
+use rule_model::{Out, Rule};
 use std::alloc::Global;
 
 /// The file of one rule, `+ 'a' > 'b'` in line 3, in a group `main` that uses keys: the bytes `one_rule_bytes` of `WorkedFiles` in
@@ -60,25 +60,5 @@ pub fn rule(alloc: Global, line: u32, key: RuleKey, c: char) -> Result<Rule, Mem
         key,
         context: Seq::new(alloc),
         output: Seq::from_slice(alloc, &[Out::Char(c)])?,
-    })
-}
-
-/// Tables of the version 10.0 with one group, which is called main and uses keys.
-pub fn tables(alloc: Global, stores: Seq<Store>, rules: Seq<Rule>) -> Result<Tables, Memory>
-    ensures { IfOk result (λ tables. tables ≡ main_tables stores rules) }
-{
-    let group = Group {
-        name: Text::from_slice(alloc, b"main")?,
-        using_keys: true,
-        rules,
-        on_match: Seq::new(alloc),
-        on_nomatch: Seq::new(alloc),
-    };
-    Ok(Tables {
-        version: 0x0A00,
-        start_ansi: 0xFFFF_FFFF,
-        start_unicode: 0,
-        stores,
-        groups: Seq::from_vec(vec![in alloc; group]?),
     })
 }

@@ -1,6 +1,7 @@
 //! Touch layouts, each with the count of its keys or the first rule that it breaks.
 
-use crate::fixtures::{rule, tables};
+use crate::fixtures::rule;
+use compile_tests::fixtures::tables;
 use kmn_base::{Element, Memory, RuleKey, Seq};
 use rule_model::{Store, Tables};
 use std::alloc::{AllocError, Global};

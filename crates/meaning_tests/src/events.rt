@@ -81,3 +81,11 @@ pub fn sign(item: Item) -> char {
         Item::Mark(_) => '*',
     }
 }
+
+/// Appends the signs of items.
+pub fn put_items(text: &mut String, items: &[Item]) -> Result<(), Memory> {
+    for item in items {
+        text.push(sign(*item))?;
+    }
+    Ok(())
+}

@@ -1,28 +1,11 @@
-//! What the tests of meanings take: tables of one group.
+//! What the tests of several crates take: the file of a source.
 
-ghost use Rattle.std.specs.Prelude.{◌≡◌, IfOk};
-ghost use Rattle.kmx_format.specs.WorkedFiles.{main_tables};
-
-use kmn_base::{Memory, Seq, Text};
-use rule_model::{Group, Rule, Store, Tables};
+use kmn_base::Seq;
+use kmn_compiler::compile;
 use std::alloc::Global;
+use std::test::Fail;
 
-/// Tables of the version 10.0 with one group, which is called main and uses keys.
-pub fn tables(alloc: Global, stores: Seq<Store>, rules: Seq<Rule>) -> Result<Tables, Memory>
-    ensures { IfOk result (λ tables. tables ≡ main_tables stores rules) }
-{
-    let group = Group {
-        name: Text::from_slice(alloc, b"main")?,
-        using_keys: true,
-        rules,
-        on_match: Seq::new(alloc),
-        on_nomatch: Seq::new(alloc),
-    };
-    Ok(Tables {
-        version: 0x0A00,
-        start_ansi: 0xFFFF_FFFF,
-        start_unicode: 0,
-        stores,
-        groups: Seq::from_vec(vec![in alloc; group]?),
-    })
+/// The file of a source.
+pub fn compiled(alloc: Global, source: &str) -> Result<Seq<u8>, Fail> {
+    Ok(compile(alloc, source.as_bytes(), &[])?.bytes)
 }

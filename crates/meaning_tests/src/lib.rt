@@ -2,7 +2,7 @@
 //!
 //! They stand here because a crate with tests is proved twice, once with them and once without: so each of those crates is
 //! proved once, and the tests are proved over them, beside those of `script_tests`. `events` has the events of words and the
-//! signs of items, which `engine_tests` and `play_tests` take too, `fixtures` the tables of one group, and `states` the states
+//! signs of items, and `fixtures` the file of a source: `engine_tests` and `play_tests` take both too. `states` has the states
 //! that keyboards are played in.
 #![tactic(auto)]
 

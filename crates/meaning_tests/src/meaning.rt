@@ -1,9 +1,9 @@
 //! Keyboards that are played by the plain evaluator of their meaning.
 
-use crate::events::{event, sign};
-use crate::fixtures::tables;
+use crate::events::{event, put_items};
 use crate::states::{can_be_done, elements, start};
-use kmn_base::{Event, Item, Memory, RuleKey, Seq};
+use compile_tests::fixtures::tables;
+use kmn_base::{Event, Memory, RuleKey, Seq};
 use plain_event::{PlainState, plain_event};
 use rule_model::{Out, Pat, Rule, Store, Tables};
 use std::alloc::Global;
@@ -170,14 +170,6 @@ fn keyboard(alloc: Global, store_texts: &str, records: &str) -> Result<Tables, M
     let stores = stores(alloc, store_texts)?;
     let rules = rules(alloc, records)?;
     tables(alloc, stores, rules)
-}
-
-/// Appends the signs of items.
-fn put_items(text: &mut String, items: &[Item]) -> Result<(), Memory> {
-    for item in items {
-        text.push(sign(*item))?;
-    }
-    Ok(())
 }
 
 /// The text with its caret.

@@ -5,9 +5,9 @@ ghost use Rattle.std.specs.List.{Contains};
 ghost use Rattle.rule_trace.specs.Coverage.{record_lines, AreLinesOf};
 
 use crate::events::event;
+use crate::fixtures::compiled;
 use crate::states::{can_be_done, start};
 use kmn_base::{Event, Memory};
-use kmn_compiler::compile;
 use kmx_verifier::verify;
 use plain_event::PlainState;
 use rule_model::Tables;
@@ -83,8 +83,8 @@ fn tables_of_file(alloc: Global, bytes: &[u8]) -> Result<Tables, Fail> {
 
 /// The tables of the compiled file of a source.
 fn tables_of(alloc: Global, source: &str) -> Result<Tables, Fail> {
-    let compiled = compile(alloc, source.as_bytes(), &[])?;
-    tables_of_file(alloc, compiled.bytes.as_slice())
+    let bytes = compiled(alloc, source)?;
+    tables_of_file(alloc, bytes.as_slice())
 }
 
 /// The source of a case.

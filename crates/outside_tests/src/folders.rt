@@ -2,7 +2,6 @@
 
 use kmn_base::Seq;
 use kmn_outside::{DiskFolder, Folder, MemoryFolder, MemorySink, Sink, StreamSink};
-use run_tests::fixtures::seq;
 use std::alloc::Global;
 use std::fs;
 use std::test::Fail;
@@ -40,8 +39,11 @@ fn takes_two<S: Sink>(sink: &mut S) -> bool {
 /// A folder with the files `a` of two bytes and `ab` of none, whose third call fails.
 fn small_folder(alloc: Global) -> Result<MemoryFolder, Fail> {
     let mut files = Vec::new(alloc);
-    files.push((seq(alloc, b"ab")?, Seq::new(alloc)))?;
-    files.push((seq(alloc, b"a")?, seq(alloc, b"xy")?))?;
+    files.push((Seq::from_slice(alloc, b"ab")?, Seq::new(alloc)))?;
+    files.push((
+        Seq::from_slice(alloc, b"a")?,
+        Seq::from_slice(alloc, b"xy")?,
+    ))?;
     let fails = Seq::from_vec(Vec::from_slice(alloc, &[3])?);
     Ok(MemoryFolder::new(alloc, Seq::from_vec(files), fails))
 }

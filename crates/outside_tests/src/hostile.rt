@@ -3,11 +3,10 @@
 
 use crate::fixtures::equal_bytes;
 use keyman_run::Status;
-use kmn_base::Seq;
+use kmn_base::{Memory, Seq};
 use kmn_outside::{Folder, MemoryFolder, MemorySink};
 use run_tests::commands::{FILE, empty_folder, ended, folder, sink, written_out};
-use run_tests::fixtures::seq;
-use std::alloc::{AllocError, Global};
+use std::alloc::Global;
 use std::test::Fail;
 
 /// The first run with a fault: what can't be read or written, by the numbers from 1 of the folder's and of the sink's call that
@@ -133,8 +132,8 @@ fn broken_line(alloc: Global) -> Result<Option<&'static str>, Fail> {
 }
 
 /// A folder with a file `a` of these bytes.
-fn folder_of_one(alloc: Global, bytes: Seq<u8>) -> Result<MemoryFolder, AllocError> {
-    let name = seq(alloc, b"a")?;
+fn folder_of_one(alloc: Global, bytes: Seq<u8>) -> Result<MemoryFolder, Memory> {
+    let name = Seq::from_slice(alloc, b"a")?;
     let files = vec![in alloc; (name, bytes)]?;
     Ok(MemoryFolder::new(alloc, Seq::from_vec(files), Seq::new(alloc)))
 }

@@ -1,10 +1,10 @@
 //! The lines of the rules that the events of a session choose.
 
-use crate::files::compiled;
 use crate::fixtures::key;
 use kmn_base::Memory;
 use kmx_verifier::verify;
 use meaning_tests::events::event;
+use meaning_tests::fixtures::compiled;
 use play_session::Session;
 use std::alloc::Global;
 use std::fmt::Write;

@@ -1,14 +1,7 @@
-//! The files that sessions play: those of sources, and those that look at system options.
+//! The files that look at system options.
 
-use kmn_base::{Memory, Seq};
-use kmn_compiler::compile;
+use kmn_base::Memory;
 use std::alloc::Global;
-use std::test::Fail;
-
-/// The file of a source.
-pub fn compiled(alloc: Global, source: &str) -> Result<Seq<u8>, Fail> {
-    Ok(compile(alloc, source.as_bytes(), &[])?.bytes)
-}
 
 /// The first three units of a condition on the first store, of one on the second, and of a set of the first, and those of the
 /// same items on the layer and on the platform; and the first letters of a name that no source can state.

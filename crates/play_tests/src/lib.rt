@@ -1,8 +1,8 @@
 //! The tests of `play_session`: `sessions` has sessions event by event, and `choices` the lines of the rules that they choose.
 //!
 //! They stand here because a crate with tests is proved twice, once with them and once without: so `play_session` is proved
-//! once, and the tests are proved over it, beside those of `meaning_tests`, whose words of events and signs they take. `files`
-//! has the files that sessions play, and `fixtures` the event of a key. No layer stands above.
+//! once, and the tests are proved over it, beside those of `meaning_tests`, whose words of events, signs and files they take.
+//! `files` has the files that look at system options, and `fixtures` the event of a key. No layer stands above.
 #![tactic(auto)]
 
 #[cfg(test)]

@@ -1,10 +1,11 @@
 //! Sessions with compiled keyboards, event by event.
 
-use crate::files::{compiled, with_system_options};
+use crate::files::with_system_options;
 use crate::fixtures::key;
 use kmn_base::{Element, Event, Item, KeyPress, Memory, Seq};
 use kmx_verifier::{Verified, verify};
-use meaning_tests::events::{event, sign};
+use meaning_tests::events::{event, put_items};
+use meaning_tests::fixtures::compiled;
 use play_session::{Change, Session, StepError};
 use std::alloc::Global;
 use std::str;
@@ -107,14 +108,6 @@ fn show_changes(alloc: Global, text: &mut String, session: &Session) -> Result<(
 fn put_chars(text: &mut String, chars: &[char]) -> Result<(), Memory> {
     for c in chars {
         text.push(*c)?;
-    }
-    Ok(())
-}
-
-/// Appends the signs of items.
-fn put_items(text: &mut String, items: &[Item]) -> Result<(), Memory> {
-    for item in items {
-        text.push(sign(*item))?;
     }
     Ok(())
 }

@@ -1,6 +1,5 @@
 //! Commands that are run over a folder and a sink in memory, and the texts that rows write with stand-ins.
 
-use crate::fixtures::seq;
 use keyman_run::{Status, run};
 use kmn_base::{Seq, Text};
 use kmn_outside::{Folder, MemoryFolder, MemorySink};
@@ -20,10 +19,10 @@ pub const FILE: [u8; 122] = [
 ];
 
 /// The words, which are parted by single spaces.
-fn words(alloc: Global, text: &str) -> Result<Vec<Text>, Fail> {
+pub fn words(alloc: Global, text: &str) -> Result<Vec<Text>, Fail> {
     let mut words = Vec::new(alloc);
     for word in text.split(' ') {
-        words.push(seq(alloc, word.as_bytes())?)?;
+        words.push(Seq::from_slice(alloc, word.as_bytes())?)?;
     }
     Ok(words)
 }

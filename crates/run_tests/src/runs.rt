@@ -7,7 +7,6 @@ mod shadow_rows;
 mod trace_rows;
 
 use crate::commands::{FILE, ended, folder, sink, write_piece, written_out};
-use crate::fixtures::seq;
 use host_rows::HOST_RUNS;
 use kmn_base::Seq;
 use kmn_outside::MemoryFolder;
@@ -48,7 +47,7 @@ fn compiled(alloc: Global, source: &str) -> Result<Seq<u8>, Fail> {
     let mut folder = folder(alloc, source, b"", "", 0)?;
     let mut sink = sink(alloc, 0)?;
     ended(alloc, "compile a.kmn out", &mut folder, &mut sink)?;
-    Ok(seq(alloc, folder.file(b"out").unwrap_or(&[]))?)
+    Ok(Seq::from_slice(alloc, folder.file(b"out").unwrap_or(&[]))?)
 }
 
 /// The bytes that pieces make of a file.

@@ -1,12 +1,13 @@
 //! Scripts with the entries that they give or the rule that they break, and the lines of a transcript.
 
 use crate::fixtures::with_copies;
-use kmn_base::{Code, Element, Event, Item, Outcome, Refusal, Text};
+use kmn_base::{Code, Element, Event, Item, Outcome, Text};
 use play_script::{
     ScriptError, end_line, expect_line, line_of, read_script, refused_event_line, text_line,
     value_line,
 };
 use rule_model::Entry;
+use source_tests::fixtures::is_refusal;
 use std::alloc::{AllocError, Global};
 use std::test::Fail;
 use virtual_keys::KeyDictionary;
@@ -174,16 +175,6 @@ fn shown_entries(alloc: Global, entries: &[Entry]) -> Result<String, Fail> {
         show_entry(&mut shown, entry)?;
     }
     Ok(shown)
-}
-
-/// Whether a row has the code and the line of a refusal.
-fn is_refusal(refusal: Refusal, wanted: &str) -> bool {
-    match wanted.split_once(' ') {
-        Some((code, line)) => {
-            refusal.code.text() == code.as_bytes() && line.parse::<u32>().ok() == Some(refusal.line)
-        }
-        None => false,
-    }
 }
 
 /// Whether entries are those of a row.

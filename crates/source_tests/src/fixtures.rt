@@ -1,8 +1,8 @@
-//! What several tests take: the bytes of names, and the texts that tables write by signs.
+//! What several tests take: the bytes of names, the texts that tables write by signs, and the refusals that they name.
 
 ghost use Rattle.std.specs.Prelude.{◌≡◌, IfOk};
 
-use kmn_base::{Memory, Seq, Text};
+use kmn_base::{Memory, Refusal, Seq, Text};
 use std::alloc::{AllocError, Global};
 
 /// The name that a text spells.
@@ -34,4 +34,14 @@ pub fn source_of(alloc: Global, text: &str) -> Result<String, AllocError> {
         source.push(character(c))?;
     }
     Ok(source)
+}
+
+/// Whether the answer of a row has the code and the line of a refusal.
+pub fn is_refusal(refusal: Refusal, wanted: &str) -> bool {
+    match wanted.split_once(' ') {
+        Some((code, line)) => {
+            refusal.code.text() == code.as_bytes() && line.parse::<u32>().ok() == Some(refusal.line)
+        }
+        None => false,
+    }
 }

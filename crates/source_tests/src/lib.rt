@@ -3,7 +3,7 @@
 //!
 //! They stand here because a crate with tests is proved twice, once with them and once without: so each of those crates is
 //! proved once, and the tests are proved over them. `fixtures` has what several of them take; `statement_tests` takes of it
-//! what reads the signs of its rows.
+//! what reads the signs of its rows, and `compile_tests` and `script_tests` what reads the refusals of theirs.
 #![tactic(auto)]
 
 pub mod fixtures;
