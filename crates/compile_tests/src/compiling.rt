@@ -1,23 +1,13 @@
 //! Sources, and what they compile to or how they are refused. `source_of` reads the source of a row, and behind ` ⇒ ` stands
 //! the answer: the lines of the file's records in their order, as the digits of a number, and its size; or the refusal.
 
-use crate::fixtures::{KEYBOARD, with_line};
+use crate::fixtures::{KEYBOARD, ONE_RULE, with_line};
 use crate::rows::source_of;
 use kmn_compiler::{Compiled, compile, front, picture_name};
 use std::alloc::{AllocError, Global};
 use std::fmt::Write;
 use std::str;
 use std::test::Fail;
-
-/// The file of one rule, `+ 'a' > 'b'` in line 3, in a group `main` that uses keys: the bytes `one_rule_bytes` of `WorkedFiles` in
-/// `kmx_format`, which were worked out by hand.
-const ONE_RULE: &[u8] = &[
-    0x4B, 0x58, 0x54, 0x53, 0x00, 0x0A, 0x00, 0x00, 0, 0, 0, 0, 0, 0, 0, 0, 0, 0, 0, 0, 0, 0, 0, 0,
-    0, 0, 0, 0, 1, 0, 0, 0, 0, 0, 0, 0, 0x40, 0, 0, 0, 0xFF, 0xFF, 0xFF, 0xFF, 0, 0, 0, 0, 0, 0, 0,
-    0, 0, 0, 0, 0, 0, 0, 0, 0, 0, 0, 0, 0, 0x6C, 0, 0, 0, 0x58, 0, 0, 0, 0, 0, 0, 0, 0, 0, 0, 0, 1,
-    0, 0, 0, 1, 0, 0, 0, 0x61, 0, 0, 0, 3, 0, 0, 0, 0, 0, 0, 0, 0x76, 0, 0, 0, 0, 0, 0, 0, 0x6D, 0,
-    0x61, 0, 0x69, 0, 0x6E, 0, 0, 0, 0x62, 0, 0, 0,
-];
 
 /// Sources without a picture.
 const SOURCES: &str =
@@ -123,7 +113,7 @@ fn ends_right(alloc: Global, row: &str) -> Result<bool, Fail> {
 fn is_one_rule(alloc: Global) -> Result<bool, Fail> {
     let source = with_line(alloc, KEYBOARD.as_bytes(), b"+ 'a' > 'b'")?;
     let compiled = compile(alloc, source.as_slice(), &[])?;
-    Ok(compiled.bytes.as_slice() == ONE_RULE)
+    Ok(compiled.bytes.as_slice() == ONE_RULE.as_slice())
 }
 
 #[test]

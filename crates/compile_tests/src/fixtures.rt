@@ -1,4 +1,5 @@
-//! What several tests take: the first lines of a keyboard, a text that gets a line more, and tables of one group.
+//! What several tests take: the first lines of a keyboard, the file of one rule, a text that gets a line more, and tables of
+//! one group.
 
 ghost use Rattle.std.specs.Prelude.{◌≡◌, ◌∷◌, ◌++◌, [], IfOk};
 ghost use Rattle.kmx_format.specs.WorkedFiles.{main_tables};
@@ -9,6 +10,16 @@ use std::alloc::{AllocError, Global};
 
 /// The two lines of a keyboard with the group `main`, which uses keys.
 pub const KEYBOARD: &str = "begin Unicode > use(main)\ngroup(main) using keys\n";
+
+/// The file of one rule, `+ 'a' > 'b'` in line 3, in a group `main` that uses keys: the bytes `one_rule_bytes` of `WorkedFiles` in
+/// `kmx_format`, which were worked out by hand.
+pub const ONE_RULE: [u8; 122] = [
+    0x4B, 0x58, 0x54, 0x53, 0x00, 0x0A, 0x00, 0x00, 0, 0, 0, 0, 0, 0, 0, 0, 0, 0, 0, 0, 0, 0, 0, 0,
+    0, 0, 0, 0, 1, 0, 0, 0, 0, 0, 0, 0, 0x40, 0, 0, 0, 0xFF, 0xFF, 0xFF, 0xFF, 0, 0, 0, 0, 0, 0, 0,
+    0, 0, 0, 0, 0, 0, 0, 0, 0, 0, 0, 0, 0, 0x6C, 0, 0, 0, 0x58, 0, 0, 0, 0, 0, 0, 0, 0, 0, 0, 0, 1,
+    0, 0, 0, 1, 0, 0, 0, 0x61, 0, 0, 0, 3, 0, 0, 0, 0, 0, 0, 0, 0x76, 0, 0, 0, 0, 0, 0, 0, 0x6D, 0,
+    0x61, 0, 0x69, 0, 0x6E, 0, 0, 0, 0x62, 0, 0, 0,
+];
 
 /// A text with a line behind it.
 pub fn with_line(alloc: Global, text: &[u8], line: &[u8]) -> Result<Vec<u8>, AllocError>

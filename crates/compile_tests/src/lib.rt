@@ -3,7 +3,8 @@
 //!
 //! They stand here because a crate with tests is proved twice, once with them and once without: so each of those crates is
 //! proved once, and the tests are proved over them, beside those of `source_tests`. `rows` has the sources of rows, and
-//! `fixtures` what the tests of compiling take; `file_tests` and `meaning_tests` take of it the tables of one group.
+//! `fixtures` what the tests of compiling take: the tests of files, sessions and runs take of it the file of one rule, and
+//! `file_tests` and `meaning_tests` the tables of one group.
 #![tactic(auto)]
 
 #[cfg(test)]

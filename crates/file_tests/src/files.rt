@@ -2,7 +2,8 @@
 //! the layer, `sets` with that of sets of it, else the file is that of one rule. `<` cuts it to a length, `@` goes to a place,
 //! and hexadecimal digits are the bytes from there on.
 
-use crate::fixtures::{ON_LAYER, ONE_RULE, SETS_LAYER, TWO_KEYS};
+use crate::fixtures::{ON_LAYER, SETS_LAYER, TWO_KEYS};
+use compile_tests::fixtures::ONE_RULE;
 use std::alloc::{AllocError, Global};
 use std::str;
 use std::test::Fail;

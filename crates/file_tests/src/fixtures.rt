@@ -1,4 +1,4 @@
-//! What several tests take: four files, and a rule.
+//! What several tests take: three files, and a rule.
 
 ghost use Rattle.std.specs.Prelude.{◌≡◌, IfOk};
 ghost use Rattle.kmx_format.specs.WorkedFiles.{plain_rule};
@@ -7,17 +7,8 @@ use kmn_base::{Memory, RuleKey, Seq};
 use rule_model::{Out, Rule};
 use std::alloc::Global;
 
-/// The file of one rule, `+ 'a' > 'b'` in line 3, in a group `main` that uses keys: the bytes `one_rule_bytes` of `WorkedFiles` in
-/// `kmx_format`, which were worked out by hand.
-pub const ONE_RULE: [u8; 122] = [
-    0x4B, 0x58, 0x54, 0x53, 0x00, 0x0A, 0x00, 0x00, 0, 0, 0, 0, 0, 0, 0, 0, 0, 0, 0, 0, 0, 0, 0, 0,
-    0, 0, 0, 0, 1, 0, 0, 0, 0, 0, 0, 0, 0x40, 0, 0, 0, 0xFF, 0xFF, 0xFF, 0xFF, 0, 0, 0, 0, 0, 0, 0,
-    0, 0, 0, 0, 0, 0, 0, 0, 0, 0, 0, 0, 0, 0x6C, 0, 0, 0, 0x58, 0, 0, 0, 0, 0, 0, 0, 0, 0, 0, 0, 1,
-    0, 0, 0, 1, 0, 0, 0, 0x61, 0, 0, 0, 3, 0, 0, 0, 0, 0, 0, 0, 0x76, 0, 0, 0, 0, 0, 0, 0, 0x6D, 0,
-    0x61, 0, 0x69, 0, 0x6E, 0, 0, 0, 0x62, 0, 0, 0,
-];
-
-/// The file of a store k of two virtual keys, a store o of x and y, and a record for each key: `two_keys_bytes` of `WorkedFiles`.
+/// The file of a store k of two virtual keys, a store o of x and y, and a record for each key: `two_keys_bytes` of `WorkedFiles` in
+/// `kmx_format`.
 pub const TWO_KEYS: [u8; 206] = [
     0x4B, 0x58, 0x54, 0x53, 0x00, 0x0A, 0x00, 0x00, 0, 0, 0, 0, 0, 0, 0, 0, 0, 0, 0, 0, 0, 0, 0, 0,
     2, 0, 0, 0, 1, 0, 0, 0, 0x40, 0, 0, 0, 0x58, 0, 0, 0, 0xFF, 0xFF, 0xFF, 0xFF, 0, 0, 0, 0, 0, 0,

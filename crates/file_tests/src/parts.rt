@@ -1,6 +1,7 @@
 //! The tables of a file, read where they lie.
 
-use crate::fixtures::{ON_LAYER, ONE_RULE, SETS_LAYER};
+use crate::fixtures::{ON_LAYER, SETS_LAYER};
+use compile_tests::fixtures::ONE_RULE;
 use kmn_base::{Element, Memory, RuleKey};
 use kmx_parts::{ContextItem, FileGroup, FileRule, FileStore, FileTables};
 use rule_model::{Out, Pat};

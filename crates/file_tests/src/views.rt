@@ -1,6 +1,6 @@
 //! The parts of a file by place.
 
-use crate::fixtures::ONE_RULE;
+use compile_tests::fixtures::ONE_RULE;
 use kmx_parts::{GroupRef, KmxView, RuleRef};
 use std::test::Fail;
 

@@ -3,8 +3,8 @@
 ghost use Rattle.std.specs.Prelude.{◌≡◌, IfOk};
 ghost use Rattle.kmx_format.specs.WorkedFiles.{one_rule, two_keys};
 
-use crate::fixtures::{ONE_RULE, TWO_KEYS, rule};
-use compile_tests::fixtures::tables;
+use crate::fixtures::{TWO_KEYS, rule};
+use compile_tests::fixtures::{ONE_RULE, tables};
 use kmn_base::{Code, CompileError, Element, Memory, RuleKey, Seq, Text};
 use kmx_writer::write;
 use rule_model::{Store, Tables};

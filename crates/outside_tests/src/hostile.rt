@@ -2,10 +2,11 @@
 //! and of one byte more.
 
 use crate::fixtures::equal_bytes;
+use compile_tests::fixtures::ONE_RULE;
 use keyman_run::Status;
 use kmn_base::{Memory, Seq};
 use kmn_outside::{Folder, MemoryFolder, MemorySink};
-use run_tests::commands::{FILE, empty_folder, ended, folder, sink, written_out};
+use run_tests::commands::{empty_folder, ended, folder, sink, written_out};
 use std::alloc::Global;
 use std::test::Fail;
 
@@ -93,7 +94,7 @@ fn is_fault(alloc: Global, calls: (u32, u32), wanted: Ending) -> Result<bool, Fa
 fn wrong_fault(alloc: Global) -> Result<Option<&'static str>, Fail> {
     for &(what, calls, status, printed, size) in FAULTS {
         let out = match size {
-            Some(size) => FILE.get(..size),
+            Some(size) => ONE_RULE.get(..size),
             None => None,
         };
         let wanted = Ending {

@@ -2,6 +2,7 @@
 
 use crate::files::with_system_options;
 use crate::fixtures::key;
+use compile_tests::fixtures::ONE_RULE;
 use kmn_base::{Element, Event, Item, KeyPress, Memory, Seq};
 use kmx_verifier::{Verified, verify};
 use meaning_tests::events::{event, put_items};
@@ -10,16 +11,6 @@ use play_session::{Change, Session, StepError};
 use std::alloc::Global;
 use std::str;
 use std::test::Fail;
-
-/// The file of one rule, `+ 'a' > 'b'` in line 3, in a group `main` that uses keys: the bytes `one_rule_bytes` of `WorkedFiles` in
-/// `kmx_format`, which were worked out by hand.
-const ONE_RULE: &[u8] = &[
-    0x4B, 0x58, 0x54, 0x53, 0x00, 0x0A, 0x00, 0x00, 0, 0, 0, 0, 0, 0, 0, 0, 0, 0, 0, 0, 0, 0, 0, 0,
-    0, 0, 0, 0, 1, 0, 0, 0, 0, 0, 0, 0, 0x40, 0, 0, 0, 0xFF, 0xFF, 0xFF, 0xFF, 0, 0, 0, 0, 0, 0, 0,
-    0, 0, 0, 0, 0, 0, 0, 0, 0, 0, 0, 0, 0, 0x6C, 0, 0, 0, 0x58, 0, 0, 0, 0, 0, 0, 0, 0, 0, 0, 0, 1,
-    0, 0, 0, 1, 0, 0, 0, 0x61, 0, 0, 0, 3, 0, 0, 0, 0, 0, 0, 0, 0x76, 0, 0, 0, 0, 0, 0, 0, 0x6D, 0,
-    0x61, 0, 0x69, 0, 0x6E, 0, 0, 0, 0x62, 0, 0, 0,
-];
 
 /// An option o that holds `0`, and rules that test and change it; one that puts a mark, and one that takes it.
 const KEYBOARD: &str = "begin Unicode > use(main)\nstore(o) '0'\ngroup(main) using keys\n\
@@ -276,7 +267,7 @@ fn has_value(
 
 /// The name of the first number that is wrong before the first event on the file of one rule.
 fn wrong_number(alloc: Global) -> Result<Option<&'static str>, Fail> {
-    let file = verify(alloc, ONE_RULE)?;
+    let file = verify(alloc, &ONE_RULE)?;
     let session = Session::start(alloc, &file)?;
     for &(number, name, value) in NUMBERS {
         if !has_value(alloc, &session, number, name, value)? {
@@ -312,7 +303,7 @@ fn fresh_puts_b(alloc: Global, session: &Session) -> Result<bool, Fail> {
 
 /// Whether the file of one rule puts a b, in a session and then in a fresh one.
 fn one_rule_puts_b(alloc: Global) -> Result<bool, Fail> {
-    let file = verify(alloc, ONE_RULE)?;
+    let file = verify(alloc, &ONE_RULE)?;
     let mut session = Session::start(alloc, &file)?;
     Ok(puts_b(alloc, &mut session)? && fresh_puts_b(alloc, &session)?)
 }
@@ -361,7 +352,7 @@ fn stays(alloc: Global, session: &mut Session, presses: u32) -> Result<bool, Fai
 
 /// Whether a session stays so with the file of one rule.
 fn stays_far_along(alloc: Global, presses: u32) -> Result<bool, Fail> {
-    let file = verify(alloc, ONE_RULE)?;
+    let file = verify(alloc, &ONE_RULE)?;
     let mut session = Session::start(alloc, &file)?;
     stays(alloc, &mut session, presses)
 }

@@ -6,7 +6,8 @@ mod rows;
 mod shadow_rows;
 mod trace_rows;
 
-use crate::commands::{FILE, ended, folder, sink, write_piece, written_out};
+use crate::commands::{ended, folder, sink, write_piece, written_out};
+use compile_tests::fixtures::ONE_RULE;
 use host_rows::HOST_RUNS;
 use kmn_base::Seq;
 use kmn_outside::MemoryFolder;
@@ -169,7 +170,7 @@ fn is_compiled_to(alloc: Global, file: &[u8]) -> Result<bool, Fail> {
 
 #[test]
 fn first_file(rt: HostRuntime) -> Result<(), Fail> {
-    assert!(rt; is_compiled_to(rt.alloc(), &FILE)?);
+    assert!(rt; is_compiled_to(rt.alloc(), &ONE_RULE)?);
     Ok(())
 }
 
