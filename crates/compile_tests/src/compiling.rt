@@ -4,6 +4,7 @@
 use crate::fixtures::{KEYBOARD, ONE_RULE, with_line};
 use crate::rows::source_of;
 use kmn_compiler::{Compiled, compile, front, picture_name};
+use rule_model::Rule;
 use std::alloc::{AllocError, Global};
 use std::fmt::Write;
 use std::str;
@@ -34,13 +35,20 @@ const LONG: &str =
     r##"A:store(s) '⟨x×1024⟩'¶begin Unicode > use(main)¶group(main) using keys¶⟨+ 'a' > outs(s)¶×32418⟩ ⇒  size 67107424
 A:store(s) '⟨x×1024⟩'¶begin Unicode > use(main)¶group(main) using keys¶⟨+ 'a' > outs(s)¶×32419⟩ ⇒ refused C23 size 67109494"##;
 
+/// A number, and behind its digits the lines of a group's records in their order.
+fn with_lines(digits: u64, rules: &[Rule]) -> u64 {
+    let mut lines = digits;
+    for rule in rules {
+        lines = lines.wrapping_mul(10).wrapping_add(rule.line as u64);
+    }
+    lines
+}
+
 /// The lines of records in their order, as the digits of a number.
 fn record_lines(compiled: &Compiled) -> u64 {
     let mut lines: u64 = 0;
     for group in compiled.tables.groups.as_slice() {
-        for rule in group.rules.as_slice() {
-            lines = lines.wrapping_mul(10).wrapping_add(rule.line as u64);
-        }
+        lines = with_lines(lines, group.rules.as_slice());
     }
     lines
 }

@@ -14,6 +14,14 @@ const MANY: [(&str, &str); 3] = [
     ("any*", "any(v) "),
 ];
 
+/// Puts so many copies of an item.
+fn put_copies(text: &mut String, item: &str, count: u32) -> Result<(), Memory> {
+    for _ in 0..count {
+        text.push_str(item)?;
+    }
+    Ok(())
+}
+
 /// Puts a word, with a blank behind it: `dk*21` are 21 deadkeys, `U+10000*21` so many of that character, `any*21` so many `any`.
 fn put_word(text: &mut String, word: &str) -> Result<(), Memory> {
     for &(front, item) in &MANY {
@@ -22,11 +30,8 @@ fn put_word(text: &mut String, word: &str) -> Result<(), Memory> {
             .unwrap_or("")
             .parse()
             .unwrap_or(0_u32);
-        for _ in 0..count {
-            text.push_str(item)?;
-        }
         if count > 0 {
-            return Ok(());
+            return put_copies(text, item, count);
         }
     }
     text.push_str(word)?;
@@ -34,18 +39,24 @@ fn put_word(text: &mut String, word: &str) -> Result<(), Memory> {
     Ok(())
 }
 
-/// A source of lines that `¶` parts: `H` stands for the start statement and the group.
+/// Puts a line: `H` stands for the start statement and the group.
+fn put_line(text: &mut String, line: &str) -> Result<(), Memory> {
+    if line == "H" {
+        text.push_str(HEAD)?;
+        return Ok(());
+    }
+    for word in line.split(" ") {
+        put_word(text, word)?;
+    }
+    text.push_str("\n")?;
+    Ok(())
+}
+
+/// A source of lines that `¶` parts.
 fn source(alloc: Global, lines: &str) -> Result<String, Memory> {
     let mut text = String::new(alloc);
     for line in lines.split("¶") {
-        if line == "H" {
-            text.push_str(HEAD)?;
-            continue;
-        }
-        for word in line.split(" ") {
-            put_word(&mut text, word)?;
-        }
-        text.push_str("\n")?;
+        put_line(&mut text, line)?;
     }
     Ok(text)
 }

@@ -95,8 +95,8 @@ pub fn sink(alloc: Global, failing: u32) -> Result<MemorySink, AllocError> {
 /// How many files `write_files` writes.
 const FILES: u32 = 7;
 
-/// Writes a compiled file `a.kmx`, a script `a.keys`, and the source as `a.kmn` beside a picture of four bytes, and as `d/a.kmn`
-/// beside one of eight.
+/// Writes a compiled file `a.kmx`, a script `a.keys`, and the source as `a.kmn` beside the pictures `p.ico` and `sample.ico` of
+/// four bytes, and as `d/a.kmn` beside a `p.ico` of eight.
 fn write_files(
     alloc: Global,
     folder: &mut MemoryFolder,

@@ -64,13 +64,20 @@ const CHANGES: &[ChangeRow] = &[
     ("ab", "cd", Change::Edit(4, 4, "\t"), "ab|cd~"),
 ];
 
-/// A text with a caret in it.
-fn editor_of(alloc: Global, left: &str, right: &str) -> Result<Editor, Memory> {
-    let mut editor = Editor::new(alloc);
-    for c in left.chars().chain(right.chars()) {
+/// Puts a text before the caret.
+fn put(alloc: Global, editor: &mut Editor, text: &str) -> Result<(), Memory> {
+    for c in text.chars() {
         editor.reserve(alloc, 1)?;
         editor.apply(0, &[c]);
     }
+    Ok(())
+}
+
+/// A text with a caret in it.
+fn editor_of(alloc: Global, left: &str, right: &str) -> Result<Editor, Memory> {
+    let mut editor = Editor::new(alloc);
+    put(alloc, &mut editor, left)?;
+    put(alloc, &mut editor, right)?;
     for _ in right.chars() {
         editor.reserve(alloc, 1)?;
         editor.passed(KeyPress { code: 37, mods: 0 });
@@ -87,16 +94,20 @@ fn written(c: char) -> char {
     }
 }
 
+/// Appends characters as the table writes them.
+fn put_written(text: &mut String, chars: &[char]) -> Result<(), Memory> {
+    for c in chars {
+        text.push(written(*c))?;
+    }
+    Ok(())
+}
+
 /// A text with its caret as the table writes it.
 fn shown(alloc: Global, editor: &Editor) -> Result<String, Memory> {
     let mut text = String::new(alloc);
-    for c in editor.left() {
-        text.push(written(*c))?;
-    }
+    put_written(&mut text, editor.left())?;
     text.push('|')?;
-    for c in editor.right() {
-        text.push(written(*c))?;
-    }
+    put_written(&mut text, editor.right())?;
     Ok(text)
 }
 

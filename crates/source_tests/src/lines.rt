@@ -2,10 +2,11 @@
 
 ghost use Rattle.std.specs.Prelude.{◌≤◌, length};
 ghost use Rattle.kmn_base.specs.declared.limits.TheConstants.{TEXT_BYTES};
+ghost use Rattle.kmn_lines.specs.Places.{IsPlaced};
 
 use crate::fixtures::source_of;
 use kmn_base::slices::{before, behind};
-use kmn_lines::{Part, lines, parts};
+use kmn_lines::{Logical, Part, lines, parts};
 use std::alloc::{AllocError, Global};
 use std::test::Fail;
 
@@ -63,18 +64,31 @@ fn show_part(alloc: Global, out: &mut Vec<u8>, source: &str, part: Part) -> Resu
     out.extend_from_slice(behind(text, part.from as usize))
 }
 
+/// A line and its parts.
+fn show_line(
+    alloc: Global,
+    out: &mut Vec<u8>,
+    source: &str,
+    logical: Logical,
+) -> Result<(), AllocError>
+    requires few { length source.now ≤ TEXT_BYTES }
+    requires placed { IsPlaced source.now logical }
+{
+    let places = format!(in alloc; "[{} {}..{}", logical.first_line, logical.from, logical.to)?;
+    out.extend_from_slice(places.as_bytes())?;
+    for part in parts(source, logical) {
+        show_part(alloc, out, source, part)?;
+    }
+    out.extend_from_slice(b"]")
+}
+
 /// The lines and parts of a source.
 fn shown(alloc: Global, source: &str) -> Result<Vec<u8>, AllocError>
     requires { length source.now ≤ TEXT_BYTES }
 {
     let mut out = Vec::new(alloc);
     for logical in lines(source) {
-        let places = format!(in alloc; "[{} {}..{}", logical.first_line, logical.from, logical.to)?;
-        out.extend_from_slice(places.as_bytes())?;
-        for part in parts(source, logical) {
-            show_part(alloc, &mut out, source, part)?;
-        }
-        out.push(b']')?;
+        show_line(alloc, &mut out, source, logical)?;
     }
     Ok(out)
 }

@@ -199,13 +199,19 @@ fn write_begin(out: &mut String, begin: &BeginDef) -> Result<(), AllocError> {
     out.push_str(name(&begin.group))
 }
 
-/// Writes the begin statements and groups behind so many lines.
-pub fn write_groups(out: &mut String, opened: u32, program: &Program) -> Result<(), AllocError> {
+/// Writes the begin statements behind so many lines.
+fn write_begins(out: &mut String, opened: u32, program: &Program) -> Result<(), AllocError> {
     for begin in program.begins.as_slice() {
         if opened < begin.line {
             write_begin(out, begin)?;
         }
     }
+    Ok(())
+}
+
+/// Writes the begin statements and groups behind so many lines.
+pub fn write_groups(out: &mut String, opened: u32, program: &Program) -> Result<(), AllocError> {
+    write_begins(out, opened, program)?;
     for group in program.groups.as_slice() {
         write_group(out, opened, group)?;
     }
