@@ -7,7 +7,6 @@ use Rattle.kmn_base.specs.declared.items.Element.{Element}
 use Rattle.kmn_base.specs.declared.items.Element.TheVariants as element
 use Rattle.kmn_base.specs.declared.codes.Code.{Code}
 use Rattle.kmn_base.specs.declared.codes.Code.TheVariants.{V01, V02, V03, V04, V05, V06, V07, V08, V09, V10, V11, V12, V13, V14, V15, V16}
-use Rattle.call_numbers.specs.declared.TheConstants.{MARK, KEY}
 
 -- the room after numbers were written over its beginning, as many as it has place for; what is behind them stays
 abbrev pub written : List ℕ → List ℕ → List ℕ
@@ -15,16 +14,16 @@ written [] room = room
 written (n ∷ numbers) [] = []
 written (n ∷ numbers) (old ∷ room) = n ∷ written numbers room
 
--- an item before the caret: a character is its code point, and a deadkey's mark is told from all of those
+-- an item before the caret: a character is its code point, and a deadkey's mark is told from all of those, which end at 0x10_FFFF
 abbrev pub item_number : Item → ℕ
 item_number (item.Char c) = c
-item_number (item.Mark m) = MARK + m
+item_number (item.Mark m) = 0x8000_0000 + m
 
 -- an element of an option's value likewise; a virtual key, which equals no item, is told by its code
 abbrev pub element_number : Element → ℕ
 element_number (element.Char c) = c
-element_number (element.Mark m) = MARK + m
-element_number (element.Key flags code) = KEY + code
+element_number (element.Mark m) = 0x8000_0000 + m
+element_number (element.Key flags code) = 0x9000_0000 + code
 
 abbrev pub item_numbers : List Item → List ℕ
 item_numbers items = map item_number items
