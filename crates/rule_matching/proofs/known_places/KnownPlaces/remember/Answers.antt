@@ -22,7 +22,7 @@ returns-then-distance-lt-WINDOW_ITEMS-clause-others c = λ s d other.
     let within : c.args.store < length stores = omega arith in
     let was : slice_get stores c.args.store ≡ Some before = slice_get-get_or stores c.args.store before within ∙ ap Some (sym c.index_mut.ensures.value) in
     let stay : known_of c.self.inside.choice (slice_get (set stores c.args.store c.write.new.self) s) d ≡ known_of c.self.inside.choice (slice_get stores s) d =
-        others_stay_remembered c.self.inside.choice c.args.store c.args.distance stores before c.write.new.self within was c.write.ensures.others s d other in
+    others_stay_remembered c.self.inside.choice c.args.store c.args.distance stores before c.write.new.self within was c.write.ensures.others s d other in
     stay ∙ ap (λ (m : Remembered). known_place m s d) c.self.view_is
 
 pub returns-then-distance-lt-WINDOW_ITEMS-clause-known : goal.returns-then-distance-lt-WINDOW_ITEMS-clause-known
