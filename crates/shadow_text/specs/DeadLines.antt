@@ -43,7 +43,8 @@ dead_among all = filter (is_dead all) (rule_lines all)
 unfoldable pub dead_lines : Tables → List ℕ
 dead_lines tables = dead_among (verdicts tables)
 
--- a dead rule, and the lines that were found for its records: wherever it would hold, a rule of one of them comes first
+-- a dead rule, and the lines that were found for its records: wherever it would hold, a rule of one of them holds too
+-- and comes before it
 abbrev pub dead_line : List Verdict → ℕ → List ℕ
 dead_line all line =
     concat (codes "dead " ∷ decimal line ∷ codes " by " ∷ joined (map decimal (lines_before all line)) ∷ codes "\n" ∷ [])
