@@ -1,11 +1,14 @@
 //! The program of the exporter: it makes of a compiled file one that Keyman's own engine plays.
 //!
-//! It stands on `program_words` for the words of the call, and on `export_run`, whose `export_run` reads, exports and writes over a
-//! folder and a sink. `main` calls it over the real files and standard output by `run_words`, which promises what it does (`Runs`).
+//! It stands on `export_run`, whose `export_run` reads, exports and writes over a folder and a sink, and on `keyman_status`, whose
+//! `status_number` is the exit status. `main` is one call of `run_words`, over the real files and standard output with the words of
+//! the call.
 #![tactic(auto)]
 
 ghost use Rattle.std.specs.Prelude.{◌≡◌, IfErr, IfOk};
+ghost use Rattle.std.specs.Process.{exit_status};
 ghost use Rattle.export_run.specs.Runs.{Runs};
+ghost use Rattle.keyman_status.specs.Status.{status_number};
 
 use export_run::{Status, export_run};
 use kmn_base::{Memory, Seq, Text};
@@ -14,28 +17,28 @@ use program_words::words;
 use std::alloc::Global;
 use std::process::ExitCode;
 
-/// Does what the words ask for. Without memory for the words nothing is asked for and nothing printed.
+/// Does what the words ask for, and answers the exit status of the process. Without memory for the words nothing is asked for and
+/// nothing printed.
 fn run_words<F: Folder, S: Sink>(
     alloc: Global,
     words: Result<Seq<Text>, Memory>,
     folder: &mut F,
     out: &mut S,
-) -> Status
-    ensures runs { IfOk words (λ said. Runs said F.Folder folder.old folder.new S.Sink out.old out.new result) }
-    ensures unread { IfErr words (λ _. (result ≡ Status.Memory) × (folder.new ≡ folder.old) × (out.new ≡ out.old)) }
+) -> ExitCode
+    ensures runs { IfOk words (λ said. (how : Status) × Runs said F.Folder folder.old folder.new S.Sink out.old out.new how × (exit_status result ≡ status_number how)) }
+    ensures unread { IfErr words (λ _. (exit_status result ≡ status_number Status.Memory) × (folder.new ≡ folder.old) × (out.new ≡ out.old)) }
 {
     match words {
-        Ok(words) => export_run(alloc, words.as_slice(), folder, out),
-        Err(Memory) => Status::Memory,
+        Ok(words) => export_run(alloc, words.as_slice(), folder, out).exit_code(),
+        Err(Memory) => Status::Memory.exit_code(),
     }
 }
 
 fn main(rt: HostRuntime) -> ExitCode {
-    let status = run_words(
+    run_words(
         rt.alloc(),
         words(&rt),
         &mut DiskFolder::new(&rt),
         &mut StreamSink::new(rt.stdout()),
-    );
-    ExitCode::from(status.number())
+    )
 }

@@ -1,8 +1,8 @@
 //! How a run ends: its status, and the line that is printed before it.
 //!
 //! It stands on `play_transcript`, which puts a line whole, and on `kmn_outside` for the sink. The runs above end by `tell_line`,
-//! whose clause `Tells` (`specs/Tells`) says by status what was printed, and by `write_status`; `specs/Seen` is what their
-//! contracts see of a folder and a sink.
+//! whose clause `Tells` (`specs/Tells`) says by status what was printed, and by `write_status`, and the programs by `exit_code` of a
+//! status; `specs/Seen` is what their contracts see of a folder and a sink.
 #![tactic(auto)]
 
 mod printing;

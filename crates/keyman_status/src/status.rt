@@ -1,5 +1,8 @@
 ghost use Rattle.std.specs.Prelude.{◌≡◌};
+ghost use Rattle.std.specs.Process.{exit_status};
 ghost use Rattle.keyman_status.specs.Status.{status_number};
+
+use std::process::ExitCode;
 
 /// How a run ended.
 #[derive(Clone, Copy, Debug, PartialEq, Eq)]
@@ -30,5 +33,12 @@ impl Status {
             Status::Memory => 5,
             Status::ExpectFailed => 6,
         }
+    }
+
+    /// What the process ends with after a run that ended so.
+    pub fn exit_code(self) -> ExitCode
+        ensures { exit_status result ≡ status_number self }
+    {
+        ExitCode::from(self.number())
     }
 }
