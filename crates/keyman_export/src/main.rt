@@ -1,7 +1,7 @@
 //! The program of the exporter: it makes of a compiled file one that Keyman's own engine plays.
 //!
-//! It stands on `export_run`, whose `export_run` reads, exports and writes over a folder and a sink, and on `keyman_status`, whose
-//! `status_number` is the exit status. `main` is one call of `run_words`, over the real files and standard output with the words of
+//! It stands on `program_words` for the words of the call, on `export_run`, whose `export_run` reads, exports and writes over a folder
+//! and a sink, and on `keyman_status`, whose `status_number` is the exit status. `main` is one call of `run_words`, over the real files and standard output with the words of
 //! the call.
 #![tactic(auto)]
 

@@ -1,7 +1,7 @@
 //! The program: it compiles keyboard sources, verifies compiled files, decompiles them and plays key presses on them.
 //!
-//! It stands on `keyman_run`, whose `run` does one command over a folder and a sink, and on `keyman_status`, whose `status_number`
-//! is the exit status. `main` is one call of `run_words`, over the real files and standard output with the words of the call.
+//! It stands on `program_words` for the words of the call, on `keyman_run`, whose `run` does one command over a folder and a sink,
+//! and on `keyman_status`, whose `status_number` is the exit status. `main` is one call of `run_words`, over the real files and standard output with the words of the call.
 #![tactic(auto)]
 
 ghost use Rattle.std.specs.Prelude.{◌≡◌, IfErr, IfOk};
