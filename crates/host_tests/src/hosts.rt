@@ -4,7 +4,7 @@ use crate::fixtures::KEYBOARD;
 use kmn_base::{Event, KeyPress};
 use kmn_compiler::compile;
 use kmx_verifier::{Verified, verify};
-use std::alloc::Global;
+use std::alloc::{AllocError, Global};
 use std::test::Fail;
 use text_host::{HOST_FIELDS, Host, HostError};
 
@@ -86,5 +86,27 @@ fn is_right(alloc: Global) -> Result<bool, Fail> {
 #[test]
 fn fields_of_a_host(rt: HostRuntime) -> Result<(), Fail> {
     assert!(rt; is_right(rt.alloc())?);
+    Ok(())
+}
+
+/// Errors, and how they are printed.
+const PRINTED: &[(HostError, &str)] = &[
+    (HostError::NoField, "no such field"),
+    (HostError::Full, "no room for another field"),
+    (HostError::Place, "refused E1"),
+    (HostError::Length, "refused E2"),
+    (HostError::Memory, "out of memory"),
+];
+
+/// Whether an error is printed so.
+fn is_printed(alloc: Global, error: &HostError, wanted: &str) -> Result<bool, AllocError> {
+    Ok(format!(in alloc; "{error}")?.as_str() == wanted)
+}
+
+#[test]
+fn host_errors(rt: HostRuntime) -> Result<(), Fail> {
+    for (error, wanted) in PRINTED {
+        assert!(rt; is_printed(rt.alloc(), error, wanted)?, "{wanted}");
+    }
     Ok(())
 }

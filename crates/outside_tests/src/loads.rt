@@ -1,7 +1,7 @@
 //! Loads, and the numbers that have none.
 
 use load_maker::{LoadError, make};
-use std::alloc::Global;
+use std::alloc::{AllocError, Global};
 use std::test::Fail;
 
 /// The source and the script of the load of 1.
@@ -40,6 +40,25 @@ fn loads(rt: HostRuntime) -> Result<(), Fail> {
     assert!(rt; is_made(rt.alloc())?);
     for &(n, sizes) in SIZES {
         assert!(rt; has_sizes(rt.alloc(), n, sizes), "{n}");
+    }
+    Ok(())
+}
+
+/// Errors, and how they are printed.
+const PRINTED: &[(LoadError, &str)] = &[
+    (LoadError::Range, "refused G1"),
+    (LoadError::Memory, "out of memory"),
+];
+
+/// Whether an error is printed so.
+fn is_printed(alloc: Global, error: &LoadError, wanted: &str) -> Result<bool, AllocError> {
+    Ok(format!(in alloc; "{error}")?.as_str() == wanted)
+}
+
+#[test]
+fn load_errors(rt: HostRuntime) -> Result<(), Fail> {
+    for (error, wanted) in PRINTED {
+        assert!(rt; is_printed(rt.alloc(), error, wanted)?, "{wanted}");
     }
     Ok(())
 }

@@ -8,7 +8,7 @@ use kmx_verifier::{Verified, verify};
 use meaning_tests::events::{event, put_items};
 use meaning_tests::fixtures::compiled;
 use play_session::{Change, Session, StepError};
-use std::alloc::Global;
+use std::alloc::{AllocError, Global};
 use std::str;
 use std::test::Fail;
 
@@ -360,5 +360,25 @@ fn stays_far_along(alloc: Global, presses: u32) -> Result<bool, Fail> {
 #[test]
 fn many_presses_in_a_long_text(rt: HostRuntime) -> Result<(), Fail> {
     assert!(rt; stays_far_along(rt.alloc(), 99_000)?);
+    Ok(())
+}
+
+/// Errors, and how they are printed.
+const PRINTED: &[(StepError, &str)] = &[
+    (StepError::Place, "refused E1"),
+    (StepError::Length, "refused E2"),
+    (StepError::Memory, "out of memory"),
+];
+
+/// Whether an error is printed so.
+fn is_printed(alloc: Global, error: &StepError, wanted: &str) -> Result<bool, AllocError> {
+    Ok(format!(in alloc; "{error}")?.as_str() == wanted)
+}
+
+#[test]
+fn step_errors(rt: HostRuntime) -> Result<(), Fail> {
+    for (error, wanted) in PRINTED {
+        assert!(rt; is_printed(rt.alloc(), error, wanted)?, "{wanted}");
+    }
     Ok(())
 }

@@ -2,7 +2,7 @@
 
 use editor_model::{EditError, Editor};
 use kmn_base::{KeyPress, Memory};
-use std::alloc::Global;
+use std::alloc::{AllocError, Global};
 use std::test::Fail;
 
 /// What is done to a text with a caret.
@@ -197,5 +197,25 @@ fn replaces_two(alloc: Global) -> Result<bool, Fail> {
 fn long_texts_and_copies(rt: HostRuntime) -> Result<(), Fail> {
     assert!(rt; keeps_its_length(rt.alloc())?);
     assert!(rt; replaces_two(rt.alloc())?);
+    Ok(())
+}
+
+/// Errors, and how they are printed.
+const PRINTED: &[(EditError, &str)] = &[
+    (EditError::Place, "refused E1"),
+    (EditError::Length, "refused E2"),
+    (EditError::Memory, "out of memory"),
+];
+
+/// Whether an error is printed so.
+fn is_printed(alloc: Global, error: &EditError, wanted: &str) -> Result<bool, AllocError> {
+    Ok(format!(in alloc; "{error}")?.as_str() == wanted)
+}
+
+#[test]
+fn edit_errors(rt: HostRuntime) -> Result<(), Fail> {
+    for (error, wanted) in PRINTED {
+        assert!(rt; is_printed(rt.alloc(), error, wanted)?, "{wanted}");
+    }
     Ok(())
 }

@@ -352,3 +352,28 @@ fn lines_of_a_transcript(rt: HostRuntime) -> Result<(), Fail> {
     assert!(rt; are_other_lines(rt.alloc())?);
     Ok(())
 }
+
+/// Errors, and how they are printed.
+const PRINTED: &[(ScriptError, &str)] = &[
+    (
+        ScriptError::Refused(Refusal {
+            code: Code::P02,
+            line: 4,
+        }),
+        "refused P02 line 4",
+    ),
+    (ScriptError::Memory, "out of memory"),
+];
+
+/// Whether an error is printed so.
+fn is_printed(alloc: Global, error: &ScriptError, wanted: &str) -> Result<bool, AllocError> {
+    Ok(format!(in alloc; "{error}")?.as_str() == wanted)
+}
+
+#[test]
+fn script_errors(rt: HostRuntime) -> Result<(), Fail> {
+    for (error, wanted) in PRINTED {
+        assert!(rt; is_printed(rt.alloc(), error, wanted)?, "{wanted}");
+    }
+    Ok(())
+}
