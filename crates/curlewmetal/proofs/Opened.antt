@@ -7,10 +7,9 @@ use Rattle.call_numbers.specs.Numbers.{written, element_numbers}
 use Rattle.play_session.specs.Session.{SessionState}
 use Rattle.curlew_calls.specs.declared.errors.CallError.{CallError}
 use Rattle.curlew_calls.specs.declared.errors.CallError.TheVariants.{Memory, Place, Length, Character, NoOption}
-use Rattle.curlewmetal.specs.Answers.{error_number, Told, Because, Answers}
-use Rattle.curlewmetal.specs.declared.answers.TheConstants.{OK, CLOSED, NONE}
+use Rattle.curlewmetal.specs.Answers.{ok_answer, closed_answer, none_answer, error_number, Told, Because, Answers}
 
-pub closed : (held : Option SessionState) (answer : ℕ) (done : SessionState → Type 0) (stays : Type 0) (cause : SessionState → CallError → Type 0) → None ≡ held → answer ≡ CLOSED → stays → Answers held answer done stays cause
+pub closed : (held : Option SessionState) (answer : ℕ) (done : SessionState → Type 0) (stays : Type 0) (cause : SessionState → CallError → Type 0) → None ≡ held → answer ≡ closed_answer → stays → Answers held answer done stays cause
 closed held answer done stays cause is answered so = subst (λ (h : Option SessionState). Answers h answer done stays cause) is (answered, so)
 
 pub opened : (session : SessionState) (held : Option SessionState) (answer : ℕ) (done : SessionState → Type 0) (stays : Type 0) (cause : SessionState → CallError → Type 0) → Some session ≡ held
@@ -41,12 +40,12 @@ told_of_some found before shut open_one is so = told_of_opened found before shut
 
 -- a value that was told, and one that there is none of
 pub value_told : (value : Option (List Element)) (answer count : ℕ) (room old : List ℕ) (shut : Type 0) → Some count ≡ option_map length value
-    → room ≡ written (element_numbers (unwrap_or value [])) old → answer ≡ OK
-    → MatchOption value shut (λ elements. (answer ≡ OK) × (count ≡ length elements) × (room ≡ written (element_numbers elements) old))
+    → room ≡ written (element_numbers (unwrap_or value [])) old → answer ≡ ok_answer
+    → MatchOption value shut (λ elements. (answer ≡ ok_answer) × (count ≡ length elements) × (room ≡ written (element_numbers elements) old))
 value_told None answer count room old shut is wrote so = absurd (none-some count (sym is))
 value_told (Some elements) answer count room old shut is wrote so = (so, same_Some count (length elements) is, wrote)
 
 pub no_value_told : (value : Option (List Element)) (answer count : ℕ) (room old : List ℕ) (open_one : List Element → Type 0) → None ≡ option_map length value
-    → room ≡ written (element_numbers (unwrap_or value [])) old → answer ≡ NONE → MatchOption value ((answer ≡ NONE) × (count ≡ count) × (room ≡ old)) open_one
+    → room ≡ written (element_numbers (unwrap_or value [])) old → answer ≡ none_answer → MatchOption value ((answer ≡ none_answer) × (count ≡ count) × (room ≡ old)) open_one
 no_value_told None answer count room old open_one is wrote so = (so, refl, wrote)
 no_value_told (Some elements) answer count room old open_one is wrote so = absurd (none-some (length elements) is)

@@ -4,8 +4,7 @@ ghost use Rattle.std.specs.Prelude.{◌≡◌, None, Some, MatchOption, MatchRes
 ghost use Rattle.kmx_format.specs.TablesOf.{tables_of};
 ghost use Rattle.kmx_verifier.specs.FaultOf.{fault_of};
 ghost use Rattle.play_session.specs.Session.{first_session};
-ghost use Rattle.curlewmetal.specs.Answers.{UnlessMemory, fault_numbers};
-ghost use Rattle.curlewmetal.specs.declared.answers.TheConstants.{OK, REFUSED, CLOSED};
+ghost use Rattle.curlewmetal.specs.Answers.{ok_answer, refused_answer, closed_answer, UnlessMemory, fault_numbers};
 
 use crate::answers::{CLOSED, FaultNumbers, MEMORY, OK, REFUSED, fault_numbers};
 use crate::field::Field;
@@ -46,8 +45,8 @@ pub extern "C" fn curlew_open(
     fault: &mut FaultNumbers,
 ) -> u32
     ensures { UnlessMemory result ((field.new.held ≡ field.old.held) × (fault.new ≡ fault.old)) (MatchOption (fault_of file.now)
-        ((result ≡ OK) × (field.new.held ≡ Some (first_session (tables_of file.now))) × (fault.new ≡ fault.old))
-        (λ found. (result ≡ REFUSED) × (field.new.held ≡ field.old.held) × (fault.new ≡ fault_numbers found))) }
+        ((result ≡ ok_answer) × (field.new.held ≡ Some (first_session (tables_of file.now))) × (fault.new ≡ fault.old))
+        (λ found. (result ≡ refused_answer) × (field.new.held ≡ field.old.held) × (fault.new ≡ fault_numbers found))) }
 {
     let held = match OpenField::open(alloc, file) {
         Ok(held) => held,
@@ -69,8 +68,8 @@ pub extern "C" fn curlew_open(
 #[unsafe(no_mangle)]
 pub extern "C" fn curlew_copy(alloc: Global, field: &mut Field, other: &mut Field) -> u32
     ensures stays { field.new.held ≡ field.old.held }
-    ensures told { MatchOption field.old.held ((result ≡ CLOSED) × (other.new.held ≡ other.old.held))
-        (λ session. UnlessMemory result (other.new.held ≡ other.old.held) ((result ≡ OK) × (other.new.held ≡ Some session))) }
+    ensures told { MatchOption field.old.held ((result ≡ closed_answer) × (other.new.held ≡ other.old.held))
+        (λ session. UnlessMemory result (other.new.held ≡ other.old.held) ((result ≡ ok_answer) × (other.new.held ≡ Some session))) }
 {
     let Some(held) = field.take(alloc) else {
         return CLOSED;

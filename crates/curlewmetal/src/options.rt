@@ -8,8 +8,7 @@ ghost use Rattle.play_session.specs.Session.{after_step};
 ghost use Rattle.call_numbers.specs.Numbers.{written, bit, element_numbers};
 ghost use Rattle.curlew_calls.specs.Answers.{IsSettingCause};
 ghost use Rattle.curlew_calls.specs.Calls.{knows_option};
-ghost use Rattle.curlewmetal.specs.Answers.{Answers, UnlessMemory, is_set};
-ghost use Rattle.curlewmetal.specs.declared.answers.TheConstants.{OK, CLOSED, NONE};
+ghost use Rattle.curlewmetal.specs.Answers.{ok_answer, closed_answer, none_answer, Answers, UnlessMemory, is_set};
 
 use crate::answers::{CLOSED, MEMORY, NONE, OK, error_number};
 use crate::field::Field;
@@ -48,9 +47,9 @@ pub extern "C" fn curlew_change(
     saved: &mut u32,
 ) -> u32
     ensures stays { field.new.held ≡ field.old.held }
-    ensures told { MatchOption field.old.held ((result ≡ CLOSED) × (store.new ≡ store.old) × (saved.new ≡ saved.old))
-        (λ session. MatchOption (slice_get session.changes n) ((result ≡ NONE) × (store.new ≡ store.old) × (saved.new ≡ saved.old))
-        (λ change. (result ≡ OK) × (store.new ≡ change.store) × (saved.new ≡ bit change.saved))) }
+    ensures told { MatchOption field.old.held ((result ≡ closed_answer) × (store.new ≡ store.old) × (saved.new ≡ saved.old))
+        (λ session. MatchOption (slice_get session.changes n) ((result ≡ none_answer) × (store.new ≡ store.old) × (saved.new ≡ saved.old))
+        (λ change. (result ≡ ok_answer) × (store.new ≡ change.store) × (saved.new ≡ bit change.saved))) }
 {
     let Some(held) = field.take(alloc) else {
         return CLOSED;
@@ -79,9 +78,9 @@ pub extern "C" fn curlew_option_name(
     count: &mut usize,
 ) -> u32
     ensures stays { field.new.held ≡ field.old.held }
-    ensures told { MatchOption field.old.held ((result ≡ CLOSED) × (count.new ≡ count.old) × (room.new ≡ room.old))
+    ensures told { MatchOption field.old.held ((result ≡ closed_answer) × (count.new ≡ count.old) × (room.new ≡ room.old))
         (λ session. UnlessMemory result ((count.new ≡ count.old) × (room.new ≡ room.old))
-        ((result ≡ OK) × (count.new ≡ length (name_of session.tables store)) × (room.new ≡ written (name_of session.tables store) room.old))) }
+        ((result ≡ ok_answer) × (count.new ≡ length (name_of session.tables store)) × (room.new ≡ written (name_of session.tables store) room.old))) }
 {
     let Some(held) = field.take(alloc) else {
         return CLOSED;
@@ -110,10 +109,10 @@ pub extern "C" fn curlew_option_value(
     count: &mut usize,
 ) -> u32
     ensures stays { field.new.held ≡ field.old.held }
-    ensures told { MatchOption field.old.held ((result ≡ CLOSED) × (count.new ≡ count.old) × (room.new ≡ room.old))
+    ensures told { MatchOption field.old.held ((result ≡ closed_answer) × (count.new ≡ count.old) × (room.new ≡ room.old))
         (λ session. UnlessMemory result ((count.new ≡ count.old) × (room.new ≡ room.old)) (MatchOption (value_of session store (is_set saved))
-        ((result ≡ NONE) × (count.new ≡ count.old) × (room.new ≡ room.old))
-        (λ value. (result ≡ OK) × (count.new ≡ length value) × (room.new ≡ written (element_numbers value) room.old)))) }
+        ((result ≡ none_answer) × (count.new ≡ count.old) × (room.new ≡ room.old))
+        (λ value. (result ≡ ok_answer) × (count.new ≡ length value) × (room.new ≡ written (element_numbers value) room.old)))) }
 {
     let Some(held) = field.take(alloc) else {
         return CLOSED;
