@@ -19,7 +19,6 @@ pub struct Opaque {
 
 /// A handle. To C it is one pointer, which is null where no field is open.
 #[repr(C)]
-#[derive(Drop)]
 pub struct Field {
     at: *mut Opaque,
     alloc: Global,
@@ -28,6 +27,12 @@ pub struct Field {
 
 impl Model for Field {
     ghost also_owns = { λ f. held_owns f.alloc f.at f.held };
+}
+
+impl Drop for Field {
+    fn drop(self) {
+        let _closed = self.into_box();
+    }
 }
 
 impl Field {

@@ -12,7 +12,6 @@ use curlew_calls::OpenField;
 use kmn_base::Memory;
 use kmx_verifier::VerifyError;
 use std::alloc::Global;
-use std::mem;
 
 /// The version of these calls: a program that was compiled against another header than the library is told apart by it.
 const VERSION: u32 = 1;
@@ -22,7 +21,7 @@ fn put(alloc: Global, handle: &mut Field, field: OpenField) -> Result<(), Memory
     ensures { MatchResult result (λ _. handle.new.held ≡ Some field) (λ _. handle.new.held ≡ handle.old.held) }
 {
     let held = Box::new(alloc, field)?;
-    let _closed = mem::replace(handle, Field::of(held)).into_box();
+    *handle = Field::of(held);
     Ok(())
 }
 
