@@ -1,10 +1,10 @@
 -- Each field of a play answers the steps of the trace of its own events.
-use Rattle.std.proofs.Common.{◌≡◌, ◌≢◌, ℕ, zero, suc, ◌+◌, Bool, true, false, eqb, cond, List, [], ◌∷◌, ◌++◌, length, set, slice_get, refl, sym, ap, ◌∙◌, subst, inl, inr, arith, length-set, length-append}
+use Rattle.std.proofs.Common.{◌≡◌, ◌≢◌, ℕ, zero, suc, ◌+◌, ◌<◌, ◌≤◌, Bool, true, false, eqb, cond, List, [], ◌∷◌, ◌++◌, length, set, slice_get, refl, sym, ap, ◌∙◌, subst, inl, inr, arith, length-set, length-append, leb-true, leb-false}
 use Rattle.std.specs.Prelude.{nat_le, Option, Some, None}
 use Rattle.std.specs.Str.{bytes_eq}
 use Rattle.std.proofs.lemmas.Bool.{eqb-true}
 use Rattle.std.proofs.lemmas.Bool.Decides.{eqb_tells}
-use Rattle.std.proofs.lemmas.Option.{slice_get_past}
+use Rattle.std.proofs.lemmas.Option.{slice_get_past, slice_get_within}
 use Rattle.kmn_base.specs.declared.codes.Code.{Code}
 use Rattle.kmn_base.specs.declared.events.Event.{Event}
 use Rattle.kmn_base.specs.declared.events.Event.TheVariants as event
@@ -60,6 +60,12 @@ with_same host (suc place) session is = ap (λ (sessions : List SessionState). r
 past_last : (host : HostState) (field opens : ℕ) → field ≡ suc (length host.sessions + opens) → field_of host field ≡ None
 past_last host field opens is = ap (field_of host) is ∙ slice_get_past host.sessions (length host.sessions + opens) (omega arith)
 
+-- its number passes 64 where there is no room for one more
+no_room : (host : HostState) (field opens : ℕ) → field ≡ suc (length host.sessions + opens) → field ≤ HOST_FIELDS → nat_le HOST_FIELDS (length host.sessions) ≡ true → ⊥
+no_room host field opens is few full =
+    let room : HOST_FIELDS ≤ length host.sessions = leb-true HOST_FIELDS (length host.sessions) full in
+    omega (arith, is, few, room)
+
 none_behind : (calls : List HostCall) → calls_behind 0 calls ≡ calls
 none_behind [] = refl
 none_behind (call ∷ calls) = refl
@@ -71,7 +77,7 @@ abbrev Answers : ℕ → List HostEntry → Play → Type 0
 Answers field entries play = (session : SessionState) → field_of play.host field ≡ Some session → steps_left field play entries ≡ answered_from field session (calls_left play entries)
 
 module _ (field : ℕ) (entries : List HostEntry) (more : (play : Play) → Answers field entries play) (play : Play) (session : SessionState) (there : field_of play.host field ≡ Some session) where
-  open_add : (full : Bool) → steps_left field (cond full play (wider play)) entries ≡ answered_from field session (cond full [] (Opens ∷ []) ++ calls_left (cond full play (wider play)) entries)
+  open_add : (full : Bool) → steps_left field (cond full play (wider play)) entries ≡ answered_from field session (calls_left (cond full play (wider play)) entries)
   open_add true = more play session there
   open_add false = more (wider play) session (opened play.host field session there)
 
@@ -161,10 +167,10 @@ module _ (field : ℕ) (tables : Tables) (entries : List HostEntry) (more : (pla
   new_opened (suc opens) is = more (wider play) opens (wider_count opens is) over
 
   module _ (opens : ℕ) (is : field ≡ suc (length play.host.sessions + opens)) where
-    new_add : (full : Bool) → steps_left field (cond full play (wider play)) entries
-        ≡ answered_from field (first_session tables) (calls_behind (suc opens) (cond full [] (Opens ∷ []) ++ calls_left (cond full play (wider play)) entries))
-    new_add true = more play opens is over
-    new_add false = new_opened opens is
+    new_add : field ≤ HOST_FIELDS → (full : Bool) → nat_le HOST_FIELDS (length play.host.sessions) ≡ full → steps_left field (cond full play (wider play)) entries
+        ≡ answered_from field (first_session tables) (calls_behind opens (calls_left (cond full play (wider play)) entries))
+    new_add few true full = absurd (no_room play.host field opens is few full)
+    new_add few false full = new_opened opens is
 
     new_unless : (refusal : Option Code) (next : Play) → field ≡ suc (length next.host.sessions + opens) → next.host.tables ≡ tables
         → rest_unless refusal (steps_left field next entries) ≡ answered_from field (first_session tables) (calls_behind (suc opens) (rest_unless refusal (calls_left next entries)))
@@ -203,15 +209,17 @@ module _ (field : ℕ) (tables : Tables) (entries : List HostEntry) (more : (pla
     not_turned : eqb play.field field ≡ true → turned_to play ≡ None
     not_turned same = ap (field_of play.host) (eqb-true play.field field same) ∙ past_last play.host field opens is
 
-new_steps : (field : ℕ) (tables : Tables) (entries : List HostEntry) (play : Play) → WillAnswer field tables entries play
-new_steps field tables [] play opens is over = refl
-new_steps field tables (Add line ∷ entries) play opens is over = new_add field tables entries (new_steps field tables entries) play over opens is (nat_le HOST_FIELDS (length play.host.sessions))
-new_steps field tables (Turn line other ∷ entries) play opens is over = new_steps field tables entries (record play { field = other }) opens is over
-new_steps field tables (Show line press ∷ entries) play opens is over = new_show field tables entries (new_steps field tables entries) play over opens is press (turned_to play)
-new_steps field tables (Act line event ∷ entries) play opens is over =
-    new_act field tables entries (new_steps field tables entries) play over opens is event (eqb play.field field) (turned_to play)
-    (not_turned field tables entries (new_steps field tables entries) play over opens is)
-new_steps field tables (Expect line text ∷ entries) play opens is over = new_expect field tables entries (new_steps field tables entries) play over opens is text (turned_to play)
+-- so it is of each number that a host has room for
+new_steps : (field : ℕ) (tables : Tables) → field ≤ HOST_FIELDS → (entries : List HostEntry) (play : Play) → WillAnswer field tables entries play
+new_steps field tables few [] play opens is over = refl
+new_steps field tables few (Add line ∷ entries) play opens is over =
+    new_add field tables entries (new_steps field tables few entries) play over opens is few (nat_le HOST_FIELDS (length play.host.sessions)) refl
+new_steps field tables few (Turn line other ∷ entries) play opens is over = new_steps field tables few entries (record play { field = other }) opens is over
+new_steps field tables few (Show line press ∷ entries) play opens is over = new_show field tables entries (new_steps field tables few entries) play over opens is press (turned_to play)
+new_steps field tables few (Act line event ∷ entries) play opens is over =
+    new_act field tables entries (new_steps field tables few entries) play over opens is event (eqb play.field field) (turned_to play)
+    (not_turned field tables entries (new_steps field tables few entries) play over opens is)
+new_steps field tables few (Expect line text ∷ entries) play opens is over = new_expect field tables entries (new_steps field tables few entries) play over opens is text (turned_to play)
 
 -- ---- the hosts behind entries and behind their calls
 
@@ -219,7 +227,7 @@ abbrev LeavesHost : List HostEntry → Play → Type 0
 LeavesHost entries play = (after_entries play entries).host ≡ after_calls play.host (calls_left play entries)
 
 module _ (entries : List HostEntry) (more : (play : Play) → LeavesHost entries play) (play : Play) where
-  host_add : (full : Bool) → (after_entries (cond full play (wider play)) entries).host ≡ after_calls play.host (cond full [] (Opens ∷ []) ++ calls_left (cond full play (wider play)) entries)
+  host_add : (full : Bool) → (after_entries (cond full play (wider play)) entries).host ≡ after_calls (cond full play.host (with_new_field play.host)) (calls_left (cond full play (wider play)) entries)
   host_add true = more play
   host_add false = more (wider play)
 
@@ -277,27 +285,55 @@ session_of_some a b same = cc
 none_isnt : (session : SessionState) → None ≡ Some session → ⊥
 none_isnt session same = cc
 
+-- calls leave no more fields than a host has room for
+few_opened : (host : HostState) (full : Bool) → nat_le HOST_FIELDS (length host.sessions) ≡ full → length host.sessions ≤ HOST_FIELDS
+    → length (cond full host (with_new_field host)).sessions ≤ HOST_FIELDS
+few_opened host true is few = few
+few_opened host false is few =
+    let room : length host.sessions < HOST_FIELDS = leb-false HOST_FIELDS (length host.sessions) is in
+    omega (arith, room, length-append host.sessions (first_session host.tables ∷ []))
+
+few_after : (calls : List HostCall) (host : HostState) → length host.sessions ≤ HOST_FIELDS → length (after_calls host calls).sessions ≤ HOST_FIELDS
+few_after [] host few = few
+few_after (Opens ∷ calls) host few =
+    let full : Bool = nat_le HOST_FIELDS (length host.sessions) in
+    few_after calls (cond full host (with_new_field host)) (few_opened host full refl few)
+few_after (Turns field event ∷ calls) host few =
+    few_after calls (turned field event (field_of host field) host) (subst (λ (n : ℕ). n ≤ HOST_FIELDS) (sym (turned_count host field event (field_of host field))) few)
+
+few_there : (host : HostState) (place : ℕ) (session : SessionState) → length host.sessions ≤ HOST_FIELDS → field_of host (suc place) ≡ Some session → suc place ≤ HOST_FIELDS
+few_there host place session few there =
+    let within : place < length host.sessions = slice_get_within host.sessions place session there in
+    omega (arith, within, few)
+
 abbrev HasSession : ℕ → Tables → List HostCall → Type 0
 HasSession field tables calls = (host : HostState) (opens : ℕ) (session : SessionState) → field ≡ suc (length host.sessions + opens) → host.tables ≡ tables
     → field_of (after_calls host calls) field ≡ Some session → session ≡ session_after field (first_session tables) (calls_behind (suc opens) calls)
 
-opens_session : (field : ℕ) (tables : Tables) (calls : List HostCall) → HasSession field tables calls → (host : HostState) (opens : ℕ) (session : SessionState)
+begins_session : (field : ℕ) (tables : Tables) (calls : List HostCall) → HasSession field tables calls → (host : HostState) (opens : ℕ) (session : SessionState)
     → field ≡ suc (length host.sessions + opens) → host.tables ≡ tables → field_of (after_calls (with_new_field host) calls) field ≡ Some session
     → session ≡ session_after field (first_session tables) (calls_behind opens calls)
-opens_session field tables calls more host zero session is over there =
+begins_session field tables calls more host zero session is over there =
     let place : field ≡ length host.sessions + 1 = omega (arith, is) in
     let begins : field_of (with_new_field host) field ≡ Some (first_session tables)
     = ap (field_of (with_new_field host)) place ∙ fields_begin host ∙ ap (λ (t : Tables). Some (first_session t)) over in
     session_of_some session (session_after field (first_session tables) calls) (sym there ∙ fields_are_apart (with_new_field host) field (first_session tables) calls begins)
     ∙ ap (session_after field (first_session tables)) (sym (none_behind calls))
-opens_session field tables calls more host (suc opens) session is over there =
+begins_session field tables calls more host (suc opens) session is over there =
     more (with_new_field host) opens session (omega (arith, is, length-append host.sessions (first_session host.tables ∷ []))) over there
 
-has_session : (field : ℕ) (tables : Tables) (calls : List HostCall) → HasSession field tables calls
-has_session field tables [] host opens session is over there = absurd (none_isnt session (sym (past_last host field opens is) ∙ there))
-has_session field tables (Opens ∷ calls) host opens session is over there = opens_session field tables calls (has_session field tables calls) host opens session is over there
-has_session field tables (Turns other event ∷ calls) host opens session is over there =
-    has_session field tables calls (turned other event (field_of host other) host) opens session
+opens_session : (field : ℕ) (tables : Tables) (calls : List HostCall) → HasSession field tables calls → (host : HostState) (opens : ℕ) (session : SessionState)
+    → field ≡ suc (length host.sessions + opens) → host.tables ≡ tables → field ≤ HOST_FIELDS → (full : Bool) → nat_le HOST_FIELDS (length host.sessions) ≡ full
+    → field_of (after_calls (cond full host (with_new_field host)) calls) field ≡ Some session → session ≡ session_after field (first_session tables) (calls_behind opens calls)
+opens_session field tables calls more host opens session is over few true full there = absurd (no_room host field opens is few full)
+opens_session field tables calls more host opens session is over few false full there = begins_session field tables calls more host opens session is over there
+
+has_session : (field : ℕ) (tables : Tables) → field ≤ HOST_FIELDS → (calls : List HostCall) → HasSession field tables calls
+has_session field tables few [] host opens session is over there = absurd (none_isnt session (sym (past_last host field opens is) ∙ there))
+has_session field tables few (Opens ∷ calls) host opens session is over there =
+    opens_session field tables calls (has_session field tables few calls) host opens session is over few (nat_le HOST_FIELDS (length host.sessions)) refl there
+has_session field tables few (Turns other event ∷ calls) host opens session is over there =
+    has_session field tables few calls (turned other event (field_of host other) host) opens session
     (is ∙ ap (λ (n : ℕ). suc (n + opens)) (sym (turned_count host other event (field_of host other)))) (turned_tables host other event (field_of host other) ∙ over) there
 
 -- ---- each field of a play
@@ -306,9 +342,13 @@ pub fields_are_traces : (tables : Tables) (entries : List HostEntry) → FieldsA
 fields_are_traces tables entries zero session there = absurd (none_isnt session there)
 fields_are_traces tables entries (suc opens) session there =
     let place : suc opens ≡ suc (0 + opens) = omega arith in
+    let host : HostState = (first_play tables).host in
+    let behind : field_of (after_calls host (calls_of tables entries)) (suc opens) ≡ Some session
+    = ap (λ (h : HostState). field_of h (suc opens)) (sym (leaves_host entries (first_play tables))) ∙ there in
+    let few : suc opens ≤ HOST_FIELDS
+    = few_there (after_calls host (calls_of tables entries)) opens session (few_after (calls_of tables entries) host (omega arith)) behind in
     record {
-      steps = new_steps (suc opens) tables entries (first_play tables) opens place refl
+      steps = new_steps (suc opens) tables few entries (first_play tables) opens place refl
           ∙ sym (steps_are_those_alone (suc opens) tables (calls_since (suc opens) tables entries));
-      left = has_session (suc opens) tables (calls_of tables entries) (first_play tables).host opens session place refl
-          (ap (λ (h : HostState). field_of h (suc opens)) (sym (leaves_host entries (first_play tables))) ∙ there);
+      left = has_session (suc opens) tables few (calls_of tables entries) host opens session place refl behind;
     }

@@ -1,11 +1,9 @@
 -- The calls that a play makes on its host, and the steps that it prints of a field.
-use Rattle.std.specs.Prelude.{ℕ, zero, suc, nat_eq, nat_le, if◌then◌else◌, List, [], ◌∷◌, ◌++◌, length, Option, Some, None}
+use Rattle.std.specs.Prelude.{ℕ, zero, suc, nat_eq, if◌then◌else◌, List, [], ◌∷◌, ◌++◌, Option, Some, None}
 use Rattle.kmn_base.specs.declared.events.Event.{Event}
 use Rattle.rule_model.specs.declared.tables.Tables.{Tables}
 use Rattle.rule_model.specs.Trace.{Step}
 use Rattle.play_session.specs.Session.{SessionState}
-use Rattle.text_host.specs.declared.host.TheConstants.{HOST_FIELDS}
-use Rattle.text_host.specs.Host.{HostState}
 use Rattle.text_host.specs.Alone.{HostCall, Opens, Turns}
 use Rattle.host_script.specs.declared.entries.HostEntry.{HostEntry}
 use Rattle.host_script.specs.declared.entries.HostEntry.TheVariants.{Add, Turn, Show, Act, Expect}
@@ -13,12 +11,9 @@ use Rattle.play_host.specs.declared.playing.Play.{Play}
 use Rattle.play_host.specs.Playing.{first_play, turned_to, entry_refusal, after_entry, rest_unless}
 use Rattle.play_host.specs.HostText.{step_in}
 
--- the calls of an entry: a new field where there is room for one, and an event; a preview changes nothing
-abbrev pub open_calls : HostState → List HostCall
-open_calls host = if nat_le HOST_FIELDS (length host.sessions) then [] else Opens ∷ []
-
+-- the calls of an entry: a new field, or an event; a preview changes nothing
 abbrev pub entry_calls : Play → HostEntry → List HostCall
-entry_calls play (Add line) = open_calls play.host
+entry_calls play (Add line) = Opens ∷ []
 entry_calls play (Turn line field) = []
 entry_calls play (Show line press) = []
 entry_calls play (Act line event) = Turns play.field event ∷ []

@@ -1,6 +1,6 @@
 -- Each field answers the steps of the trace of its own events.
 use Rattle.std.proofs.Common.{◌≡◌, ◌≢◌, ℕ, zero, suc, ◌+◌, ◌<◌, Bool, true, false, eqb, cond, List, [], ◌∷◌, ◌++◌, length, set, slice_get, refl, sym, ap, ◌∙◌, inl, inr, arith}
-use Rattle.std.specs.Prelude.{Option, Some, None, Result, Ok, Err}
+use Rattle.std.specs.Prelude.{nat_le, Option, Some, None, Result, Ok, Err}
 use Rattle.std.proofs.lemmas.Bool.Decides.{eqb_tells}
 use Rattle.std.proofs.lemmas.Option.{slice_get_within}
 use Rattle.kmn_base.specs.declared.events.Event.{Event}
@@ -11,6 +11,7 @@ use Rattle.rule_model.specs.Keyboard.{Keyboard}
 use Rattle.rule_model.specs.Tab.{tab}
 use Rattle.rule_model.specs.Trace.{Steps, steps_from, before_steps, step_then, trace}
 use Rattle.play_session.specs.Session.{SessionState, first_session, after_step, happened}
+use Rattle.text_host.specs.declared.host.TheConstants.{HOST_FIELDS}
 use Rattle.text_host.specs.Host.{HostState, field_of, with_field, with_new_field}
 use Rattle.text_host.specs.Alone.{HostCall, Opens, Turns, answer_to, gone_on, kept_unless, with_answer, alone_from, answered_from, session_after, turned, after_calls, StepsAreThoseAlone, FieldsAreApart, FieldsBegin}
 
@@ -96,6 +97,11 @@ opened host zero session is = is
 opened host (suc place) session is =
     append_left host.sessions (first_session host.tables ∷ []) place (slice_get_within host.sessions place session is) ∙ is
 
+-- so it is where there is no room for one
+opened_or_full : (host : HostState) (field : ℕ) (session : SessionState) → field_of host field ≡ Some session → (full : Bool) → field_of (cond full host (with_new_field host)) field ≡ Some session
+opened_or_full host field session is true = is
+opened_or_full host field session is false = opened host field session is
+
 -- a field's own event
 pub acted : (host : HostState) (field : ℕ) (session after : SessionState) → field_of host field ≡ Some session → field_of (with_field field after host) field ≡ Some after
 acted host zero session after is = cc
@@ -111,7 +117,9 @@ apart host (suc k) (suc place) event (Some session) differ =
 
 pub fields_are_apart : FieldsAreApart
 fields_are_apart host field session [] is = is
-fields_are_apart host field session (Opens ∷ calls) is = fields_are_apart (with_new_field host) field session calls (opened host field session is)
+fields_are_apart host field session (Opens ∷ calls) is =
+    let full : Bool = nat_le HOST_FIELDS (length host.sessions) in
+    fields_are_apart (cond full host (with_new_field host)) field session calls (opened_or_full host field session is full)
 fields_are_apart host field session (Turns other event ∷ calls) is = elim (eqb_tells other field) [
   | inl same ↦
       let next : SessionState = gone_on session event (answer_to session event) in
