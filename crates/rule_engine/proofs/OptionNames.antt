@@ -9,7 +9,7 @@ use Rattle.rule_model.specs.Keyboard.{Numbered, StoreMeaning}
 use Rattle.rule_model.specs.Plain.{option_names, option_numbers}
 use Rattle.rule_model.specs.Tab.{tab}
 use Rattle.rule_model.specs.Trace.{options_of}
-use Rattle.rule_model.proofs.PlainOptions.{length-option_numbers, named_here, number_found, same_number}
+use Rattle.rule_model.proofs.PlainOptions.{length-option_numbers, named_here as first_place, number_found, same_number}
 use Rattle.rule_engine.specs.Engine.{name_in, name_of}
 use Rattle.rule_engine.proofs.Engines.{number_there}
 
@@ -24,7 +24,7 @@ module _ (name : List ℕ) where
   named_place : (k : ℕ) (stores : List StoreMeaning) → named_in name (option_numbers k stores) stores ≡ option_map (λ i. k + i) (position (has_name name) (option_names stores))
   named_place k [] = refl
   named_place k (s ∷ ss) = by s.is_option
-      (named_here (has_name name) k s.name (option_names ss) (has_name name s.name) (named_in name (option_numbers (k + 1) ss) ss) refl (named_place (k + 1) ss)) (named_place k ss)
+      (first_place (has_name name) k s.name (option_names ss) (has_name name s.name) (named_in name (option_numbers (k + 1) ss) ss) refl (named_place (k + 1) ss)) (named_place k ss)
     where
       by : (b : Bool)
           → (if has_name name s.name then Some k else named_in name (option_numbers (k + 1) ss) ss) ≡ option_map (λ i. k + i) (position (has_name name) (s.name ∷ option_names ss))
