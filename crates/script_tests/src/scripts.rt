@@ -1,7 +1,7 @@
 //! Scripts with the entries that they give or the rule that they break, and the lines of a transcript.
 
 use crate::fixtures::with_copies;
-use kmn_base::{Code, Element, Event, Item, Outcome, Text};
+use kmn_base::{Code, Element, Event, Item, Outcome, Refusal, Text};
 use play_script::{
     ScriptError, end_line, expect_line, line_of, read_script, refused_event_line, text_line,
     value_line,
