@@ -19,7 +19,8 @@ use Rattle.compile_laws.specs.WellNamed.{is_store, is_known_pattern}
 use Rattle.compile_laws.proofs.Linked.{is_value}
 use Rattle.compile_laws.proofs.Known.{has_values}
 use Rattle.kmx_format.specs.FileUnits.{unit_item_of_pattern}
-use Rattle.kmx_format.specs.Writable.{stores_of_pattern, has_system_id, is_any, is_matched, PointsTo, PointsBack, IsWritableContext}
+use Rattle.kmx_format.specs.Writable.{stores_of_pattern, has_system_id, is_any, PointsTo, PointsBack, IsWritableContext}
+use Rattle.rule_model.specs.Patterns.{is_matched}
 use Rattle.kmn_parser.specs.ProgramLaws.{IsReadItem}
 use Rattle.item_checker.specs.Items.{is_pattern_item, is_any_item, passes, points_to, misses_pattern, misses_any, context_item_code, context_code}
 use Rattle.rule_checker.specs.Refused.{IsRead}

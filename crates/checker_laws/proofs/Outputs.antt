@@ -25,7 +25,8 @@ use Rattle.compile_laws.specs.Compiles.{file_pattern, file_output, file_outputs,
 use Rattle.compile_laws.specs.WellNamed.{is_store, is_group, is_fixed, is_known_output}
 use Rattle.compile_laws.proofs.Known.{has_values}
 use Rattle.kmx_format.specs.FileUnits.{unit_item_of_output}
-use Rattle.kmx_format.specs.Writable.{stores_of_output, groups_of_output, sets_system_id, is_any, is_matched, PointsInto, needs_context, IsWritableOutput, IsWritableMatchOutput}
+use Rattle.kmx_format.specs.Writable.{stores_of_output, groups_of_output, sets_system_id, is_any, PointsInto, needs_context, IsWritableOutput, IsWritableMatchOutput}
+use Rattle.rule_model.specs.Patterns.{is_matched}
 use Rattle.kmn_parser.specs.ProgramLaws.{IsReadItem}
 use Rattle.kmn_names.specs.First.{first_code}
 use Rattle.kmn_names.specs.Known.{known}

@@ -1,9 +1,9 @@
-//! Sources, each with its first refusal or with `ok`, in rows that `source_of` reads.
+//! Sources, which `source_of` reads, each with its first refusal or with `ok` behind ` ⇒ `.
 
 use crate::rows::source_of;
 use kmn_base::CompileError;
 use kmn_compiler::front;
-use source_tests::fixtures::is_refusal;
+use source_tests::fixtures::{is_refusal, parted};
 use std::alloc::Global;
 use std::test::Fail;
 
@@ -404,7 +404,7 @@ const SAMPLE: &str =
 
 /// Whether the parser, and behind it the checker, answers of a row's source as the row has it.
 fn is_right(alloc: Global, row: &str) -> Result<bool, Fail> {
-    let (text, wanted) = row.split_once(" ⇒ ").ok_or("a row without an answer")?;
+    let (text, wanted) = parted(row)?;
     let source = source_of(alloc, text)?;
     match front(alloc, source.as_bytes()) {
         Ok(_) => Ok(wanted == "ok"),

@@ -5,6 +5,7 @@ use crate::fixtures::{KEYBOARD, ONE_RULE, with_line};
 use crate::rows::source_of;
 use kmn_compiler::{Compiled, compile, front, picture_name};
 use rule_model::Rule;
+use source_tests::fixtures::parted;
 use std::alloc::{AllocError, Global};
 use std::fmt::Write;
 use std::str;
@@ -95,11 +96,6 @@ fn pictured(alloc: Global, row: &str) -> Result<String, Fail> {
     out.push(' ')?;
     write_answer(alloc, &mut out, source.as_bytes(), &[0, 1, 2, 3])?;
     Ok(out)
-}
-
-/// The source of a row and its answer.
-fn parted(row: &str) -> Result<(&str, &str), &'static str> {
-    row.split_once(" ⇒ ").ok_or("a row without an answer")
 }
 
 fn is_right(alloc: Global, row: &str) -> Result<bool, Fail> {

@@ -4,6 +4,7 @@ use Rattle.std.specs.List.{list_any}
 use Rattle.kmn_base.specs.declared.keys.RuleKey.{RuleKey}
 use Rattle.kmn_base.specs.declared.keys.RuleKey.TheVariants as key
 use Rattle.virtual_keys.specs.Fits.{has, has_either, left_control, right_control, either_control, left_alt, right_alt, either_alt}
+use Rattle.rule_model.specs.Patterns.{is_condition, is_nul}
 use Rattle.rule_model.specs.declared.tables.Pat.{Pat}
 use Rattle.rule_model.specs.declared.tables.Pat.TheVariants as pattern
 use Rattle.rule_model.specs.declared.tables.Out.{Out}
@@ -18,17 +19,6 @@ use Rattle.core_differences.specs.declared.construct.Construct.TheVariants as co
 abbrev pub is_use : Out → Bool
 is_use (output.Enter group) = true
 is_use _ = false
-
-abbrev pub is_condition : Pat → Bool
-is_condition (pattern.Equal store value) = true
-is_condition (pattern.Unequal store value) = true
-is_condition (pattern.SystemEqual system value) = true
-is_condition (pattern.SystemUnequal system value) = true
-is_condition _ = false
-
-abbrev pub is_nul : Pat → Bool
-is_nul pattern.Nul = true
-is_nul _ = false
 
 -- an item that names another by its offset, in a context and in an output
 abbrev pub has_offset : Pat → Bool

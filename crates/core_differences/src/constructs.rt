@@ -2,7 +2,8 @@
 
 ghost use Rattle.std.specs.Prelude.{◌≡◌};
 ghost use Rattle.std.specs.List.{list_any};
-ghost use Rattle.core_differences.specs.Constructs.{is_use, is_condition, is_nul, has_offset, puts_by_offset, units_at_most, goes_on_behind_use, has_late_nul, has_offset_behind_nul, has_both_sides, is_alt_graph, is_long, has_construct};
+ghost use Rattle.rule_model.specs.Patterns.{is_nul};
+ghost use Rattle.core_differences.specs.Constructs.{is_use, has_offset, puts_by_offset, units_at_most, goes_on_behind_use, has_late_nul, has_offset_behind_nul, has_both_sides, is_alt_graph, is_long, has_construct};
 
 use crate::construct::Construct;
 use kmn_base::RuleKey;
@@ -21,23 +22,6 @@ fn is_use(output: &Out) -> bool
     ensures { result ≡ is_use output.now }
 {
     matches!(output, Out::Enter(_))
-}
-
-/// Whether an item of a context is a condition.
-fn is_condition(item: &Pat) -> bool
-    ensures { result ≡ is_condition item.now }
-{
-    matches!(
-        item,
-        Pat::Equal(_, _) | Pat::Unequal(_, _) | Pat::SystemEqual(_, _) | Pat::SystemUnequal(_, _)
-    )
-}
-
-/// Whether an item of a context is `nul`.
-fn is_nul(item: &Pat) -> bool
-    ensures { result ≡ is_nul item.now }
-{
-    matches!(item, Pat::Nul)
 }
 
 /// Whether an item of a context names another by its offset.
@@ -82,7 +66,7 @@ fn some_nul(context: &[Pat]) -> bool
     ensures { result ≡ list_any is_nul context.now }
 {
     for item in context {
-        if is_nul(item) {
+        if item.is_nul() {
             return true;
         }
     }
@@ -125,7 +109,7 @@ fn has_late_nul(context: &[Pat]) -> bool
     ensures { result ≡ has_late_nul context.now }
 {
     for i in 0..context.len() {
-        if is_condition(&context[i]) && some_nul(behind(context, i + 1)) {
+        if context[i].is_condition() && some_nul(behind(context, i + 1)) {
             return true;
         }
     }

@@ -4,7 +4,11 @@ ghost use Rattle.std.specs.Prelude.{◌≡◌, ◌≤◌, ◌+◌, ◌*◌, ◌<
 ghost use Rattle.kmn_base.specs.declared.limits.TheConstants.{FILE_BYTES};
 ghost use Rattle.core_export.specs.Export.{end_of, end_in_records, end_in_group, end_in_groups, end_in_stores, zero_unit};
 
-use kmx_format::places::{GROUP_COUNT_AT, GROUPS_AT, STORE_COUNT_AT, STORES_AT};
+use kmx_format::places::{
+    GROUP_COUNT_AT, GROUP_MATCH_AT, GROUP_NOMATCH_AT, GROUP_RULE_COUNT_AT, GROUP_RULES_AT,
+    GROUPS_AT, RULE_CONTEXT_AT, RULE_OUTPUT_AT, STORE_COUNT_AT, STORE_ELEMENTS_AT, STORE_NAME_AT,
+    STORES_AT,
+};
 use kmx_format::sizes::{GROUP_BYTES, RULE_BYTES, STORE_BYTES};
 use kmx_parts::{string_bytes, word_at};
 
@@ -27,8 +31,8 @@ fn end_in_records(bytes: &[u8], place: u32, count: u32) -> Option<u32>
 {
     for i in 0..count as usize {
         let record = place as usize + RULE_BYTES * i;
-        let output = end_of(bytes, word_at(bytes, record + 12));
-        let found = output.or(end_of(bytes, word_at(bytes, record + 16)));
+        let output = end_of(bytes, word_at(bytes, record + RULE_OUTPUT_AT));
+        let found = output.or(end_of(bytes, word_at(bytes, record + RULE_CONTEXT_AT)));
         if found.is_some() {
             return found;
         }
@@ -42,13 +46,17 @@ fn end_in_group(bytes: &[u8], place: usize) -> Option<u32>
     requires place { place < 2 ^ 62 }
     ensures { result ≡ end_in_group bytes.now place }
 {
-    let on_match = end_of(bytes, word_at(bytes, place + 8));
-    let output = on_match.or(end_of(bytes, word_at(bytes, place + 12)));
+    let on_match = end_of(bytes, word_at(bytes, place + GROUP_MATCH_AT));
+    let output = on_match.or(end_of(bytes, word_at(bytes, place + GROUP_NOMATCH_AT)));
     let found = end_of(bytes, word_at(bytes, place)).or(output);
     if found.is_some() {
         return found;
     }
-    end_in_records(bytes, word_at(bytes, place + 4), word_at(bytes, place + 16))
+    end_in_records(
+        bytes,
+        word_at(bytes, place + GROUP_RULES_AT),
+        word_at(bytes, place + GROUP_RULE_COUNT_AT),
+    )
 }
 
 /// That of the first string of so many groups.
@@ -72,8 +80,8 @@ fn end_in_stores(bytes: &[u8], place: u32, count: u32) -> Option<u32>
 {
     for i in 0..count as usize {
         let record = place as usize + STORE_BYTES * i;
-        let name = end_of(bytes, word_at(bytes, record + 4));
-        let found = name.or(end_of(bytes, word_at(bytes, record + 8)));
+        let name = end_of(bytes, word_at(bytes, record + STORE_NAME_AT));
+        let found = name.or(end_of(bytes, word_at(bytes, record + STORE_ELEMENTS_AT)));
         if found.is_some() {
             return found;
         }

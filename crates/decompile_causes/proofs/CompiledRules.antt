@@ -36,7 +36,7 @@ use Rattle.compile_laws.proofs.Linked.{is_value}
 use Rattle.compile_laws.proofs.Dictionary.{read_chars}
 use Rattle.compile_laws.proofs.Known.{has_values, KnownRule, KnownStatement, KnownGroup}
 use Rattle.compile_laws.proofs.Ordered.{in_order_permutes}
-use Rattle.kmx_format.specs.Writable.{is_matched}
+use Rattle.rule_model.specs.Patterns.{is_matched, is_nul}
 use Rattle.kmx_format.specs.TablesOf.{rule_without_place, group_without_places}
 use Rattle.kmn_parser.specs.ProgramLaws.{IsCharacter, IsReadItem}
 use Rattle.kmn_names.specs.Known.{known}
@@ -53,7 +53,7 @@ use Rattle.kmn_text.specs.Spelled.{IsSpelledName, IsSpelledValue}
 use Rattle.decompile_laws.specs.Items.{Names}
 use Rattle.decompile_laws.specs.WrittenOut.{has_key_name}
 use Rattle.decompile_laws.proofs.Choosing.{all_join}
-use Rattle.decompile_causes.specs.Causes.{is_far_mark, is_unspelled_key, is_system_store, names_system_store, have_both_quotes, is_unspelled_value, has_unspelled_value, is_unspelled_pattern, is_unspelled_output, is_nul, stands_behind_match, is_unspelled_context}
+use Rattle.decompile_causes.specs.Causes.{is_far_mark, is_unspelled_key, is_system_store, names_system_store, have_both_quotes, is_unspelled_value, has_unspelled_value, is_unspelled_pattern, is_unspelled_output, stands_behind_match, is_unspelled_context}
 use Rattle.decompile_causes.specs.Written.{IsWrittenItem, stands_in_context, has_late_item, is_nul_item, IsWrittenContext, IsWrittenRule}
 use Rattle.decompile_causes.proofs.CompiledElements.{IsFine, IsFineStore, found_fine, key_named, mark_near}
 use Rattle.decompile_causes.proofs.Sayable.{IsSayableRule, IsSayableGroup}

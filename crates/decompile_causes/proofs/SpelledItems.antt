@@ -39,7 +39,8 @@ use Rattle.kmn_text.specs.Spelled.{IsSpelledName, IsSpelledValue, IsSpelledItem,
 use Rattle.decompile_laws.specs.Items.{Names, back_element, back_pattern, back_output, back_key, some_items}
 use Rattle.decompile_laws.specs.WrittenOut.{has_key_name}
 use Rattle.item_checker.specs.Items.{is_no_character}
-use Rattle.decompile_causes.specs.Causes.{is_far_mark, is_unspelled_element, is_unspelled_key, is_unspelled_value, have_both_quotes, stands_behind_match, is_nul}
+use Rattle.decompile_causes.specs.Causes.{is_far_mark, is_unspelled_element, is_unspelled_key, is_unspelled_value, have_both_quotes, stands_behind_match}
+use Rattle.rule_model.specs.Patterns.{is_nul}
 use Rattle.decompile_causes.proofs.TameNames.{number_name}
 use Rattle.decompile_causes.proofs.SpelledKeys.{IsKeyName, key_spelled}
 

@@ -31,7 +31,8 @@ use Rattle.decompile_laws.proofs.Free.{free_names-count}
 use Rattle.decompile_laws.proofs.Good.{IsNamed, GoodPattern, GoodOutput, GoodRule, GoodGroup, groups_good}
 use Rattle.decompile_laws.proofs.Groups.{group_count}
 use Rattle.decompile_laws.proofs.FrontCounts.{behind-size}
-use Rattle.decompile_causes.specs.Causes.{is_unspelled_pattern, is_unspelled_output, is_unspelled_value, stands_behind_match, is_nul}
+use Rattle.decompile_causes.specs.Causes.{is_unspelled_pattern, is_unspelled_output, is_unspelled_value, stands_behind_match}
+use Rattle.rule_model.specs.Patterns.{is_nul}
 use Rattle.decompile_causes.specs.Laws.{HasTextNames}
 use Rattle.decompile_causes.proofs.Sayable.{IsSayableRule, IsSayableGroup, IsSayable}
 use Rattle.decompile_causes.proofs.WrittenOut.{pattern-parts, output-parts}

@@ -23,7 +23,8 @@ use Rattle.rule_model.specs.declared.tables.Out.TheVariants as output
 use Rattle.rule_model.specs.declared.tables.Rule.{Rule}
 use Rattle.rule_model.specs.declared.tables.Group.{Group}
 use Rattle.rule_model.specs.declared.tables.Tables.{Tables}
-use Rattle.kmx_format.specs.Writable.{is_any, is_matched, PointsTo, PointsBack, PointsInto, needs_context, IsWritableKey, IsWritableRule}
+use Rattle.kmx_format.specs.Writable.{is_any, PointsTo, PointsBack, PointsInto, needs_context, IsWritableKey, IsWritableRule}
+use Rattle.rule_model.specs.Patterns.{is_matched}
 use Rattle.kmx_format.specs.TablesOf.{tables_of}
 use Rattle.kmx_format.specs.Playable.{IsPlayable, IsPlayableGroup}
 use Rattle.kmn_names.specs.First.{or_else, broken, first_code, at_line, earlier, first_of}

@@ -17,7 +17,7 @@ use Rattle.rule_model.specs.declared.tables.Out.{Out}
 use Rattle.rule_model.specs.declared.tables.Out.TheVariants as output
 use Rattle.rule_model.specs.declared.tables.Store.{Store}
 use Rattle.rule_model.specs.Tab.{elements_of, element_char, words, is_dictionary}
-use Rattle.kmx_format.specs.Writable.{is_matched}
+use Rattle.rule_model.specs.Patterns.{is_matched, is_nul}
 use Rattle.item_checker.specs.Items.{is_no_character, is_layout_text}
 use Rattle.kmn_text.specs.Names.{is_inner, is_source_name}
 use Rattle.decompile_laws.specs.Items.{Names, store_called}
@@ -80,10 +80,6 @@ is_far_output other = false
 abbrev pub is_unspelled_output : Names → Out → Bool
 is_unspelled_output names item =
     is_far_output item || (names_system_store names (named_by_output item) || has_unspelled_value names (output_values item))
-
-abbrev pub is_nul : Pat → Bool
-is_nul pattern.Nul = true
-is_nul other = false
 
 -- a condition or `nul` stands behind an item that is matched; the first argument says that one was matched before
 abbrev pub stands_behind_match : Bool → List Pat → Bool

@@ -1,11 +1,13 @@
 //! What a compiled file's text calls the stores, groups and keys of its tables: by their own names where a source can
 //! have these, else by the next free ones.
 //!
-//! It stands on `indexed_tables`, where it looks stores and keys up, on `kmn_names`, whose `NameTable` tells which
-//! names were met, and on `decompile_laws`, whose `names_for` says which names a text has. The layer above calls
-//! `free_stores` for the free names, of which the first may be those of stores of its own, and then `called_by`: it lends
-//! the names one by one (`Called`). `greatest_mark` and `own_keys` tell what such stores have. The other functions answer
-//! what of elements, items and names a text and its causes to have none are made by.
+//! It stands on `indexed_tables`, where it looks stores and keys up, on `kmn_names`, whose `NameTable` tells which names were
+//! met, on `kmn_tokens` and `kmn_items`, which tell whether a source reads a name as one, and on `decompile_laws`, whose
+//! `names_for` says which names a text has. The layer above calls `free_stores` for the free names, of which the first may be
+//! those of stores of its own, and then `called_by`, which answers the names that `specs/AllNames` says: `Called` lends them
+//! one by one, and contracts see it as these names. `greatest_mark` and `own_keys` tell what such stores have. Whoever asks why a
+//! file has no text takes `is_source_name` for a name, `has_character` for elements, and `named_by_pattern` and
+//! `named_by_output` for the store that an item names.
 #![tactic(auto)]
 
 mod all_names;

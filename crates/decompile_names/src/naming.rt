@@ -9,6 +9,7 @@ ghost use Rattle.indexed_tables.specs.OptionFlags.{with_flags};
 
 use crate::source_names::is_source_name;
 use crate::used::named_flags;
+use indexed_tables::flag_at;
 use kmn_base::{Memory, Text};
 use kmn_names::NameTable;
 use rule_model::system::{BITMAP, MNEMONIC_LAYOUT};
@@ -141,16 +142,6 @@ fn is_written_system(system: u32) -> bool
         system,
         BITMAP | 2 | 3 | 6 | 7 | MNEMONIC_LAYOUT | 24 | 35 | 36 | 38
     )
-}
-
-/// The flag of a number, false where there is none.
-fn flag_at(flags: &[bool], number: usize) -> bool
-    ensures { result ≡ unwrap_or (slice_get flags.now number) false }
-{
-    match flags.get(number) {
-        Some(flag) => *flag,
-        None => false,
-    }
 }
 
 /// Whether the store of a number is written, by the flags of the stores that are named.

@@ -12,26 +12,11 @@ ghost use Rattle.decompile_text.specs.Texts.{call_text, index_text, compared_tex
 use crate::characters::{put_character, put_quoted};
 use crate::page::Page;
 use decompile_names::Called;
-use kmn_base::keys::{
-    CAPS, EITHER_ALT, EITHER_CONTROL, LEFT_ALT, LEFT_CONTROL, NO_CAPS, RIGHT_ALT, RIGHT_CONTROL,
-    SHIFT, VIRTUAL_KEY,
-};
+use kmn_base::keys::VIRTUAL_KEY;
 use kmn_base::{Element, Memory, RuleKey};
 use rule_model::system::PLATFORM;
 use rule_model::{Out, Pat};
-
-/// The modifier words with the shift flags that they stand for.
-static MODIFIERS: [(&str, u16); 9] = [
-    ("LCTRL", LEFT_CONTROL),
-    ("RCTRL", RIGHT_CONTROL),
-    ("LALT", LEFT_ALT),
-    ("RALT", RIGHT_ALT),
-    ("SHIFT", SHIFT),
-    ("CTRL", EITHER_CONTROL),
-    ("ALT", EITHER_ALT),
-    ("CAPS", CAPS),
-    ("NCAPS", NO_CAPS),
-];
+use virtual_keys::modifiers;
 
 /// The name of a system option by its id, with its `&`.
 fn option_name(id: u32) -> &'static [u8]
@@ -143,11 +128,10 @@ fn put_flags(
 }
 
 /// Puts the modifier words of a virtual key's flags, among which a text always says that of a virtual key.
-#[tactic(auto, unfolding(virtual_keys::specs::Keys::shift_flags))]
 fn put_modifiers(page: &mut Page, flags: u32) -> Result<(), Memory>
     ensures { OnOk result (page.new ≡ with_flag_words (bit_or flags VIRTUAL_KEY) page.old shift_flags) }
 {
-    put_flags(page, flags | u32::from(VIRTUAL_KEY), &MODIFIERS)
+    put_flags(page, flags | u32::from(VIRTUAL_KEY), modifiers())
 }
 
 /// Puts a virtual key.

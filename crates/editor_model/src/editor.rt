@@ -72,6 +72,13 @@ impl Editor {
         &self.cells[self.end..]
     }
 
+    /// How many characters the whole text has.
+    pub fn len(&self) -> usize
+        ensures { result ≡ length (whole self.now) }
+    {
+        self.start + (self.cells.len() - self.end)
+    }
+
     /// Makes room for so many characters. It takes at least as much as the text is long, so that room made again and
     /// again costs no copy each time.
     pub fn reserve(&mut self, alloc: Global, n: usize) -> Result<(), Memory>
@@ -190,13 +197,6 @@ impl Editor {
     {
         self.go_to(to as usize);
         self.apply(to - from, text);
-    }
-
-    /// How many characters the whole text has.
-    fn len(&self) -> usize
-        ensures { result ≡ length (whole self.now) }
-    {
-        self.start + (self.cells.len() - self.end)
     }
 
     /// Moves the caret to a place that the text has.

@@ -9,23 +9,24 @@ use kmn_base::Item::{Char, Mark};
 use kmn_base::limits::EVENT_PUTS;
 use kmn_base::{Item, Memory};
 use meaning_tests::events::put_items;
+use source_tests::fixtures::parted;
 use std::alloc::Global;
 use std::fmt::Write;
 use std::test::Fail;
 
-/// On each line a lent text, the steps on it, how many of its characters are deleted, what is inserted, and the last items,
-/// parted by bars. A step is a character that is put, `*` for a mark that is put, `<` for an item that is taken, and `#` for the
-/// last character with the marks around it.
+/// On each line a lent text and the steps on it, parted by a bar, and behind ` ⇒ ` how many of its characters are deleted, what
+/// is inserted, and the last items, parted by bars. A step is a character that is put, `*` for a mark that is put, `<` for an
+/// item that is taken, and `#` for the last character with the marks around it.
 const CASES: &str = "\
-||0||
-abc|xy|0|xy|abcxy
-abc|<x|1|x|abx
-abc|x<y|0|y|abcy
-abc|x<<y|1|y|aby
-abc|<<bd|1|d|abd
-abc|*d|0|d|abc*d
-abc|*d*#|0||abc
-ab|<<<<*#x|2|x|x";
+| ⇒ 0||
+abc|xy ⇒ 0|xy|abcxy
+abc|<x ⇒ 1|x|abx
+abc|x<y ⇒ 0|y|abcy
+abc|x<<y ⇒ 1|y|aby
+abc|<<bd ⇒ 1|d|abd
+abc|*d ⇒ 0|d|abc*d
+abc|*d*# ⇒ 0||abc
+ab|<<<<*#x ⇒ 2|x|x";
 
 /// Puts an item, if one more may be put.
 fn put(left: &mut Left, item: Item) {
@@ -89,8 +90,8 @@ fn left_of(alloc: Global, text: &[char], steps: &str) -> Result<String, Fail> {
 
 /// Whether a row tells what its steps leave.
 fn tells(alloc: Global, row: &str) -> Result<bool, Fail> {
-    let (text, rest) = row.split_once('|').unwrap_or((row, ""));
-    let (steps, wanted) = rest.split_once('|').unwrap_or((rest, ""));
+    let (lent, wanted) = parted(row)?;
+    let (text, steps) = lent.split_once('|').unwrap_or((lent, ""));
     let text: Vec<char> = text.chars().collect(alloc)?;
     Ok(left_of(alloc, text.as_slice(), steps)?.as_str() == wanted)
 }

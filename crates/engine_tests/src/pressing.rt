@@ -5,20 +5,21 @@ use kmx_verifier::verify;
 use meaning_tests::events::{press, sign};
 use meaning_tests::fixtures::compiled;
 use rule_engine::Engine;
+use source_tests::fixtures::parted;
 use std::alloc::Global;
 use std::fmt::Write;
 use std::test::Fail;
 
-/// On each line a keyboard's records, each with its context, a comma, its key and its output, and behind ` ; ` its steps.
-/// A step is a key, and how many characters it deletes, what it inserts, whether it is passed on, and the context then; or
-/// `=` and a text that is read again, and the context then. `*` is a mark.
+/// On each line a keyboard's records, each with its context, a comma, its key and its output, and behind ` ⇒ ` its steps, parted
+/// by ` ; `. A step is a key, and how many characters it deletes, what it inserts, whether it is passed on, and the context
+/// then; or `=` and a text that is read again, and the context then. `*` is a mark.
 const CASES: &str = "\
-a,c>y ,c>x ; K_A 0 a 0 a ; K_C 1 y 0 y ; K_F5 0  1 y
-,`>* *,a>à ; K_BKQUOTE 0  0 * ; K_A 0 à 0 à
-,`>* *,a>à ; K_X 0 x 0 x ; K_BKQUOTE 0  0 x* ; = ; =x x ; K_A 0 a 0 xa
-,`>* ; K_X 0 x 0 x ; K_BKQUOTE 0  0 x* ; =x x* ; =yx yx
-,s>\u{1F600} \u{1F600},a>\u{10FFFF} ; K_S 0 \u{1F600} 0 \u{1F600} ; K_A 1 \u{10FFFF} 0 \u{10FFFF}
-a,b>ab ; K_A 0 a 0 a ; K_B 0 b 0 ab";
+a,c>y ,c>x ⇒ K_A 0 a 0 a ; K_C 1 y 0 y ; K_F5 0  1 y
+,`>* *,a>à ⇒ K_BKQUOTE 0  0 * ; K_A 0 à 0 à
+,`>* *,a>à ⇒ K_X 0 x 0 x ; K_BKQUOTE 0  0 x* ; = ; =x x ; K_A 0 a 0 xa
+,`>* ⇒ K_X 0 x 0 x ; K_BKQUOTE 0  0 x* ; =x x* ; =yx yx
+,s>\u{1F600} \u{1F600},a>\u{10FFFF} ⇒ K_S 0 \u{1F600} 0 \u{1F600} ; K_A 1 \u{10FFFF} 0 \u{10FFFF}
+a,b>ab ⇒ K_A 0 a 0 a ; K_B 0 b 0 ab";
 
 /// Appends the items of a context or an output.
 fn put_items(text: &mut String, items: &str) -> Result<(), Memory> {
@@ -144,7 +145,7 @@ fn started(alloc: Global, bytes: &[u8]) -> Result<Engine<'_>, Fail> {
 
 /// The first step of a case that ends otherwise.
 fn wrong_in_case(alloc: Global, case: &'static str) -> Result<Option<&'static str>, Fail> {
-    let (records, steps) = case.split_once(" ; ").unwrap_or((case, ""));
+    let (records, steps) = parted(case)?;
     let bytes = keyboard(alloc, records)?;
     let mut engine = started(alloc, bytes.as_slice())?;
     wrong_step(alloc, &mut engine, steps)

@@ -5,39 +5,40 @@ use export_run::export_run;
 use kmn_base::Seq;
 use kmn_outside::{MemoryFolder, MemorySink};
 use run_tests::commands::words;
+use source_tests::fixtures::parted;
 use std::alloc::Global;
 use std::test::Fail;
 
-/// On each line a source, as `file` reads it, and, behind ` ;`, what is printed behind the size, its lines parted by commas.
+/// On each line a source, as `file` reads it, and, behind ` ⇒ `, what is printed behind the size, its lines parted by commas.
 /// `refused` stands alone.
 const CASES: &str = "\
-H¶+ 'a' > 'b' ;
-H¶+ 'a' > use(g)¶match > use(g) 'b'¶group(g) ; differs 3 match
-H¶+ 'a' > use(g) 'b'¶group(g) ; differs 3 use
-H¶+ 'a' > use(g) nul¶match > 'b'¶group(g) ; differs 3 use.match
-store(o) '1'¶H¶if(o = '1') nul + 'a' > 'b' ; differs 4 nul
-store(o) '1'¶H¶nul if(o = '1') + 'a' > 'b' ;
-store(v) 'ab'¶H¶nul any(v) + 'a' > index(v,2)¶any(v) + 'b' > index(v,1) ; differs 4 offset
-H¶nul 'b' + 'a' > context(2) ; differs 3 offset
-H¶nul 'b' context(2) + 'a' > 'c' ; differs 3 offset
-H¶nul 'b' + 'a' > context ;
-H¶+ 'a' > use(g)¶group(g)¶'' > 'b'¶'c' > 'd' ; differs 5 empty
-H¶+ [CTRL LCTRL K_A] > 'b'¶+ [ALT RALT K_A] > 'b'¶+ [CTRL K_A] > 'b' ; differs 3 sides,differs 4 sides
-H¶+ [LCTRL RALT K_A] > 'b'¶+ [LCTRL LALT K_A] > 'b'¶+ [CTRL RALT K_A] > 'b' ; differs 3 right
-H¶dk*21 + 'a' > 'b'¶dk*21 'b' + 'a' > 'b' ; differs 4 long
-H¶U+10000*31 'b' + 'a' > 'b'¶U+10000*32 + 'a' > 'b' ; differs 4 long
-store(v) 'ab'¶H¶any*21 + 'a' > 'b'¶any*22 + 'a' > 'b' ; differs 5 long
-store(k) [K_A] [CTRL LCTRL K_B]¶H¶+ any(k) > 'b'¶+ [LCTRL RALT CTRL K_C] > use(g) 'c'¶group(g) ; differs 4 sides,differs 5 use.sides.right
-store(o) '1'¶H¶+ 'a' > save(o) ;
-store(o) '1'¶H¶+ 'a' > save(o) save(o) ; refused K01 line 4
-store(o) '1'¶H¶+ 'a' > save(o) use(g)¶group(g)¶'b' > save(o) ; refused K01 line 4
-store(o) '1'¶H¶+ 'a' > save(o) use(g)¶group(g)¶'b' > 'c' ;
-store(o) '1'¶H¶+ 'a' > save(o)¶+ 'b' > 'c'¶match > save(o) ; refused K01 line 4
-store(o) '1'¶H¶+ 'a' > 'b'¶+ 'b' > use(g)¶match > use(g)¶group(g)¶nomatch > save(o) ; refused K01 line 5
-store(o) '1'¶H¶+ 'a' > 'b'¶nomatch > save(o) save(o) ; refused K01 line 4
-store(o) '1'¶H¶+ 'a' > use(main)¶+ 'b' > save(o) ;
-store(o) '1'¶H¶+ 'a' > use(main) use(main)¶+ 'b' > save(o) ; refused K01 line 4
-store(o) '1'¶H¶+ 'a' > use(g)¶group(g)¶'b' > use(h)¶group(h)¶'c' > save(o) reset(o) use(h) ; refused K01 line 8";
+H¶+ 'a' > 'b' ⇒ 
+H¶+ 'a' > use(g)¶match > use(g) 'b'¶group(g) ⇒ differs 3 match
+H¶+ 'a' > use(g) 'b'¶group(g) ⇒ differs 3 use
+H¶+ 'a' > use(g) nul¶match > 'b'¶group(g) ⇒ differs 3 use.match
+store(o) '1'¶H¶if(o = '1') nul + 'a' > 'b' ⇒ differs 4 nul
+store(o) '1'¶H¶nul if(o = '1') + 'a' > 'b' ⇒ 
+store(v) 'ab'¶H¶nul any(v) + 'a' > index(v,2)¶any(v) + 'b' > index(v,1) ⇒ differs 4 offset
+H¶nul 'b' + 'a' > context(2) ⇒ differs 3 offset
+H¶nul 'b' context(2) + 'a' > 'c' ⇒ differs 3 offset
+H¶nul 'b' + 'a' > context ⇒ 
+H¶+ 'a' > use(g)¶group(g)¶'' > 'b'¶'c' > 'd' ⇒ differs 5 empty
+H¶+ [CTRL LCTRL K_A] > 'b'¶+ [ALT RALT K_A] > 'b'¶+ [CTRL K_A] > 'b' ⇒ differs 3 sides,differs 4 sides
+H¶+ [LCTRL RALT K_A] > 'b'¶+ [LCTRL LALT K_A] > 'b'¶+ [CTRL RALT K_A] > 'b' ⇒ differs 3 right
+H¶dk*21 + 'a' > 'b'¶dk*21 'b' + 'a' > 'b' ⇒ differs 4 long
+H¶U+10000*31 'b' + 'a' > 'b'¶U+10000*32 + 'a' > 'b' ⇒ differs 4 long
+store(v) 'ab'¶H¶any*21 + 'a' > 'b'¶any*22 + 'a' > 'b' ⇒ differs 5 long
+store(k) [K_A] [CTRL LCTRL K_B]¶H¶+ any(k) > 'b'¶+ [LCTRL RALT CTRL K_C] > use(g) 'c'¶group(g) ⇒ differs 4 sides,differs 5 use.sides.right
+store(o) '1'¶H¶+ 'a' > save(o) ⇒ 
+store(o) '1'¶H¶+ 'a' > save(o) save(o) ⇒ refused K01 line 4
+store(o) '1'¶H¶+ 'a' > save(o) use(g)¶group(g)¶'b' > save(o) ⇒ refused K01 line 4
+store(o) '1'¶H¶+ 'a' > save(o) use(g)¶group(g)¶'b' > 'c' ⇒ 
+store(o) '1'¶H¶+ 'a' > save(o)¶+ 'b' > 'c'¶match > save(o) ⇒ refused K01 line 4
+store(o) '1'¶H¶+ 'a' > 'b'¶+ 'b' > use(g)¶match > use(g)¶group(g)¶nomatch > save(o) ⇒ refused K01 line 5
+store(o) '1'¶H¶+ 'a' > 'b'¶nomatch > save(o) save(o) ⇒ refused K01 line 4
+store(o) '1'¶H¶+ 'a' > use(main)¶+ 'b' > save(o) ⇒ 
+store(o) '1'¶H¶+ 'a' > use(main) use(main)¶+ 'b' > save(o) ⇒ refused K01 line 4
+store(o) '1'¶H¶+ 'a' > use(g)¶group(g)¶'b' > use(h)¶group(h)¶'c' > save(o) reset(o) use(h) ⇒ refused K01 line 8";
 
 /// What a run of `in out` over a folder with that file prints.
 fn printed(alloc: Global, file: Seq<u8>) -> Result<Seq<u8>, Fail> {
@@ -68,10 +69,10 @@ fn is_printed(printed: &str, wanted: &str) -> bool {
 /// The first source of which something else is printed.
 fn wrong_case(alloc: Global) -> Result<Option<&'static str>, Fail> {
     for case in CASES.lines() {
-        let (source, wanted) = case.split_once(" ;").unwrap_or((case, "?"));
+        let (source, wanted) = parted(case)?;
         let printed = printed(alloc, file(alloc, source)?)?;
         let text = std::str::from_utf8(printed.as_slice()).unwrap_or("");
-        if !is_printed(text, wanted.trim_start()) {
+        if !is_printed(text, wanted) {
             return Ok(Some(case));
         }
     }

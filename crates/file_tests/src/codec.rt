@@ -2,6 +2,7 @@
 
 use item_codec::{BadUnits, UnitItem, items_of, spell};
 use kmn_base::{Memory, Seq};
+use source_tests::fixtures::parted;
 use std::alloc::{AllocError, Global};
 use std::fmt::Write;
 use std::test::Fail;
@@ -36,20 +37,20 @@ const ITEMS: &[UnitItem] = &[
     UnitItem::SetSystem(34, 7),
 ];
 
-/// On each line bytes, and what a walk over them gives: items, and the kind, the place and the code of a fault.
+/// On each line bytes and, behind ` ⇒ `, what a walk over them gives: items, and the kind, the place and the code of a fault.
 const FAULTS: &str = "\
-ff ff 03 00 61 00 ff ff 14 00 01 00 03 00 02 00 61 00 => Context Char('a') U5 at 6 code 0
-ff ff 0a 00 00 40 41 00 11 00 => U4 at 0 code 0
-61 00 ff ff 09 00 => Char('a') U2 at 2 code 9
-3d d8 61 00 => U1 at 0 code 0
-62 00 61 => Char('b') U6 at 2 code 0
-00 00 61 00 => U3 at 0 code 0
-ff ff 14 00 00 00 03 00 02 => U6 at 0 code 0
-ff ff 17 00 22 00 03 00 01 00 => U5 at 0 code 0
-61 00 ff ff 17 00 22 00 00 00 01 00 => Char('a') U3 at 2 code 0
-ff ff 18 00 22 00 => U3 at 0 code 0
-ff ff 18 00 22 00 01 => U6 at 0 code 0
-ff ff 19 00 => U2 at 0 code 25";
+ff ff 03 00 61 00 ff ff 14 00 01 00 03 00 02 00 61 00 ⇒ Context Char('a') U5 at 6 code 0
+ff ff 0a 00 00 40 41 00 11 00 ⇒ U4 at 0 code 0
+61 00 ff ff 09 00 ⇒ Char('a') U2 at 2 code 9
+3d d8 61 00 ⇒ U1 at 0 code 0
+62 00 61 ⇒ Char('b') U6 at 2 code 0
+00 00 61 00 ⇒ U3 at 0 code 0
+ff ff 14 00 00 00 03 00 02 ⇒ U6 at 0 code 0
+ff ff 17 00 22 00 03 00 01 00 ⇒ U5 at 0 code 0
+61 00 ff ff 17 00 22 00 00 00 01 00 ⇒ Char('a') U3 at 2 code 0
+ff ff 18 00 22 00 ⇒ U3 at 0 code 0
+ff ff 18 00 22 00 01 ⇒ U6 at 0 code 0
+ff ff 19 00 ⇒ U2 at 0 code 25";
 
 /// The byte of a hexadecimal number.
 fn byte_of(word: &str) -> Result<u8, &'static str> {
@@ -85,11 +86,11 @@ fn write_walk(out: &mut String, bytes: &[u8]) -> Result<(), AllocError> {
 
 /// Whether a walk over a row's bytes gives what the row wants.
 fn is_walked(alloc: Global, row: &str) -> Result<bool, Fail> {
-    let (bytes, wanted) = row.split_once(" =>").ok_or("a row without an answer")?;
+    let (bytes, wanted) = parted(row)?;
     let bytes = bytes_of(alloc, bytes)?;
     let mut out = String::new(alloc);
     write_walk(&mut out, bytes.as_slice())?;
-    Ok(out.as_str() == wanted)
+    Ok(out.as_str().strip_prefix(' ') == Some(wanted))
 }
 
 /// Whether a walk over bytes gives an item of each kind, and no more.

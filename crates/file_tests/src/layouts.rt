@@ -4,15 +4,16 @@ use crate::fixtures::rule;
 use compile_tests::fixtures::tables;
 use kmn_base::{Element, Memory, RuleKey, Seq};
 use rule_model::{Store, Tables};
+use source_tests::fixtures::parted;
 use std::alloc::{AllocError, Global};
 use std::fmt::Write;
 use std::test::Fail;
 use touch_layout::check_layout;
 
-/// On each line a layout, and the count of its keys or the rule that it breaks. In a layout `⌖` is U+FEFF, `‹` begins a
-/// platform whose first layer is `a`, up to its rows, `«` and `»` enclose
-/// the keys of the one row of a tablet's layer `a`, and `①` to `④` are the parts of a layout of two layers, between which its
-/// own key, the layer that shift leads to and the second layer's id stand.
+/// On each line a layout and, behind ` ⇒ `, the count of its keys or the rule that it breaks. In a layout `⌖` is U+FEFF, `‹`
+/// begins a platform whose first layer is `a`, up to its rows, `«` and `»` enclose the keys of the one row of a tablet's layer
+/// `a`, and `①` to `④` are the parts of a layout of two layers, between which its own key, the layer that shift leads to and
+/// the second layer's id stand.
 const LAYOUTS: &str = r##" ⇒ refused T1 platform 0 layer 0 row 0 key 0
 ⌖{} ⇒ keys 0
 [] ⇒ refused T2 platform 0 layer 0 row 0 key 0
@@ -103,7 +104,7 @@ fn answered(alloc: Global, text: &[u8], tables: &Tables) -> Result<String, Alloc
 
 /// Whether the check of a row's layout answers as the row has it.
 fn is_right(alloc: Global, tables: &Tables, row: &str) -> Result<bool, Fail> {
-    let (text, wanted) = row.split_once(" ⇒ ").ok_or("a row without an answer")?;
+    let (text, wanted) = parted(row)?;
     let layout = layout_of(alloc, text)?;
     Ok(answered(alloc, layout.as_bytes(), tables)?.as_str() == wanted)
 }

@@ -3,18 +3,19 @@
 use crate::files::changed;
 use kmx_decompiler::decompile;
 use kmx_verifier::verify;
+use source_tests::fixtures::parted;
 use std::alloc::{AllocError, Global};
 use std::fmt::Write;
 use std::str;
 use std::test::Fail;
 
-/// On each line a file as `changed` reads it, and its source, in which `¶` is a line feed and `@` stands for the first three
-/// lines of each; or why it has none. The files are that of one rule; that with the output of the deadkey 5,001; one of two
-/// records of the key `c`, of which the second has a context, `a`, and the first has none; that of a condition on the layer;
-/// that where it is one on the platform, for unequal; one that sets the layer; that of one rule with a store of cased keys,
-/// which has the key `[K_A]`; two that hold on a layer whose name has both kinds of quote, and a deadkey; and one that sets
-/// the layer to what ends a line.
-const SOURCES: &str = r##"⇒ @+ U+0061 > U+0062¶
+/// On each line a file as `changed` reads it and, behind ` ⇒ `, its source, in which `¶` is a line feed and `@` stands for the
+/// first three lines of each; or why it has none. The files are that of one rule; that with the output of the deadkey 5,001;
+/// one of two records of the key `c`, of which the second has a context, `a`, and the first has none; that of a condition on
+/// the layer; that where it is one on the platform, for unequal; one that sets the layer; that of one rule with a store of
+/// cased keys, which has the key `[K_A]`; two that hold on a layer whose name has both kinds of quote, and a deadkey; and one
+/// that sets the layer to what ends a line.
+const SOURCES: &str = r##" ⇒ @+ U+0061 > U+0062¶
 @118 FFFF080089130000 ⇒ refused X2 at 100
 @64 80 @80 02 @88 63 @100 8A @108 63000000040000 @118 00008E000000920000006D00610069006E000000780000007900000061000000 ⇒ refused X1 group 0 rule 1
 layer ⇒ @if(&layer = "s") + U+0061 > U+0062¶
@@ -72,7 +73,7 @@ fn wanted_of(alloc: Global, text: &str) -> Result<String, AllocError> {
 
 /// Whether a row's file has the source that the row wants, or has none for its reason.
 fn is_right(alloc: Global, row: &str) -> Result<bool, Fail> {
-    let (changes, text) = row.split_once("⇒ ").ok_or("a row without an answer")?;
+    let (changes, text) = parted(row)?;
     let wanted = wanted_of(alloc, text)?;
     Ok(source_of(alloc, changes)?.as_str() == wanted.as_str())
 }

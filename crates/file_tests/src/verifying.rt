@@ -5,92 +5,93 @@ use crate::fixtures::TWO_KEYS;
 use kmn_base::{Code, RuleKey};
 use kmx_verifier::{Fault, VerifyError, verify};
 use rule_model::{Group, Out, Rule};
+use source_tests::fixtures::parted;
 use std::alloc::{AllocError, Global};
 use std::test::Fail;
 
-/// On each line a file as `changed` reads it, and what verifying it gives. Of a valid file its version and its counts are given.
-const CHANGES: &str = "\
- > valid 0A00 0 1 1
-<63 > V01 at 63 unit 00
-<120 > V10 at 100 unit 00
-@118 FFFF 0F00 0100 0000 > V14 at 118 unit 0F
-@118 FFFF 1300 0100 0100 0000 > V12 at 118 unit 00
-@118 FFFF 0500 0000 > V11 at 118 unit 00
-@118 FFFF 1100 0100 0000 > V13 at 118 unit 00
-@0 00 > V02 at 0 unit 00
-@4 000B > V03 at 4 unit 00
-@48 20 > V04 at 48 unit 00
-@24 214E > V15 at 24 unit 00
-@28 E903 > V15 at 28 unit 00
-@44 FFFFFFFF > V05 at 44 unit 00
-@44 01 > V06 at 44 unit 00
-@40 01000000 > V06 at 40 unit 00
-@24 01 @32 7A > V07 at 32 unit 00
-@36 70 > V08 at 36 unit 00
-@60 01 @56 7A > V16 at 56 unit 00
-@80 A18601 > V15 at 80 unit 00
-@68 70 > V09 at 68 unit 00
-@64 7A > V10 at 64 unit 00
-@96 0004 > V14 at 96 unit 0A
-@118 00D8 0000 > V11 at 118 unit 00
-@118 FFFF 0A00 0040 4100 1000 0000 > V14 at 118 unit 0A
-@118 FFFF 0100 0100 0000 > V14 at 118 unit 01
-@118 FFFF 0500 0200 0000 > V12 at 118 unit 00
-@118 FFFF 0500 0100 0000 > valid 0A00 0 1 1
-@118 FFFF 0200 0100 0100 0000 > V12 at 118 unit 00
-@118 6200 FFFF 0800 8913 0000 > valid 0A00 0 1 1
-@104 76 > valid 0A00 0 1 1
-@108 FFFF > valid 0A00 0 1 1
-@8 01020304 05060708 090A0B0C 0D0E0F10 @52 01020304 @90 0102 > valid 0A00 0 1 1
-@88 FFFF @92 FFFFFFFF > valid 0A00 0 1 1
-@84 00 @96 0004 > valid 0A00 0 1 1
-@84 02 @48 1F @32 FFFFFFFF @56 FFFFFFFF > valid 0A00 0 1 1
-@4 00110100 > V03 at 4 unit 00
-@28 00 > V06 at 44 unit 00
-@24 00CA9A3B @28 00CA9A3B > V15 at 24 unit 00
-@80 00CA9A3B > V15 at 80 unit 00
-@60 01001000 @56 01 > V16 at 56 unit 00
-@64 FFFFFFFF > V10 at 64 unit 00
-two > valid 0A00 2 1 2
-two @68 00 @80 00 @88 00 > valid 0A00 2 1 2
-two @72 CE @88 CE > V10 at 72 unit 00
-two @128 CE @124 DA @206 FFFF 0400 FFFF 0100 0100 0000 FFFF 0200 0200 0200 0000 > valid 0A00 2 1 2
-two @128 CE @124 DA @206 FFFF 0400 FFFF 0100 0100 0000 FFFF 0200 0200 0100 0000 > V13 at 218 unit 00
-two @128 CE @206 FFFF 0100 0300 0000 > V12 at 206 unit 00
-two @128 CE @206 FFFF 1100 0100 0000 > V13 at 206 unit 00
-layer > valid 0A00 1 1 1
-layer @138 2000 > valid 0A00 1 1 1
-layer @140 0100 > valid 0A00 1 1 1
-layer @138 2100 > V14 at 134 unit 17
-layer @138 2300 > V14 at 134 unit 17
-layer @138 2800 > V14 at 134 unit 17
-layer @138 0100 > V14 at 134 unit 17
-layer @138 0000 > V11 at 134 unit 00
-layer @140 0300 > V11 at 134 unit 00
-layer @142 0000 > V11 at 134 unit 00
-layer @138 2100 0300 > V11 at 134 unit 00
-layer @142 0200 > V12 at 134 unit 00
-layer @138 2000 0100 0200 > V12 at 134 unit 00
-layer @138 2100 0200 0200 > V14 at 134 unit 17
-layer @136 1900 > V14 at 134 unit 19
-layer @112 96 @150 FFFF 1800 2200 0100 0000 > valid 0A00 1 1 1
-layer @112 96 @150 FFFF 1800 2000 0100 0000 > V14 at 150 unit 18
-layer @112 96 @150 FFFF 1800 2100 0100 0000 > V14 at 150 unit 18
-layer @112 96 @150 FFFF 1800 2200 0200 0000 > V12 at 150 unit 00
-layer @112 96 @150 FFFF 1800 2000 0200 0000 > V14 at 150 unit 18
-layer @112 96 @150 FFFF 1800 2200 0000 > V11 at 150 unit 00
-layer @84 96 @150 FFFF 1800 2200 0100 0000 > valid 0A00 1 1 1
-layer @88 96 @150 FFFF 1800 2200 0100 FFFF 0700 0000 > valid 0A00 1 1 1
-layer @84 96 @150 FFFF 1800 2000 0100 0000 > V14 at 150 unit 18
-layer @88 86 > V14 at 134 unit 17
-layer @112 86 > V14 at 134 unit 17
-layer @116 96 @150 FFFF 1800 2200 0100 0000 > V14 at 150 unit 18
-layer @72 86 > V14 at 134 unit 17
-layer @72 96 @150 FFFF 1800 2200 0100 0000 > V14 at 150 unit 18
-layer @116 96 @150 6100 FFFF 1700 2000 0100 0100 0000 > valid 0A00 1 1 1
-layer @112 96 @150 FFFF 1100 0100 0000 > V13 at 150 unit 00
-layer @112 A8 @116 96 @150 FFFF 1700 2200 0200 0100 FFFF 0100 0100 0000 FFFF 0200 0100 0200 0000 > valid 0A00 1 1 1
-layer @112 A8 @116 96 @150 FFFF 1700 2200 0200 0100 FFFF 0100 0100 0000 FFFF 0200 0100 0100 0000 > V13 at 168 unit 00";
+/// On each line a file as `changed` reads it and, behind ` ⇒ `, what verifying it gives. Of a valid file its version and its
+/// counts are given.
+const CHANGES: &str = " ⇒ valid 0A00 0 1 1
+<63 ⇒ V01 at 63 unit 00
+<120 ⇒ V10 at 100 unit 00
+@118 FFFF 0F00 0100 0000 ⇒ V14 at 118 unit 0F
+@118 FFFF 1300 0100 0100 0000 ⇒ V12 at 118 unit 00
+@118 FFFF 0500 0000 ⇒ V11 at 118 unit 00
+@118 FFFF 1100 0100 0000 ⇒ V13 at 118 unit 00
+@0 00 ⇒ V02 at 0 unit 00
+@4 000B ⇒ V03 at 4 unit 00
+@48 20 ⇒ V04 at 48 unit 00
+@24 214E ⇒ V15 at 24 unit 00
+@28 E903 ⇒ V15 at 28 unit 00
+@44 FFFFFFFF ⇒ V05 at 44 unit 00
+@44 01 ⇒ V06 at 44 unit 00
+@40 01000000 ⇒ V06 at 40 unit 00
+@24 01 @32 7A ⇒ V07 at 32 unit 00
+@36 70 ⇒ V08 at 36 unit 00
+@60 01 @56 7A ⇒ V16 at 56 unit 00
+@80 A18601 ⇒ V15 at 80 unit 00
+@68 70 ⇒ V09 at 68 unit 00
+@64 7A ⇒ V10 at 64 unit 00
+@96 0004 ⇒ V14 at 96 unit 0A
+@118 00D8 0000 ⇒ V11 at 118 unit 00
+@118 FFFF 0A00 0040 4100 1000 0000 ⇒ V14 at 118 unit 0A
+@118 FFFF 0100 0100 0000 ⇒ V14 at 118 unit 01
+@118 FFFF 0500 0200 0000 ⇒ V12 at 118 unit 00
+@118 FFFF 0500 0100 0000 ⇒ valid 0A00 0 1 1
+@118 FFFF 0200 0100 0100 0000 ⇒ V12 at 118 unit 00
+@118 6200 FFFF 0800 8913 0000 ⇒ valid 0A00 0 1 1
+@104 76 ⇒ valid 0A00 0 1 1
+@108 FFFF ⇒ valid 0A00 0 1 1
+@8 01020304 05060708 090A0B0C 0D0E0F10 @52 01020304 @90 0102 ⇒ valid 0A00 0 1 1
+@88 FFFF @92 FFFFFFFF ⇒ valid 0A00 0 1 1
+@84 00 @96 0004 ⇒ valid 0A00 0 1 1
+@84 02 @48 1F @32 FFFFFFFF @56 FFFFFFFF ⇒ valid 0A00 0 1 1
+@4 00110100 ⇒ V03 at 4 unit 00
+@28 00 ⇒ V06 at 44 unit 00
+@24 00CA9A3B @28 00CA9A3B ⇒ V15 at 24 unit 00
+@80 00CA9A3B ⇒ V15 at 80 unit 00
+@60 01001000 @56 01 ⇒ V16 at 56 unit 00
+@64 FFFFFFFF ⇒ V10 at 64 unit 00
+two ⇒ valid 0A00 2 1 2
+two @68 00 @80 00 @88 00 ⇒ valid 0A00 2 1 2
+two @72 CE @88 CE ⇒ V10 at 72 unit 00
+two @128 CE @124 DA @206 FFFF 0400 FFFF 0100 0100 0000 FFFF 0200 0200 0200 0000 ⇒ valid 0A00 2 1 2
+two @128 CE @124 DA @206 FFFF 0400 FFFF 0100 0100 0000 FFFF 0200 0200 0100 0000 ⇒ V13 at 218 unit 00
+two @128 CE @206 FFFF 0100 0300 0000 ⇒ V12 at 206 unit 00
+two @128 CE @206 FFFF 1100 0100 0000 ⇒ V13 at 206 unit 00
+layer ⇒ valid 0A00 1 1 1
+layer @138 2000 ⇒ valid 0A00 1 1 1
+layer @140 0100 ⇒ valid 0A00 1 1 1
+layer @138 2100 ⇒ V14 at 134 unit 17
+layer @138 2300 ⇒ V14 at 134 unit 17
+layer @138 2800 ⇒ V14 at 134 unit 17
+layer @138 0100 ⇒ V14 at 134 unit 17
+layer @138 0000 ⇒ V11 at 134 unit 00
+layer @140 0300 ⇒ V11 at 134 unit 00
+layer @142 0000 ⇒ V11 at 134 unit 00
+layer @138 2100 0300 ⇒ V11 at 134 unit 00
+layer @142 0200 ⇒ V12 at 134 unit 00
+layer @138 2000 0100 0200 ⇒ V12 at 134 unit 00
+layer @138 2100 0200 0200 ⇒ V14 at 134 unit 17
+layer @136 1900 ⇒ V14 at 134 unit 19
+layer @112 96 @150 FFFF 1800 2200 0100 0000 ⇒ valid 0A00 1 1 1
+layer @112 96 @150 FFFF 1800 2000 0100 0000 ⇒ V14 at 150 unit 18
+layer @112 96 @150 FFFF 1800 2100 0100 0000 ⇒ V14 at 150 unit 18
+layer @112 96 @150 FFFF 1800 2200 0200 0000 ⇒ V12 at 150 unit 00
+layer @112 96 @150 FFFF 1800 2000 0200 0000 ⇒ V14 at 150 unit 18
+layer @112 96 @150 FFFF 1800 2200 0000 ⇒ V11 at 150 unit 00
+layer @84 96 @150 FFFF 1800 2200 0100 0000 ⇒ valid 0A00 1 1 1
+layer @88 96 @150 FFFF 1800 2200 0100 FFFF 0700 0000 ⇒ valid 0A00 1 1 1
+layer @84 96 @150 FFFF 1800 2000 0100 0000 ⇒ V14 at 150 unit 18
+layer @88 86 ⇒ V14 at 134 unit 17
+layer @112 86 ⇒ V14 at 134 unit 17
+layer @116 96 @150 FFFF 1800 2200 0100 0000 ⇒ V14 at 150 unit 18
+layer @72 86 ⇒ V14 at 134 unit 17
+layer @72 96 @150 FFFF 1800 2200 0100 0000 ⇒ V14 at 150 unit 18
+layer @116 96 @150 6100 FFFF 1700 2000 0100 0100 0000 ⇒ valid 0A00 1 1 1
+layer @112 96 @150 FFFF 1100 0100 0000 ⇒ V13 at 150 unit 00
+layer @112 A8 @116 96 @150 FFFF 1700 2200 0200 0100 FFFF 0100 0100 0000 FFFF 0200 0100 0200 0000 ⇒ valid 0A00 1 1 1
+layer @112 A8 @116 96 @150 FFFF 1700 2200 0200 0100 FFFF 0100 0100 0000 FFFF 0200 0100 0100 0000 ⇒ V13 at 168 unit 00";
 
 /// What verifying bytes gives, as text.
 fn given(alloc: Global, bytes: &[u8]) -> Result<String, AllocError> {
@@ -111,7 +112,7 @@ fn given(alloc: Global, bytes: &[u8]) -> Result<String, AllocError> {
 
 /// Whether verifying a changed file gives what its line says.
 fn is_right(alloc: Global, line: &str) -> Result<bool, Fail> {
-    let (changes, wanted) = line.split_once("> ").ok_or("a row without an answer")?;
+    let (changes, wanted) = parted(line)?;
     let file = changed(alloc, changes)?;
     Ok(given(alloc, file.as_slice())?.as_str() == wanted)
 }

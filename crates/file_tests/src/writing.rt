@@ -11,6 +11,28 @@ use rule_model::{Store, Tables};
 use std::alloc::Global;
 use std::test::Fail;
 
+/// The keys of the second file: A alone, and A with shift.
+const KEYS: [Element; 2] = [
+    Element::Key {
+        flags: 0x4000,
+        code: 0x41,
+    },
+    Element::Key {
+        flags: 0x4010,
+        code: 0x41,
+    },
+];
+
+const PLAIN: RuleKey = RuleKey::Virtual {
+    flags: 0x4000,
+    code: 0x41,
+};
+
+const SHIFTED: RuleKey = RuleKey::Virtual {
+    flags: 0x4010,
+    code: 0x41,
+};
+
 fn one_rule(alloc: Global) -> Result<Tables, Memory>
     ensures { IfOk result (λ tables. tables ≡ one_rule) }
 {
@@ -21,44 +43,18 @@ fn one_rule(alloc: Global) -> Result<Tables, Memory>
 fn two_keys(alloc: Global) -> Result<Tables, Memory>
     ensures { IfOk result (λ tables. tables ≡ two_keys) }
 {
-    let keys = [
-        Element::Key {
-            flags: 0x4000,
-            code: 0x41,
-        },
-        Element::Key {
-            flags: 0x4010,
-            code: 0x41,
-        },
-    ];
     let first = Store {
         system: 0,
         name: Text::from_slice(alloc, b"k")?,
-        elements: Seq::from_slice(alloc, &keys)?,
+        elements: Seq::from_slice(alloc, &KEYS)?,
     };
     let second = Store {
         system: 0,
         name: Text::from_slice(alloc, b"o")?,
         elements: Seq::from_slice(alloc, &[Element::Char('x'), Element::Char('y')])?,
     };
-    let plain = rule(
-        alloc,
-        5,
-        RuleKey::Virtual {
-            flags: 0x4000,
-            code: 0x41,
-        },
-        'x',
-    )?;
-    let shifted = rule(
-        alloc,
-        5,
-        RuleKey::Virtual {
-            flags: 0x4010,
-            code: 0x41,
-        },
-        'y',
-    )?;
+    let plain = rule(alloc, 5, PLAIN, 'x')?;
+    let shifted = rule(alloc, 5, SHIFTED, 'y')?;
     let stores = Seq::from_vec(vec![in alloc; first, second]?);
     tables(
         alloc,

@@ -1,20 +1,19 @@
 -- The entries of a script for many fields, or its first refusal: a line is first read as the P codes say, then judged by what it is.
-use Rattle.std.specs.Prelude.{ℕ, ◌+◌, not, nat_eq, nat_le, nat_lt, ◌&&◌, if◌then◌else◌, List, [], ◌∷◌, ◌++◌, length, map, take, drop, codes, position, Option, Some, None, option_map, Result, Ok, Err}
-use Rattle.std.specs.Str.{byte, bytes_eq, is_utf8}
+use Rattle.std.specs.Prelude.{ℕ, ◌+◌, nat_eq, nat_le, nat_lt, ◌&&◌, if◌then◌else◌, List, [], ◌∷◌, ◌++◌, map, take, drop, codes, position, Option, Some, None, option_map, Result, Ok, Err}
+use Rattle.std.specs.Str.{byte, bytes_eq}
 use Rattle.kmn_base.specs.Answers.{and_then}
 use Rattle.kmn_base.specs.declared.codes.Code.{Code}
-use Rattle.kmn_base.specs.declared.codes.Code.TheVariants.{P01, P03, P05, P06, P07, P08, H1, H2}
-use Rattle.kmn_base.specs.declared.limits.TheConstants.{TEXT_BYTES, SCRIPT_EVENTS}
+use Rattle.kmn_base.specs.declared.codes.Code.TheVariants.{P03, P05, P07, P08, H1, H2}
+use Rattle.kmn_base.specs.declared.limits.TheConstants.{SCRIPT_EVENTS, FIELDS}
 use Rattle.kmn_base.specs.declared.refusals.Refusal.{Refusal}
 use Rattle.rule_model.specs.declared.script.Entry.{Entry}
 use Rattle.rule_model.specs.declared.script.Entry.TheVariants as one_field
-use Rattle.play_script.specs.Entries.{with_found, line_found}
-use Rattle.play_script.specs.Lines.{text_lines, without_mark}
+use Rattle.play_script.specs.Entries.{script_text, with_found, line_found}
+use Rattle.play_script.specs.Lines.{text_lines}
 use Rattle.play_script.specs.Presses.{press_with}
 use Rattle.play_script.specs.Words.{is_closing, without_blanks, first_word, behind_word, words, number}
 use Rattle.host_script.specs.declared.entries.HostEntry.{HostEntry}
-use Rattle.host_script.specs.declared.entries.HostEntry.TheVariants.{Add, Turn, Show, Act, Expect}
-use Rattle.host_script.specs.declared.entries.TheConstants.{SCRIPT_FIELDS}
+use Rattle.host_script.specs.declared.entries.HostEntry.TheVariants.{Open, Field, Preview, Act, Expect}
 use Rattle.host_script.specs.declared.lines.HostLineKind.{HostLineKind}
 use Rattle.host_script.specs.declared.lines.HostLineKind.TheVariants as kind
 use Rattle.host_script.specs.declared.lines.LinePart.{LinePart}
@@ -37,7 +36,7 @@ complete line entry events (c ∷ rest) = breaks line P08
 -- behind `field`: a number
 abbrev pub field_part : ℕ → ℕ → List ℕ → Result LinePart Refusal
 field_part line events text =
-    and_then (needed line P05 (number (first_word text))) (λ field. complete line (Turn line field) events (behind_word text))
+    and_then (needed line P05 (number (first_word text))) (λ field. complete line (Field line field) events (behind_word text))
 
 -- the bracket with which a text begins: what stands in it up to the first ], and what stands behind that
 abbrev pub bracket : List ℕ → Option (List ℕ × List ℕ)
@@ -53,7 +52,7 @@ abbrev pub preview_part : List (List ℕ) → ℕ → ℕ → List ℕ → Resul
 preview_part dictionary line events text =
     and_then (needed line P03 (bracket text)) (λ parts.
     and_then (needed line P03 (press_with dictionary 0 (words parts.0))) (λ press.
-    and_then (counted line events) (λ count. complete line (Show line press) count (without_blanks parts.1))))
+    and_then (counted line events) (λ count. complete line (Preview line press) count (without_blanks parts.1))))
 
 -- an entry of a script for one field, on the field that is turned to
 abbrev pub on_field : Entry → HostEntry
@@ -77,7 +76,7 @@ kind_of word =
 -- a line by itself, without the blanks before it, behind so many events and previews: its entries, or the first P code that it breaks
 abbrev pub kind_part : List (List ℕ) → ℕ → ℕ → Option HostLineKind → List ℕ → Result LinePart Refusal
 kind_part dictionary line events None text = other_part dictionary line events text
-kind_part dictionary line events (Some kind.Open) text = complete line (Add line) events (behind_word text)
+kind_part dictionary line events (Some kind.Open) text = complete line (Open line) events (behind_word text)
 kind_part dictionary line events (Some kind.Field) text = field_part line events (behind_word text)
 kind_part dictionary line events (Some kind.Preview) text = preview_part dictionary line events (behind_word text)
 
@@ -92,15 +91,15 @@ if_open line field fields = if nat_le 1 field && nat_le field fields then Ok fie
 
 -- one field more, unless there are as many as a script can open
 abbrev pub one_more : ℕ → ℕ → Result ℕ Refusal
-one_more line fields = if nat_lt fields SCRIPT_FIELDS then Ok (fields + 1) else breaks line H2
+one_more line fields = if nat_lt fields FIELDS then Ok (fields + 1) else breaks line H2
 
 -- how many fields are open behind a line where so many are before it, or the rule that it breaks by what it is: the entries of a
 -- line are alike, so its first tells; where a field is open, the first is
 abbrev pub fields_behind : ℕ → List HostEntry → Result ℕ Refusal
 fields_behind fields [] = Ok fields
-fields_behind fields (Add line ∷ more) = one_more line fields
-fields_behind fields (Turn line field ∷ more) = if_open line field fields
-fields_behind fields (Show line press ∷ more) = if_open line 1 fields
+fields_behind fields (Open line ∷ more) = one_more line fields
+fields_behind fields (Field line field ∷ more) = if_open line field fields
+fields_behind fields (Preview line press ∷ more) = if_open line 1 fields
 fields_behind fields (Act line event ∷ more) = if_open line 1 fields
 fields_behind fields (Expect line text ∷ more) = if_open line 1 fields
 
@@ -125,6 +124,4 @@ with_lines dictionary line (text ∷ lines) s = and_then (with_line dictionary l
 -- the entries of a script for many fields over a keyboard with this dictionary of keys, or its first refusal
 unfoldable pub host_entries : List (List ℕ) → List ℕ → Result (List HostEntry) Refusal
 host_entries dictionary bytes =
-    if nat_lt TEXT_BYTES (length bytes) then breaks 1 P06
-    else if not (is_utf8 bytes) then breaks 1 P01
-    else and_then (with_lines dictionary 1 (text_lines (without_mark bytes)) first_script) (λ s. Ok s.entries)
+    and_then (script_text bytes) (λ text. and_then (with_lines dictionary 1 (text_lines text) first_script) (λ s. Ok s.entries))

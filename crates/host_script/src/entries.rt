@@ -1,17 +1,14 @@
 use kmn_base::{Event, KeyPress, Seq};
 
-/// How many fields a script can open.
-pub const SCRIPT_FIELDS: u32 = 64;
-
 /// One line of a script for many fields, or one key press of a line, with the number of its line from 1.
 #[derive(Drop)]
 pub enum HostEntry {
     /// A field is opened behind those that are open, and turned to.
-    Add { line: u32 },
+    Open { line: u32 },
     /// The field with this number, from 1, is turned to.
-    Turn { line: u32, field: u32 },
+    Field { line: u32, field: u32 },
     /// What a key press would do in the field that is turned to.
-    Show { line: u32, press: KeyPress },
+    Preview { line: u32, press: KeyPress },
     /// An event in the field that is turned to.
     Act { line: u32, event: Event },
     /// The whole text of the field that is turned to is compared with this one.

@@ -11,5 +11,5 @@ mod entries;
 mod lines;
 mod script;
 
-pub use entries::{HostEntry, SCRIPT_FIELDS};
+pub use entries::HostEntry;
 pub use script::read_host;

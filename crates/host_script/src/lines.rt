@@ -67,7 +67,7 @@ fn field_part(alloc: Global, line: u32, events: usize, text: &[u8]) -> Result<Li
     ensures { Answers (field_part line events text.now) result }
 {
     let field = needed_number(line, text)?;
-    let entry = HostEntry::Turn { line, field };
+    let entry = HostEntry::Field { line, field };
     complete(alloc, line, entry, events, behind_word(text))
 }
 
@@ -112,7 +112,7 @@ fn preview_part(
     let (inside, behind) = needed_bracket(line, text)?;
     let press = needed_press(names, line, inside)?;
     let events = counted(line, events)?;
-    let entry = HostEntry::Show { line, press };
+    let entry = HostEntry::Preview { line, press };
     complete(alloc, line, entry, events, without_blanks(behind))
 }
 
@@ -170,7 +170,7 @@ pub(crate) fn line_part(
     let rest = behind_word(text);
     match kind_of(first_word(text)) {
         None => other_part(alloc, names, line, events, text),
-        Some(HostLineKind::Open) => complete(alloc, line, HostEntry::Add { line }, events, rest),
+        Some(HostLineKind::Open) => complete(alloc, line, HostEntry::Open { line }, events, rest),
         Some(HostLineKind::Field) => field_part(alloc, line, events, rest),
         Some(HostLineKind::Preview) => preview_part(alloc, names, line, events, rest),
     }

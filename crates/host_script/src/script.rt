@@ -7,11 +7,11 @@ ghost use Rattle.play_script.specs.Lines.{text_lines};
 ghost use Rattle.play_script.specs.Answers.{Answers, Leaves};
 ghost use Rattle.host_script.specs.HostEntries.{if_open, one_more, fields_behind, first_script, with_part, with_line, with_lines, host_entries};
 
-use crate::entries::{HostEntry, SCRIPT_FIELDS};
+use crate::entries::HostEntry;
 use crate::lines::{LinePart, line_part};
-use kmn_base::limits::TEXT_BYTES;
+use kmn_base::limits::FIELDS;
 use kmn_base::{Code, Seq};
-use play_script::{ScriptError, first_line, refused, without_mark};
+use play_script::{ScriptError, first_line, refused, script_text};
 use std::alloc::Global;
 use virtual_keys::KeyDictionary;
 
@@ -39,7 +39,7 @@ fn if_open(line: u32, field: u32, fields: u32) -> Result<u32, ScriptError>
 fn one_more(line: u32, fields: u32) -> Result<u32, ScriptError>
     ensures { Answers (one_more line fields) result }
 {
-    if fields < SCRIPT_FIELDS {
+    if fields < FIELDS as u32 {
         Ok(fields + 1)
     } else {
         Err(refused(line, Code::H2))
@@ -52,9 +52,9 @@ fn fields_behind(fields: u32, entries: &[HostEntry]) -> Result<u32, ScriptError>
 {
     match entries {
         [] => Ok(fields),
-        [HostEntry::Add { line }, ..] => one_more(*line, fields),
-        [HostEntry::Turn { line, field }, ..] => if_open(*line, *field, fields),
-        [HostEntry::Show { line, .. }, ..]
+        [HostEntry::Open { line }, ..] => one_more(*line, fields),
+        [HostEntry::Field { line, field }, ..] => if_open(*line, *field, fields),
+        [HostEntry::Preview { line, .. }, ..]
         | [HostEntry::Act { line, .. }, ..]
         | [HostEntry::Expect { line, .. }, ..] => if_open(*line, 1, fields),
     }
@@ -121,8 +121,8 @@ fn read_lines(
 
 /// The entries of a script for many fields over a keyboard with these names of keys, or the first of P01 to P08, H1 and H2
 /// that it breaks: P06 and P01 of the whole script, with line 1, then the others by line, H1 and H2 behind all else of a line.
-/// H1 comes where no field is open to which a line speaks, H2 at an `open` where [`SCRIPT_FIELDS`] are.
-#[tactic(auto, unfolding(crate::specs::HostEntries::host_entries))]
+/// H1 comes where no field is open to which a line speaks, H2 at an `open` where [`FIELDS`] are.
+#[tactic(auto, using(crate::proofs::LineLaws::text_read))]
 pub fn read_host(
     alloc: Global,
     bytes: &[u8],
@@ -130,11 +130,5 @@ pub fn read_host(
 ) -> Result<Seq<HostEntry>, ScriptError>
     ensures { Answers (host_entries names.now bytes.now) result }
 {
-    if bytes.len() > TEXT_BYTES {
-        return Err(refused(1, Code::P06));
-    }
-    match str::from_utf8(bytes) {
-        Ok(_) => read_lines(alloc, names, without_mark(bytes)),
-        Err(_) => Err(refused(1, Code::P01)),
-    }
+    read_lines(alloc, names, script_text(bytes)?)
 }

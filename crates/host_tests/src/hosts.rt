@@ -1,12 +1,13 @@
 //! Fields of one host.
 
 use crate::fixtures::KEYBOARD;
+use kmn_base::limits::FIELDS;
 use kmn_base::{Event, KeyPress};
 use kmn_compiler::compile;
 use kmx_verifier::{Verified, verify};
 use std::alloc::{AllocError, Global};
 use std::test::Fail;
-use text_host::{HOST_FIELDS, Host, HostError};
+use text_host::{Host, HostError};
 
 /// The accent's key.
 const ACCENT: KeyPress = KeyPress { code: 192, mods: 0 };
@@ -41,7 +42,7 @@ fn has_two(alloc: Global, file: &Verified) -> Result<bool, HostError> {
 
 /// Whether a host has the most fields that it can have, and no more.
 fn is_full(alloc: Global, file: &Verified) -> Result<bool, HostError> {
-    let mut host = host_with(alloc, file, HOST_FIELDS)?;
+    let mut host = host_with(alloc, file, FIELDS)?;
     let more = host.add(alloc);
     Ok(matches!(more, Err(HostError::Full)) && host.field(64).is_some() && host.field(65).is_none())
 }

@@ -1,8 +1,8 @@
 //! The tests of many fields over one keyboard: `scripts` of `host_script`, `hosts` of `text_host`, and `plays` of `play_host`.
 //!
 //! They stand here because a crate with tests is proved twice, once with them and once without: so each of those crates is
-//! proved once, and the tests are proved over them. `fixtures` has what several of
-//! them take. No layer stands above.
+//! proved once, and the tests are proved over them, beside those of `source_tests`, which parts their rows. `fixtures` has what
+//! several of them take. No layer stands above.
 #![tactic(auto)]
 
 pub mod fixtures;

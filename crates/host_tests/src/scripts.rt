@@ -4,6 +4,7 @@ use crate::fixtures::put_copies;
 use host_script::{HostEntry, read_host};
 use kmn_base::{Event, Refusal};
 use play_script::ScriptError;
+use source_tests::fixtures::parted;
 use std::alloc::Global;
 use std::test::Fail;
 use virtual_keys::KeyDictionary;
@@ -68,9 +69,9 @@ fn script_of(alloc: Global, row: &str) -> Result<Vec<u8>, Fail> {
 /// Appends an entry as a row has it.
 fn show_entry(shown: &mut String, entry: &HostEntry) -> Result<(), Fail> {
     match entry {
-        HostEntry::Add { line } => write!(shown, "{line}:open")?,
-        HostEntry::Turn { line, field } => write!(shown, "{line}:field/{field}")?,
-        HostEntry::Show { line, press } => {
+        HostEntry::Open { line } => write!(shown, "{line}:open")?,
+        HostEntry::Field { line, field } => write!(shown, "{line}:field/{field}")?,
+        HostEntry::Preview { line, press } => {
             write!(shown, "{line}:preview/{}/{}", press.code, press.mods)?;
         }
         HostEntry::Act {
@@ -111,7 +112,7 @@ fn given(alloc: Global, script: &[u8]) -> Result<String, Fail> {
 /// The first row that says what its script doesn't give.
 fn wrong_row(alloc: Global) -> Result<Option<&'static str>, Fail> {
     for row in ROWS.lines() {
-        let (text, wanted) = row.split_once(" ⇒ ").ok_or("a row without an answer")?;
+        let (text, wanted) = parted(row)?;
         let script = script_of(alloc, text)?;
         if given(alloc, script.as_slice())?.as_str() != wanted {
             return Ok(Some(row));

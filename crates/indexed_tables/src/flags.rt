@@ -1,6 +1,7 @@
 //! A flag for each store, and the numbers by these flags.
 
-ghost use Rattle.std.specs.Prelude.{◌≡◌, [], ◌∷◌, IfOk};
+ghost use Rattle.std.specs.Prelude.{◌≡◌, [], ◌∷◌, ◌++◌, true, false, IfOk, slice_get, unwrap_or};
+ghost use Rattle.std.specs.Option.{option_flatten};
 ghost use Rattle.indexed_tables.specs.OptionFlags.{with_flags, flag_numbers};
 
 use kmn_base::Memory;
@@ -16,9 +17,16 @@ pub fn mark(flags: &mut [bool], store: u32)
     }
 }
 
+/// The flag of a place; none is set past the end.
+pub fn flag_at(flags: &[bool], place: usize) -> bool
+    ensures { result ≡ unwrap_or (slice_get flags.now place) false }
+{
+    flags.get(place).copied().unwrap_or(false)
+}
+
 /// The numbers of the flags that are set, counted in their order.
 #[tactic(auto, using(std::proofs::lemmas::Grind::common_steps, crate::proofs::OptionFlags::numbers_more))]
-pub fn flag_numbers(alloc: Global, flags: &[bool]) -> Result<Vec<Option<usize>>, Memory>
+fn flag_numbers(alloc: Global, flags: &[bool]) -> Result<Vec<Option<usize>>, Memory>
     ensures { IfOk result (λ numbers. numbers.items ≡ flag_numbers 0 flags.now) }
 {
     let mut numbers = Vec::new(alloc);
@@ -32,4 +40,21 @@ pub fn flag_numbers(alloc: Global, flags: &[bool]) -> Result<Vec<Option<usize>>,
         }
     }
     Ok(numbers)
+}
+
+/// The option number of each store by these flags, and of the system options behind them, which are options of every keyboard.
+#[tactic(auto, using(std::proofs::lemmas::Grind::common_steps))]
+pub fn numbers_by_flags(alloc: Global, mut flags: Vec<bool>) -> Result<Vec<Option<usize>>, Memory>
+    ensures { IfOk result (λ numbers. numbers.items ≡ flag_numbers 0 (flags.items ++ true ∷ true ∷ [])) }
+{
+    flags.push(true)?;
+    flags.push(true)?;
+    flag_numbers(alloc, flags.as_slice())
+}
+
+/// The number in a list of numbers by store.
+pub fn number_at(numbers: &[Option<usize>], store: u32) -> Option<usize>
+    ensures { result ≡ option_flatten (slice_get numbers.now store) }
+{
+    numbers.get(store as usize).copied().flatten()
 }

@@ -1,5 +1,4 @@
 ghost use Rattle.std.specs.Prelude.{◌≡◌, ◌+◌, ◌-◌, Some, IfOk, if◌then◌else◌, nat_eq, length, option_copied, option_map, slice_get, position};
-ghost use Rattle.std.specs.Option.{option_flatten};
 ghost use Rattle.virtual_keys.specs.Dictionary.{name_in};
 ghost use Rattle.rule_model.specs.Keyboard.{Numbered};
 ghost use Rattle.rule_model.specs.Content.{option_number, elements_at};
@@ -9,13 +8,13 @@ ghost use Rattle.rule_model.specs.declared.system.TheConstants.{PLATFORM};
 ghost use Rattle.rule_model.specs.System.{system_ref, system_options};
 ghost use Rattle.rule_model.specs.Tab.{elements_of, tab, tab_options, with_options};
 
+use crate::flags::number_at;
 use crate::options::option_numbers;
 use crate::own_keys::own_keys;
 use crate::system::{system_elements, system_number};
-use kmn_base::names::same_name;
 use kmn_base::{Element, Memory, Text};
 use rule_model::system::{LAYER, PLATFORM};
-use rule_model::{Group, Store, Tables};
+use rule_model::{Group, Store, Tables, has_name};
 use std::alloc::Global;
 use std::marker::Model;
 use virtual_keys::FIRST_OWN_CODE;
@@ -170,20 +169,6 @@ impl<'a> IndexedTables<'a> {
             None => None,
         }
     }
-}
-
-/// The option number in a list of numbers by store.
-fn number_at(numbers: &[Option<usize>], store: u32) -> Option<usize>
-    ensures { result ≡ option_flatten (slice_get numbers.now store) }
-{
-    numbers.get(store as usize).copied().flatten()
-}
-
-/// Whether an option has a name.
-fn has_name(name: &[u8], other: &[u8]) -> bool
-    ensures { result ≡ has_name name.now other.now }
-{
-    !other.is_empty() && same_name(other, name)
 }
 
 /// The option number of the first store of a name that has one.

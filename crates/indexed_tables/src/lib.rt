@@ -4,7 +4,7 @@
 //! it has once and for all the option number of each store and the names of own keys, and hands out groups and elements as
 //! the tables have them. A layer that asks only which stores some item uses as an option takes a flag for each: `option_flags`
 //! makes them, and `mark_options` sets them where no memory may be taken. A layer that reads a file where it lies counts option
-//! numbers the same way: `mark` sets the flag of one store, and `flag_numbers` counts the flags (`specs/OptionFlags`, with the
+//! numbers the same way: `mark` sets the flag of one store, and `numbers_by_flags` counts the flags (`specs/OptionFlags`, with the
 //! laws of flags in `proofs/OptionFlags`). Behind the stores of all tables stand the system options, the layer and the
 //! platform: `system_elements` are what they begin with, and `has_words` says whether the platform is what a value asks for.
 //! What asks whether names could stand in a source takes their words by `first_word`.
@@ -17,7 +17,7 @@ mod own_keys;
 mod platform;
 mod system;
 
-pub use flags::{flag_numbers, mark};
+pub use flags::{flag_at, mark, number_at, numbers_by_flags};
 pub use indexed_tables::IndexedTables;
 pub use options::{mark_options, option_flags};
 pub use own_keys::{element_text, first_word};

@@ -1,12 +1,12 @@
 //! Which stores of tables are options, and the option number of each.
 
-ghost use Rattle.std.specs.Prelude.{◌≡◌, ◌++◌, ◌∷◌, [], true, false, IfOk, length, replicate, flat_map};
+ghost use Rattle.std.specs.Prelude.{◌≡◌, ◌++◌, ◌∷◌, [], false, IfOk, length, replicate, flat_map};
 ghost use Rattle.rule_model.specs.Tab.{pattern_options, output_options, rule_options, group_options, tab_options, with_options};
 ghost use Rattle.rule_model.specs.System.{system_options};
 ghost use Rattle.rule_model.specs.Plain.{option_numbers};
 ghost use Rattle.indexed_tables.specs.OptionFlags.{with_flags};
 
-use crate::flags::{flag_numbers, mark};
+use crate::flags::{mark, numbers_by_flags};
 use kmn_base::Memory;
 use rule_model::{Group, Out, Pat, Rule, Tables};
 use std::alloc::Global;
@@ -84,21 +84,10 @@ pub fn option_flags(alloc: Global, tables: &Tables) -> Result<Vec<bool>, Memory>
     Ok(flags)
 }
 
-/// The flags of the stores and, set, those of the system options behind them.
-#[tactic(auto, using(std::proofs::lemmas::Grind::common_steps))]
-fn all_flags(alloc: Global, tables: &Tables) -> Result<Vec<bool>, Memory>
-    ensures { IfOk result (λ flags. flags.items ≡ with_flags (replicate (length tables.now.stores) false) (tab_options tables.now) ++ true ∷ true ∷ []) }
-{
-    let mut flags = option_flags(alloc, tables)?;
-    flags.push(true)?;
-    flags.push(true)?;
-    Ok(flags)
-}
-
 /// The option number of each store, and of the system options behind them.
 pub fn option_numbers(alloc: Global, tables: &Tables) -> Result<Vec<Option<usize>>, Memory>
     ensures { IfOk result (λ numbers. numbers.items ≡ option_numbers 0 (with_options (tab_options tables.now) 0 tables.now.stores ++ system_options)) }
 {
-    let flags = all_flags(alloc, tables)?;
-    flag_numbers(alloc, flags.as_slice())
+    let flags = option_flags(alloc, tables)?;
+    numbers_by_flags(alloc, flags)
 }

@@ -1,12 +1,11 @@
 //! The lines of work that was done: of a compiled file, of a valid one, of a text and of a touch layout.
 
 ghost use Rattle.std.specs.Prelude.{◌≡◌, ◌<◌, ◌^◌, length, IfOk};
-ghost use Rattle.std.specs.String.{string_bytes};
 ghost use Rattle.kmx_format.specs.File.{all_rules};
 ghost use Rattle.kmx_format.specs.TablesOf.{tables_of};
 ghost use Rattle.keyman_lines.specs.Lines.{compiled_line, decompiled_line, sound_line, valid_line};
 
-use kmn_base::{Memory, Seq, Text};
+use kmn_base::{Memory, Text};
 use kmn_compiler::Compiled;
 use kmx_format::rule_count;
 use kmx_verifier::Verified;
@@ -22,9 +21,10 @@ pub fn compiled_line(alloc: Global, compiled: &Compiled) -> Result<Text, Memory>
     let groups = compiled.tables.groups.len();
     let rules = rule_count(compiled.tables.groups.as_slice());
     let bytes = compiled.bytes.len();
-    Ok(text_of(format!(in alloc;
+    let line = format!(in alloc;
         "compiled stores={stores} groups={groups} rules={rules} bytes={bytes}\n"
-    )?))
+    )?;
+    Ok(Text::from_string(line))
 }
 
 /// The line of a valid file: its version and its counts.
@@ -39,7 +39,7 @@ pub fn valid_line(alloc: Global, file: &Verified<'_>) -> Result<Text, Memory>
     let line = format!(in alloc;
         "valid version={version:04X} stores={stores} groups={groups} rules={rules}\n"
     )?;
-    Ok(Seq::from_vec(line.into_bytes()))
+    Ok(Text::from_string(line))
 }
 
 /// The line of a text that was written: its size in bytes.
@@ -49,7 +49,7 @@ pub fn decompiled_line(alloc: Global, text: &Text) -> Result<Text, Memory>
 {
     let size = text.len();
     let line = format!(in alloc; "decompiled bytes={size}\n")?;
-    Ok(Seq::from_vec(line.into_bytes()))
+    Ok(Text::from_string(line))
 }
 
 /// The line of a layout that keeps all rules.
@@ -58,12 +58,5 @@ pub fn sound_line(alloc: Global, count: usize) -> Result<Text, Memory>
     ensures { IfOk result (λ line. line ≡ sound_line count) }
 {
     let line = format!(in alloc; "layout sound keys={count}\n")?;
-    Ok(Seq::from_vec(line.into_bytes()))
-}
-
-/// The bytes of a string.
-fn text_of(string: String) -> Text
-    ensures { result ≡ string_bytes string }
-{
-    Seq::from_vec(string.into_bytes())
+    Ok(Text::from_string(line))
 }

@@ -103,7 +103,7 @@ fn spelling_line(alloc: Global, why: NoSpelling) -> Result<Text, Memory>
     ensures { IfOk result (λ line. line ≡ spelling_line why) }
 {
     let line = format!(in alloc; "refused {why}\n")?;
-    Ok(Seq::from_vec(line.into_bytes()))
+    Ok(Text::from_string(line))
 }
 
 /// The line of a number that no load has.

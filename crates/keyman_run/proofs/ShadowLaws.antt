@@ -15,7 +15,6 @@ use Rattle.keyman_lines.specs.declared.reason.Reason.{Reason}
 use Rattle.keyman_words.specs.Command.{Request}
 use Rattle.keyman_words.specs.Command.Request.{Compile, Decompile, Host, Layout, Load, Play, Shadow, Test, Trace, Verify}
 use Rattle.keyman_status.specs.declared.status.Status.{Status}
-use Rattle.keyman_status.specs.declared.status.Status.TheVariants as status
 use Rattle.keyman_run.specs.Endings.{Ending, refused_ending, shadow_ending}
 use Rattle.keyman_run.specs.Inputs.{Pictured, few_records}
 use Rattle.keyman_run.specs.Orders.{compiled_work, program_work, shadow_work}
@@ -24,7 +23,6 @@ use Rattle.keyman_status.specs.Seen.{FolderView, SinkView}
 use Rattle.keyman_run.specs.Steps.{TellsDead}
 use Rattle.keyman_run.specs.Work.{Work, given, and_then, comes_to}
 use Rattle.keyman_run.specs.Work.Work.{Give, Refuse}
-use Rattle.play_transcript.proofs.PrintingLaws.{none_begun}
 use Rattle.keyman_run.proofs.MeaningLaws.{IsCompilable, all_compilable, file_behind}
 use Rattle.keyman_run.proofs.RunLaws.{does_told}
 use Rattle.keyman_run.proofs.WorkLaws.{comes_to_all}
@@ -52,11 +50,6 @@ does_found (Err why) folders folder sinks out out_after how tells =
 pub does_searched : {F S : Type 0} (compiled : Compiled) (folders : FolderView F) (folder : F) (sinks : SinkView S) (out out_after : S) (how : Status)
     → TellsDead (few_records compiled.tables) sinks out out_after how → Does (search_behind compiled) folders folder folder sinks out out_after how
 does_searched compiled folders folder sinks out out_after how tells = does_found (few_records compiled.tables) folders folder sinks out out_after how tells
-
--- for want of memory nothing is printed
-pub tells_unsearched : {S : Type 0} (few : Result Tables Reason) (sinks : SinkView S) (out : S) → TellsDead few sinks out out status.Memory
-tells_unsearched (Ok tables) sinks out = record { counts = refl; told = refl; prints = λ told. none_begun (sinks.written out) _ }
-tells_unsearched (Err why) sinks out = record { counts = refl; told = refl; prints = λ told. none_begun (sinks.written out) _ }
 
 -- the lines that are told of a source never fire in its program
 source_dead : (files : Files) (source : List ℕ) (pictured : Pictured) → comes_to files (program_work source) ≡ Some (Ok pictured) → All (IsDeadLine pictured.program) (dead_lines (compiled_tables pictured.program))

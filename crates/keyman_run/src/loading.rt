@@ -129,8 +129,7 @@ fn count_play<'a>(alloc: Global, file: &'a Verified<'a>, entries: &[Entry]) -> R
 fn text_length(session: &Session) -> usize
     ensures { result ≡ length (whole_text session.now.state) }
 {
-    let editor = session.editor();
-    editor.left().len() + editor.right().len()
+    session.editor().len()
 }
 
 /// Nothing is counted.

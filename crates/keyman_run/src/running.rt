@@ -6,14 +6,12 @@ ghost use Rattle.rule_model.specs.Transcript.{events_of, transcript};
 ghost use Rattle.play_session.specs.Session.{first_session};
 ghost use Rattle.keyman_run.specs.Asked.{HasWritten};
 ghost use Rattle.keyman_run.specs.Endings.{end_status, play_status};
-ghost use Rattle.keyman_lines.specs.Lines.{compiled_line, decompiled_line, sound_line, valid_line};
 ghost use Rattle.keyman_run.specs.Orders.{bytes_play_work, compile_work, decompile_work, layout_work, play_work, tables_layout_work, tables_play_work, test_work, verify_work};
 ghost use Rattle.keyman_run.specs.Inputs.{tables_of_file};
 ghost use Rattle.keyman_run.specs.Loads.{load_text};
-ghost use Rattle.keyman_lines.specs.Reasons.{reason_line};
 ghost use Rattle.keyman_run.specs.Run.{Does, TextMeans};
 ghost use Rattle.keyman_run.specs.Runs.{Runs};
-ghost use Rattle.keyman_status.specs.Tells.{Tells, write_status};
+ghost use Rattle.keyman_status.specs.Tells.{Tells};
 ghost use Rattle.keyman_run.specs.Steps.{IsCompiled, TellsFile, TellsLoad, TellsStop};
 
 use crate::hosting::host_on_file;
@@ -23,11 +21,10 @@ use crate::preparing::{Prepared, Stop, prepare, read_and_compile, read_file, rea
 use crate::shadowing::shadow_rules;
 use crate::texts::read_text;
 use crate::tracing::trace_rules;
-use keyman_lines::{Reason, compiled_line, decompiled_line, reason_line, sound_line, valid_line};
-use keyman_status::{Status, tell_line, write_status};
+use keyman_lines::{compiled_line, decompiled_line, reason_line, sound_line, valid_line};
+use keyman_status::{Status, tell_line, tell_made, write_status};
 use keyman_words::{Command, FileName, command_of, write};
 use kmn_base::{Memory, Text};
-use kmn_compiler::Compiled;
 use kmn_outside::{Folder, Sink};
 use kmx_verifier::{Verified, verify};
 use play_session::Session;
@@ -79,7 +76,7 @@ fn compile<F: Folder, S: Sink>(
 {
     match read_and_compile(alloc, source, folder) {
         Ok(compiled) => match write(alloc, file, compiled.bytes.as_slice(), folder) {
-            Ok(()) => tell_compiled(alloc, &compiled, out),
+            Ok(()) => tell_made(compiled_line(alloc, &compiled), Status::Done, out),
             Err(error) => write_status(error),
         },
         Err(stop) => tell_stop(alloc, stop, out),
@@ -125,25 +122,13 @@ fn verify_file<F: Folder, S: Sink>(
 }
 
 /// Prints the version and counts of a file, or its first fault.
-#[tactic(auto, using(crate::proofs::FileRuns::tells_valid))]
 fn tell_file<S: Sink>(alloc: Global, bytes: &[u8], out: &mut S) -> Status
     ensures { TellsFile (tables_of_file bytes.now) S.Sink out.old out.new result }
 {
     match verify(alloc, bytes) {
-        Ok(file) => tell_valid(alloc, &file, out),
+        Ok(file) => tell_made(valid_line(alloc, &file), Status::Done, out),
         Err(error) => tell_stop(alloc, Stop::from(error), out),
     }
-}
-
-/// Prints the version and the counts of a valid file.
-#[tactic(auto, using(play_transcript::proofs::PrintingLaws::none_begun))]
-fn tell_valid<S: Sink>(alloc: Global, file: &Verified<'_>, out: &mut S) -> Status
-    ensures { Tells Status.Done (valid_line (tables_of file.now)) S.Sink out.old out.new result }
-{
-    let Ok(line) = valid_line(alloc, file) else {
-        return Status::Memory;
-    };
-    tell_line(line.as_slice(), Status::Done, out)
 }
 
 /// Decompiles a file, writes its text and prints the text's size.
@@ -160,22 +145,11 @@ fn decompile<F: Folder, S: Sink>(
 {
     match read_text(alloc, file, folder) {
         Ok(text) => match write(alloc, source, text.as_slice(), folder) {
-            Ok(()) => tell_decompiled(alloc, &text, out),
+            Ok(()) => tell_made(decompiled_line(alloc, &text), Status::Done, out),
             Err(error) => write_status(error),
         },
         Err(stop) => tell_stop(alloc, stop, out),
     }
-}
-
-/// Prints the size of a text.
-#[tactic(auto, using(play_transcript::proofs::PrintingLaws::none_begun))]
-fn tell_decompiled<S: Sink>(alloc: Global, text: &Text, out: &mut S) -> Status
-    ensures { Tells Status.Done (decompiled_line text.now) S.Sink out.old out.new result }
-{
-    let Ok(line) = decompiled_line(alloc, text) else {
-        return Status::Memory;
-    };
-    tell_line(line.as_slice(), Status::Done, out)
 }
 
 /// Plays a script on a compiled file, whoever made it.
@@ -272,20 +246,9 @@ fn check_beside<F: Folder, S: Sink>(
     ensures { Does (tables_layout_work tables.now layout.now) F.Folder folder.old folder.new S.Sink out.old out.new result }
 {
     match read_keys(alloc, layout, tables, folder) {
-        Ok(count) => tell_sound(alloc, count, out),
+        Ok(count) => tell_made(sound_line(alloc, count), Status::Done, out),
         Err(stop) => tell_stop(alloc, stop, out),
     }
-}
-
-/// Prints the count of the keys of a layout.
-#[tactic(auto, using(play_transcript::proofs::PrintingLaws::none_begun))]
-fn tell_sound<S: Sink>(alloc: Global, count: usize, out: &mut S) -> Status
-    ensures { Tells Status.Done (sound_line count) S.Sink out.old out.new result }
-{
-    let Ok(line) = sound_line(alloc, count) else {
-        return Status::Memory;
-    };
-    tell_line(line.as_slice(), Status::Done, out)
 }
 
 /// Makes, compiles and plays a load, and prints its line.
@@ -334,26 +297,15 @@ fn tell_session<'a, S: Sink>(
 }
 
 /// Ends a run that stops before it writes: prints the line of a reason, and nothing after a fault.
+#[tactic(auto, using(keyman_status::proofs::Printed::tells_made))]
 pub fn tell_stop<S: Sink>(alloc: Global, stop: Stop, out: &mut S) -> Status
     ensures { TellsStop stop S.Sink out.old out.new result }
 {
     match stop {
-        Stop::Refused(why) => refuse(alloc, why, out),
+        Stop::Refused(why) => tell_made(reason_line(alloc, why), Status::Refused, out),
         Stop::ReadFault => Status::ReadFault,
         Stop::Memory => Status::Memory,
     }
-}
-
-/// Prints the counts of a compiled file.
-#[tactic(auto, using(play_transcript::proofs::PrintingLaws::none_begun))]
-fn tell_compiled<S: Sink>(alloc: Global, compiled: &Compiled, out: &mut S) -> Status
-    requires { IsCompiled compiled.now }
-    ensures { Tells Status.Done (compiled_line compiled.now) S.Sink out.old out.new result }
-{
-    let Ok(line) = compiled_line(alloc, compiled) else {
-        return Status::Memory;
-    };
-    tell_line(line.as_slice(), Status::Done, out)
 }
 
 /// Plays the script on the file that was written.
@@ -367,17 +319,6 @@ fn play_file<S: Sink>(alloc: Global, prepared: &Prepared, out: &mut S) -> Status
         Ok(file) => tell_played(alloc, &file, prepared.entries.as_slice(), out),
         Err(error) => tell_stop(alloc, Stop::from(error), out),
     }
-}
-
-/// Prints the line of a reason.
-#[tactic(auto, using(play_transcript::proofs::PrintingLaws::none_begun))]
-fn refuse<S: Sink>(alloc: Global, why: Reason, out: &mut S) -> Status
-    ensures { Tells Status.Refused (reason_line why) S.Sink out.old out.new result }
-{
-    let Ok(line) = reason_line(alloc, why) else {
-        return Status::Memory;
-    };
-    tell_line(line.as_slice(), Status::Refused, out)
 }
 
 /// The status of a run that ends with a play.

@@ -8,7 +8,7 @@ ghost use Rattle.keyman_run.specs.Steps.{IsCompiled, TellsDead};
 use crate::preparing::{Stop, read_and_compile};
 use crate::running::tell_stop;
 use keyman_lines::Reason;
-use keyman_status::{Status, tell_line};
+use keyman_status::{Status, tell_made};
 use keyman_words::FileName;
 use kmn_compiler::Compiled;
 use kmn_outside::{Folder, Sink};
@@ -32,6 +32,7 @@ pub fn shadow_rules<F: Folder, S: Sink>(
 }
 
 /// Prints which lines of a compiled source never fire, unless there are too many records to be searched.
+#[tactic(auto, using(keyman_status::proofs::Printed::tells_made))]
 fn tell_dead<S: Sink>(alloc: Global, compiled: &Compiled, out: &mut S) -> Status
     requires { IsCompiled compiled.now }
     ensures { TellsDead (few_records compiled.now.tables) S.Sink out.old out.new result }
@@ -40,8 +41,5 @@ fn tell_dead<S: Sink>(alloc: Global, compiled: &Compiled, out: &mut S) -> Status
     if count > SHADOW_RECORDS as u64 {
         return tell_stop(alloc, Stop::Refused(Reason::Records(count)), out);
     }
-    match dead_text(alloc, &compiled.tables) {
-        Ok(text) => tell_line(text.as_slice(), Status::Done, out),
-        Err(_memory) => Status::Memory,
-    }
+    tell_made(dead_text(alloc, &compiled.tables), Status::Done, out)
 }

@@ -1,5 +1,5 @@
 -- What is printed before a run ends.
-use Rattle.std.specs.Prelude.{◌≡◌, ℕ, IsTrue, List, ◌++◌}
+use Rattle.std.specs.Prelude.{◌≡◌, ℕ, IsTrue, List, ◌++◌, Result, IfOk, IfErr}
 use Rattle.kmn_outside.specs.Outside.{Rose}
 use Rattle.kmn_outside.specs.declared.traits.WriteError.{WriteError}
 use Rattle.kmn_outside.specs.declared.traits.WriteError.TheVariants as write
@@ -27,6 +27,11 @@ pub record Tells {S : Type 0} (good : Status) (bytes : List ℕ) (sinks : SinkVi
   pub counts : SinkCounts good (sinks.faults out) (sinks.faults out_after) how
   pub told : sinks.told out_after ≡ sinks.told out
   pub prints : IsTrue (sinks.told out) → PrintsBy bytes (sinks.written out) (sinks.written out_after) how
+
+-- bytes that were made are printed so; where there was no memory to make them, nothing is printed
+pub record TellsMade {S E : Type 0} (good : Status) (made : Result (List ℕ) E) (sinks : SinkView S) (out out_after : S) (how : Status) : Type 0 where
+  pub printed : IfOk made (λ bytes. Tells good bytes sinks out out_after how)
+  pub silent : IfErr made (λ _. (how ≡ status.Memory) × (out_after ≡ out))
 
 -- the status of a run that ends with a write or a put that didn't succeed
 abbrev pub write_status : WriteError → Status

@@ -1,7 +1,8 @@
 ghost use Rattle.std.specs.Prelude.{◌≡◌, ◌⊎◌};
-ghost use Rattle.keyman_status.specs.Tells.{Tells, write_status};
+ghost use Rattle.keyman_status.specs.Tells.{Tells, TellsMade, write_status};
 
 use crate::status::Status;
+use kmn_base::{Memory, Text};
 use kmn_outside::{Sink, WriteError};
 use play_transcript::put_all;
 
@@ -14,6 +15,17 @@ pub fn tell_line<S: Sink>(line: &[u8], status: Status, out: &mut S) -> Status
     match put_all(out, line) {
         Ok(()) => status,
         Err(error) => write_status(error),
+    }
+}
+
+/// Prints a line, or several, that were made, and ends with this status. Where they weren't for want of memory, nothing is printed.
+pub fn tell_made<S: Sink>(made: Result<Text, Memory>, status: Status, out: &mut S) -> Status
+    requires { (status ≡ Status.Done) ⊎ (status ≡ Status.Refused) }
+    ensures { TellsMade status made S.Sink out.old out.new result }
+{
+    match made {
+        Ok(line) => tell_line(line.as_slice(), status, out),
+        Err(Memory) => Status::Memory,
     }
 }
 

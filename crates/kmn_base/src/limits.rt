@@ -32,6 +32,8 @@ pub const FILE_NAME_UNITS: usize = 255;
 pub const SCRIPT_EVENTS: usize = 100_000;
 /// Characters of a string in a script.
 pub const SCRIPT_STRING_CHARS: usize = 4_096;
+/// Text fields over one keyboard, of a host and of a script for many fields.
+pub const FIELDS: usize = 64;
 /// Characters of the whole text after an edit.
 pub const TEXT_CHARS: usize = 1_000_000;
 /// Characters of the whole text as a key event comes.

@@ -88,6 +88,17 @@ impl<T> Seq<T> {
     }
 }
 
+impl Seq<u8> {
+    ghost use Rattle.std.specs.String.{string_bytes};
+
+    /// The bytes of a string.
+    pub fn from_string(string: String) -> Text
+        ensures { result ≡ string_bytes string }
+    {
+        Seq::from_vec(string.into_bytes())
+    }
+}
+
 impl<T: Drop> Seq<T> {
     /// Appends an item, which is dropped for want of memory.
     pub fn add(&mut self, item: T) -> Result<(), Memory>

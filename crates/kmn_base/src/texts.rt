@@ -1,11 +1,12 @@
 //! Texts in UTF-8 and their characters.
 
-ghost use Rattle.std.specs.Prelude.{◌≡◌, IfOk, chars};
+ghost use Rattle.std.specs.Prelude.{◌≡◌, ◌≤◌, IfOk, chars, length};
 ghost use Rattle.kmn_base.specs.Spelling.{is_forbidden};
-ghost use Rattle.kmn_base.specs.Texts.{character_count, decoded};
+ghost use Rattle.kmn_base.specs.Texts.{character_count, decoded, mark_size, without_mark};
 
 use crate::memory::Memory;
 use crate::sequence::Seq;
+use crate::slices::behind;
 use crate::units::SENTINEL;
 use std::alloc::Global;
 
@@ -17,6 +18,26 @@ pub fn is_forbidden(code: u32) -> bool
     ensures { result ≡ is_forbidden code }
 {
     code == 0 || code == u32::from(SENTINEL)
+}
+
+/// How many bytes a first U+FEFF takes, which marks the order of bytes and is no part of the text: 3, or 0 where there is none.
+pub fn mark_size(bytes: &[u8]) -> usize
+    ensures is { result ≡ mark_size bytes.now }
+    ensures within { result ≤ length bytes.now }
+{
+    if bytes.starts_with(b"\xEF\xBB\xBF") {
+        3
+    } else {
+        0
+    }
+}
+
+/// A text without a first U+FEFF.
+pub fn without_mark(bytes: &[u8]) -> &[u8]
+    ensures is { result.now ≡ without_mark bytes.now }
+    ensures within { length result.now ≤ length bytes.now }
+{
+    behind(bytes, mark_size(bytes))
 }
 
 /// How many characters a text has.

@@ -7,12 +7,13 @@ use Rattle.std.proofs.lemmas.Bool.{eq-eqb, eqb-true, ne_eqb, or_from, cond-true,
 use Rattle.std.proofs.lemmas.List.{drop-drop, drop-take, take-take, length-take}
 use Rattle.std.proofs.lemmas.List.Elements.{All-cons, All-nil, All-head, All-tail}
 use Rattle.kmn_base.specs.Bytes.{is_blank}
+use Rattle.kmn_base.specs.Texts.{mark_size}
 use Rattle.kmn_lines.specs.declared.line_state.LineState.{LineState}
 use Rattle.kmn_lines.specs.declared.line_state.PhysicalLine.{PhysicalLine}
 use Rattle.kmn_lines.specs.declared.logical.Logical.{Logical}
 use Rattle.kmn_lines.specs.declared.logical.Part.{Part}
 use Rattle.kmn_lines.specs.Bytes.{first_or_end}
-use Rattle.kmn_lines.specs.Lines.{ends_line, line_start, after_byte, physical_line, physical_lines, physical_lines_at, extended, gather, mark_size, logicals, is_skipped, dropped, physical_text, part_behind, opening_parts, parts_in}
+use Rattle.kmn_lines.specs.Lines.{ends_line, line_start, after_byte, physical_line, physical_lines, physical_lines_at, extended, gather, logicals, is_skipped, dropped, physical_text, part_behind, opening_parts, parts_in}
 use Rattle.kmn_lines.specs.Laws.{first_or, IsInLine, IsLineEnd, IsCut, IsPhysicalLine, IsJoined, AreJoined, PartsAreTexts}
 use Rattle.kmn_lines.proofs.Whole.{mark-within}
 use Rattle.kmn_lines.proofs.Cuts.{after_bytes, Cut, line_cut}

@@ -8,7 +8,8 @@ use Rattle.kmn_lines.specs.declared.line_state.LineState.{LineState}
 use Rattle.kmn_lines.specs.declared.line_state.PhysicalLine.{PhysicalLine}
 use Rattle.kmn_lines.specs.declared.logical.Logical.{Logical}
 use Rattle.kmn_lines.specs.Bytes.{first_or_end}
-use Rattle.kmn_lines.specs.Lines.{ends_line, line_start, after_byte, physical_line, physical_lines, physical_lines_at, extended, gather, mark_size, logicals}
+use Rattle.kmn_base.specs.Texts.{mark_size}
+use Rattle.kmn_lines.specs.Lines.{ends_line, line_start, after_byte, physical_line, physical_lines, physical_lines_at, extended, gather, logicals}
 use Rattle.kmn_lines.specs.Laws.{is_line_end, line_ends, LinesAreNumbered}
 use Rattle.kmn_lines.proofs.Whole.{mark-is}
 use Rattle.kmn_lines.proofs.Sizes.{all-if}

@@ -12,7 +12,8 @@ use Rattle.kmn_lines.specs.declared.line_state.PhysicalLine.{PhysicalLine}
 use Rattle.kmn_lines.specs.declared.logical.Logical.{Logical}
 use Rattle.kmn_lines.specs.declared.logical.Part.{Part}
 use Rattle.kmn_base.specs.Bytes.{is_blank}
-use Rattle.kmn_lines.specs.Lines.{physical_lines_at, extended, gather, mark_size, logicals, blanks, begins_with, is_skipped, dropped, physical_text, part_behind, opening_parts, parts_in}
+use Rattle.kmn_base.specs.Texts.{mark_size}
+use Rattle.kmn_lines.specs.Lines.{physical_lines_at, extended, gather, logicals, blanks, begins_with, is_skipped, dropped, physical_text, part_behind, opening_parts, parts_in}
 use Rattle.kmn_lines.specs.Laws.{bytes_between, PhysicalLinesMakeTheSource, LinesMakeTheSource, InOrder, PartsStandInOrder}
 use Rattle.kmn_lines.proofs.Placed.{InRow, physical_lines_at-in_row}
 

@@ -3,7 +3,8 @@ use Rattle.std.specs.Prelude.{◌≡◌, ℕ, zero, suc, ◌+◌, ◌-◌, ◌<�
 use Rattle.std.specs.List.{list_all}
 use Rattle.kmn_base.specs.Bytes.{is_blank, is_quote}
 use Rattle.kmn_base.specs.Names.{same_name}
-use Rattle.kmn_lines.specs.Lines.{physical_lines_at, mark_size, logicals, is_skipped, dropped, opening_parts, parts_in}
+use Rattle.kmn_base.specs.Texts.{mark_size}
+use Rattle.kmn_lines.specs.Lines.{physical_lines_at, logicals, is_skipped, dropped, opening_parts, parts_in}
 use Rattle.kmn_lines.specs.Places.{IsPlaced}
 use Rattle.kmn_lines.specs.Tokens.{single, part_text, line_tokens}
 use Rattle.kmn_lines.specs.declared.line_state.PhysicalLine.{PhysicalLine}

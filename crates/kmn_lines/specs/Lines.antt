@@ -1,8 +1,9 @@
 -- How a source is cut into physical lines, these are joined to logical lines, and what of a logical line is tokenised.
 use Rattle.std.specs.Prelude.{ℕ, ◌+◌, ◌==◌, Bool, true, false, not, ◌&&◌, ◌||◌, if◌then◌else◌, List, [], ◌∷◌, length, take, drop, map, codes, Option, None, Some, is_some, unwrap_or}
-use Rattle.std.specs.List.{list_all, starts_with}
+use Rattle.std.specs.List.{list_all}
 use Rattle.kmn_base.specs.Bytes.{is_blank, is_quote}
 use Rattle.kmn_base.specs.Names.{same_name}
+use Rattle.kmn_base.specs.Texts.{mark_size}
 use Rattle.kmn_lines.specs.Bytes.{first_or_end}
 use Rattle.kmn_lines.specs.declared.line_state.LineState.{LineState}
 use Rattle.kmn_lines.specs.declared.line_state.PhysicalLine.{PhysicalLine}
@@ -71,10 +72,6 @@ abbrev pub gather : Option Logical → List PhysicalLine → List Logical
 gather None [] = []
 gather (Some l) [] = l ∷ []
 gather begun (p ∷ ps) = if p.joined then gather (Some (extended begun p)) ps else extended begun p ∷ gather None ps
-
--- the size of a first U+FEFF
-abbrev pub mark_size : List ℕ → ℕ
-mark_size bytes = if starts_with (λ a b. a == b) bytes (0xEF ∷ 0xBB ∷ 0xBF ∷ []) then 3 else 0
 
 -- the logical lines of a source
 unfoldable pub logicals : List ℕ → List Logical

@@ -22,6 +22,7 @@ mod prefix;
 mod token;
 
 use kmn_base::slices::before;
+use kmn_base::texts::mark_size;
 pub use line_state::{LineState, PhysicalLine};
 pub use line_walk::Lines;
 pub use logical::{Logical, Part};
@@ -37,12 +38,11 @@ pub fn lines(source: &str) -> Lines<'_>
     ensures placed { All (IsPlaced source.now) (lines_left result) }
 {
     let bytes = source.as_bytes();
-    let at = if bytes.starts_with(b"\xEF\xBB\xBF") {
-        3
-    } else {
-        0
-    };
-    Lines { bytes, at, line: 1 }
+    Lines {
+        bytes,
+        at: mark_size(bytes),
+        line: 1,
+    }
 }
 
 /// What of a logical line of this source is tokenised: its physical lines without line end, comment and joining

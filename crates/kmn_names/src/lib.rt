@@ -5,7 +5,8 @@
 //! above calls `number`, which answers `numbered` of a program, and looks names up in the `ProgramNames` that it gives. The
 //! checkers above say their own refusals by the words of `specs/First` too, take `earlier` and `at_line` for them, and look
 //! at a program with what is `known` of it (`specs/Known`). `parted_by_line` gives the stores that stand before a statement to
-//! those who walk over a program line by line.
+//! those who walk over a program line by line. A layer above that looks up names of its own puts them in a `NameTable`: contracts
+//! see the list of them, in which it finds the first place of a name without ASCII case.
 #![tactic(auto)]
 
 mod appearing;

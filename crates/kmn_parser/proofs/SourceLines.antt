@@ -13,7 +13,8 @@ use Rattle.kmn_lines.specs.declared.line_state.LineState.{LineState}
 use Rattle.kmn_lines.specs.declared.line_state.PhysicalLine.{PhysicalLine}
 use Rattle.kmn_lines.specs.declared.logical.Logical.{Logical}
 use Rattle.kmn_lines.specs.Bytes.{first_or_end}
-use Rattle.kmn_lines.specs.Lines.{ends_line, line_start, after_byte, physical_line, physical_lines, extended, gather, logicals, mark_size}
+use Rattle.kmn_base.specs.Texts.{mark_size}
+use Rattle.kmn_lines.specs.Lines.{ends_line, line_start, after_byte, physical_line, physical_lines, extended, gather, logicals}
 use Rattle.kmn_lines.specs.Tokens.{line_tokens, refusal, tokens_refusal}
 use Rattle.rule_model.specs.declared.program.StoreDef.{StoreDef}
 use Rattle.rule_model.specs.declared.program.BeginDef.{BeginDef}

@@ -11,7 +11,8 @@ use Rattle.std.proofs.Math.Seq.{take-append_seam}
 use Rattle.kmn_base.specs.Bytes.{is_blank}
 use Rattle.kmn_lines.specs.Bytes.{first_or_end}
 use Rattle.kmn_base.specs.Names.{same_name}
-use Rattle.kmn_lines.specs.Lines.{ends_line, line_start, after_byte, physical_line, physical_lines, physical_lines_at, gather, mark_size, logicals, blanks, begins_with, begins_other, is_skipped, dropped, physical_text, part_behind, opening_parts, parts_in}
+use Rattle.kmn_base.specs.Texts.{mark_size}
+use Rattle.kmn_lines.specs.Lines.{ends_line, line_start, after_byte, physical_line, physical_lines, physical_lines_at, gather, logicals, blanks, begins_with, begins_other, is_skipped, dropped, physical_text, part_behind, opening_parts, parts_in}
 use Rattle.kmn_lines.specs.declared.line_state.LineState.{LineState}
 use Rattle.kmn_lines.specs.declared.line_state.PhysicalLine.{PhysicalLine}
 use Rattle.kmn_lines.specs.declared.logical.Logical.{Logical}

@@ -5,10 +5,10 @@ ghost use Rattle.std.specs.List.{list_all, list_any};
 ghost use Rattle.kmn_text.specs.Names.{is_inner};
 ghost use Rattle.virtual_keys.specs.Dictionary.{is_nameable};
 ghost use Rattle.rule_model.specs.Tab.{element_char};
-ghost use Rattle.kmx_format.specs.Writable.{is_matched};
+ghost use Rattle.rule_model.specs.Patterns.{is_matched, is_nul};
 ghost use Rattle.item_checker.specs.Items.{is_no_character};
 ghost use Rattle.decompile_laws.specs.WrittenOut.{output_values, pattern_values};
-ghost use Rattle.decompile_causes.specs.Causes.{is_far_mark, is_far_output, is_far_pattern, is_nul, stands_behind_match};
+ghost use Rattle.decompile_causes.specs.Causes.{is_far_mark, is_far_output, is_far_pattern, stands_behind_match};
 
 use kmn_base::limits::DEADKEYS;
 use kmn_base::texts::is_forbidden;
@@ -112,43 +112,23 @@ pub(crate) fn output_value(output: &Out) -> Option<u32>
     }
 }
 
-/// Whether an item of a context is matched with an item of the text.
-fn is_matched(pattern: &Pat) -> bool
-    ensures { result ≡ is_matched pattern.now }
-{
-    !matches!(
-        pattern,
-        Pat::Equal(_, _)
-            | Pat::Unequal(_, _)
-            | Pat::SystemEqual(_, _)
-            | Pat::SystemUnequal(_, _)
-            | Pat::Nul
-    )
-}
-
 /// Whether a condition or `nul` stands behind an item that is matched.
 pub(crate) fn stands_behind_match(context: &[Pat]) -> bool
     ensures { result ≡ stands_behind_match false context.now }
 {
     let mut matched = false;
     for pattern in context {
-        if matched && !is_matched(pattern) {
+        if matched && !pattern.is_matched() {
             return true;
         }
-        matched = matched || is_matched(pattern);
+        matched = matched || pattern.is_matched();
     }
     false
-}
-
-fn is_nul(pattern: &Pat) -> bool
-    ensures { result ≡ is_nul pattern.now }
-{
-    matches!(pattern, Pat::Nul)
 }
 
 /// How many `nul` a context has.
 pub(crate) fn nul_count(context: &[Pat]) -> usize
     ensures { result ≡ length (filter is_nul context.now) }
 {
-    context.iter().filter(|pattern| is_nul(pattern)).count()
+    context.iter().filter(|pattern| pattern.is_nul()).count()
 }

@@ -17,6 +17,7 @@ use Rattle.rule_model.specs.declared.tables.Rule.{Rule}
 use Rattle.rule_model.specs.declared.tables.Store.{Store}
 use Rattle.rule_model.specs.declared.tables.Group.{Group}
 use Rattle.rule_model.specs.declared.tables.Tables.{Tables}
+use Rattle.rule_model.specs.Patterns.{is_matched}
 use Rattle.kmx_format.specs.Versions.{is_version}
 use Rattle.kmx_format.specs.FileUnits.{unit_item_of_element, unit_item_of_pattern, unit_item_of_output, name_units}
 use Rattle.kmx_format.specs.File.{all_rules, file_of}
@@ -74,15 +75,6 @@ sets_system_id _ = true
 abbrev pub is_any : Pat → Bool
 is_any (pattern.Any store) = true
 is_any _ = false
-
--- whether an item of a context is matched with an item of the text, as conditions and `nul` aren't
-abbrev pub is_matched : Pat → Bool
-is_matched (pattern.Equal store value) = false
-is_matched (pattern.Unequal store value) = false
-is_matched (pattern.SystemEqual id value) = false
-is_matched (pattern.SystemUnequal id value) = false
-is_matched pattern.Nul = false
-is_matched _ = true
 
 -- an offset, counted from 1, is that of an item which passes a test
 abbrev pub PointsTo : (Pat → Bool) → List Pat → ℕ → Type 0

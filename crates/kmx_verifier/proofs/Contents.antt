@@ -17,7 +17,8 @@ use Rattle.rule_model.specs.declared.tables.Out.{Out}
 use Rattle.rule_model.specs.declared.tables.Out.TheVariants as output
 use Rattle.kmx_format.specs.FileUnits.{unit_item_of_element, unit_item_of_pattern, unit_item_of_output}
 use Rattle.kmx_format.specs.TablesOf.{items_of, element_of_unit_item, pattern_of_unit_item, output_of_unit_item}
-use Rattle.kmx_format.specs.Writable.{stores_of_pattern, stores_of_output, groups_of_output, has_system_id, sets_system_id, needs_context, IsWritableContext, PointsBack, PointsInto, PointsTo, is_any, is_matched}
+use Rattle.kmx_format.specs.Writable.{stores_of_pattern, stores_of_output, groups_of_output, has_system_id, sets_system_id, needs_context, IsWritableContext, PointsBack, PointsInto, PointsTo, is_any}
+use Rattle.rule_model.specs.Patterns.{is_matched}
 use Rattle.kmx_verifier.specs.declared.faults.StringKind.{StringKind}
 use Rattle.kmx_verifier.specs.declared.faults.StringKind.TheVariants as of
 use Rattle.kmx_verifier.specs.declared.faults.Target.{Target}

@@ -22,7 +22,8 @@ use Rattle.rule_model.specs.declared.tables.Out.TheVariants as output
 use Rattle.kmx_format.specs.FileUnits.{unit_item_of_element, unit_item_of_pattern, unit_item_of_output, item_units, pattern_units, name_units}
 use Rattle.kmx_format.specs.File.{string, offset_of}
 use Rattle.kmx_format.specs.TablesOf.{word_at, string_at, items_of}
-use Rattle.kmx_format.specs.Writable.{stores_of_pattern, stores_of_output, groups_of_output, has_system_id, sets_system_id, needs_context, PointsBack, PointsInto, PointsTo, is_any, is_matched, IsWritableName, IsWritableContext}
+use Rattle.kmx_format.specs.Writable.{stores_of_pattern, stores_of_output, groups_of_output, has_system_id, sets_system_id, needs_context, PointsBack, PointsInto, PointsTo, is_any, IsWritableName, IsWritableContext}
+use Rattle.rule_model.specs.Patterns.{is_matched}
 use Rattle.kmx_format.proofs.FileContents.{units-nonzero}
 use Rattle.kmx_format.proofs.FileStands.{StandsAt}
 use Rattle.kmx_format.proofs.FileStrings.{string_at-stands}

@@ -1,9 +1,10 @@
 -- The script of a load is read as its presses, line by line.
 use Rattle.std.proofs.Common.{◌≡◌, ℕ, zero, suc, ◌+◌, ◌*◌, ◌<◌, ◌≤◌, nat_lt, Bool, true, false, if◌then◌else◌, List, [], ◌∷◌, ◌++◌, length, codes, Result, Ok, refl, ap, sym, ◌∙◌, append_assoc, arith}
 use Rattle.std.proofs.lemmas.Bool.Decides.{nat_tests}
-use Rattle.std.specs.Str.{IsAscii, is_utf8}
-use Rattle.std.proofs.lemmas.Str.{IsUtf8-from_ascii, is_utf8-from_IsUtf8}
+use Rattle.std.specs.Str.{IsAscii}
+use Rattle.std.proofs.lemmas.Str.{IsUtf8-from_ascii}
 use Rattle.kmn_base.specs.Names.{same_name}
+use Rattle.kmn_base.specs.Texts.{without_mark}
 use Rattle.kmn_base.specs.declared.events.Event.{Event}
 use Rattle.kmn_base.specs.declared.events.Event.TheVariants as event
 use Rattle.kmn_base.specs.declared.limits.TheConstants.{TEXT_BYTES, SCRIPT_EVENTS}
@@ -15,8 +16,8 @@ use Rattle.rule_model.specs.declared.script.Entry.TheVariants.{Act}
 use Rattle.load_maker.specs.Loads.{press_lines}
 use Rattle.play_script.specs.Entries.{Script, entries, entries_of, first_script, line_found, lines_found, with_entry, with_found}
 use Rattle.play_script.specs.Found.{Found, Reads}
-use Rattle.play_script.specs.Lines.{text_lines, without_mark}
-use Rattle.play_script.proofs.TextLaws.{form_kept}
+use Rattle.play_script.specs.Lines.{text_lines}
+use Rattle.play_script.proofs.TextLaws.{text_kept, text_read}
 use Rattle.load_laws.specs.Keyboards.{press_a, press_space, presses}
 use Rattle.load_laws.specs.Scripts.{press_entries, ScriptsAreRead}
 
@@ -120,11 +121,11 @@ unmarked zero = refl
 unmarked (suc count) = refl
 
 lines_read : (dictionary : List (List ℕ)) (count : ℕ) → count ≤ 2001 → entries dictionary (lines_of count) ≡ Ok (press_entries 1 count)
-unfolding entries
 lines_read dictionary count within =
     let few : length (lines_of count) ≡ 6 * count + 10 = lines_length count in
-    form_kept (nat_lt TEXT_BYTES (length (lines_of count))) (is_utf8 (lines_of count)) _ _ _ (grind (arith, nat_tests, few)) (is_utf8-from_IsUtf8 (lines_of count) (IsUtf8-from_ascii (lines_of count) (lines_ascii count)))
-    ∙ ap (λ (text : List ℕ). entries_of (with_found (Ok first_script) (lines_found dictionary 1 (text_lines text)))) (unmarked count)
+    let short : nat_lt TEXT_BYTES (length (lines_of count)) ≡ false = grind (arith, nat_tests, few) in
+    text_read dictionary (lines_of count) (lines_of count)
+    (text_kept (lines_of count) short (IsUtf8-from_ascii (lines_of count) (lines_ascii count)) ∙ ap Ok (unmarked count))
     ∙ ap (λ (found : List Found). entries_of (with_found (Ok first_script) found)) (all_found dictionary 1 count)
     ∙ all_read first_script 1 count (omega arith)
 

@@ -6,43 +6,43 @@ use compile_tests::fixtures::tables;
 use kmn_base::{Event, Memory, RuleKey, Seq};
 use plain_event::{PlainState, plain_event};
 use rule_model::{Out, Pat, Rule, Store, Tables};
+use source_tests::fixtures::parted;
 use std::alloc::Global;
 use std::test::Fail;
 
-/// On each line the stores of a keyboard, each with one character as its name or with a name up to a colon, then its records,
-/// then the events that it is played, each with the text that it leaves, whose caret is `|`. In a value `*` is a mark, and `_`
-/// a space. The items of a record are parted by dots: `*` is a mark, `?s` any(s), `=sv` a condition, `!sv` one for unequal,
-/// `#so` index(s,o), `:sv` a set, and `^` enters the group again; `l` is the layer and `p` the platform in place of a store.
-/// Events are words that `event` reads.
-const CASES: &str = "\
-; a,c>y ,c>x ; K_A a| ; K_C y| ; K_F5 y| ; K_LEFT |y
-; *,a>à ,`>* ; K_BKQUOTE *| ; K_A à| ; K_BKSP |
-vaea wxyz ; ?0,1>#11 ; K_A a| ; K_1 x|
-oab vba ; ?0,1>:01.#01 ; K_A a| ; K_1 b|
-o0 v1 ; =01,a>x ,a>y ; K_A y| ; o=1 y| ; K_A yx|
-o0 v1 ; !01,a>x ,a>y ; K_A x| ; o=1 x| ; K_A xy|
-; ,a>b ; K_A b| ; -0,0,xy xyb| ; @1 x|yb
-vs ; =l0,a>y ,a>n ; K_A n| ; &layer=s n| ; K_A ny| ; &layer=S ny| ; K_A nyn|
-vx ; =l0,a>y !l0,a>n ; K_A n| ; &Layer=x n| ; K_A ny| ; &LAYER=_x ny| ; K_A nyn|
-vz ; =l0,a>y =p0,a>z ,a>n ; layer=z | ; platform=z | ; K_A n| ; @0 |n
-vDefault wdefault ; =l0,a>y =l1,a>x ,a>n !l0,b>u ; K_A x| ; K_B xu|
-v wdefault ; =l0,a>e =l1,a>d ,b>:l0.z ; K_A d| ; K_B dz| ; K_A dze|
-wdefault ; =l0,a>d ,a>n ,b>:l0 ; K_B | ; K_A d| ; &layer=x d| ; K_A dn| ; K_B dn| ; K_A dnd|
-vs ; =l0,a>x ,a>:l0.^ ; K_A x| ; K_A xx|
-vs wt ; =l0.=l1,a>x =l1,a>t =l0,a>:l1.s ,a>:l0.^ ; K_A s| ; K_A st|
-vs wab xyz ; =l0.?1,1>#22 ; &layer=s | ; K_B b| ; K_1 z|
-&layer:0 v1 wdefault ; =01,a>y =l2,a>x ,a>n =l2,b>d ; K_A x| ; &layer=1 x| ; K_A xy| ; K_B xyd|
-&layer:0 v1 ; =l1,a>y ,a>n ; K_A n| ; &layer=1 n| ; K_A ny|
-&platform:0 v1 ; =01,a>y =p1,a>x ,a>n ; K_A n| ; &PLATFORM=1 n| ; K_A ny|
-v* ; =l0,a>y ,a>n ,b>:l0 ; K_A n| ; K_B n| ; K_A ny|
-vNative__WINDOWS ; =p0,a>y ,a>n ; K_A y| ; &platform=web y| ; K_A yn| ; &platform=__NATIVE_windows__ yn| ; K_A yny|
-vNative__WINDOWS ; =p0,a>y ,a>n ; &platform=_ | ; K_A n| ; &platform=native n| ; K_A nn|
-v__ w ; =p0,a>y =p1,b>y !p0,c>z !p1,d>z ; K_A y| ; K_B yy| ; K_C yyc| ; K_D yycd| ; &platform= yycd| ; K_A yycdy|
-vnative_native_DESKTOP ; =p0,a>y ,a>n ; K_A y| ; &platform=desktop_native y| ; K_A yy|
-vnativ wwindows_web ; =p0,a>y =p1,a>z !p0,a>n ; K_A n| ; &platform=nativ_web n| ; K_A ny|
-vé ; =p0,a>y ,a>n ; &platform=É | ; K_A n| ; &platform=x_é n| ; K_A ny|
-v* wnative* ; =p0,a>y =p1,a>z !p1,a>n ; K_A n| ; &platform=native n| ; K_A nn|
-vweb wweb_x ; !p0,a>n =l1,a>z ,a>y ; K_A n| ; &platform=web_x n| ; K_A ny| ; &layer=web_x ny| ; K_A nyz|";
+/// On each line the stores of a keyboard, each with one character as its name or with a name up to a colon, behind ` ⇒ ` its
+/// records, and behind another the events that it is played, parted by ` ; `, each with the text that it leaves, whose caret is
+/// `|`. In a value `*` is a mark, and `_` a space. The items of a record are parted by dots: `*` is a mark, `?s` any(s), `=sv` a
+/// condition, `!sv` one for unequal, `#so` index(s,o), `:sv` a set, and `^` enters the group again; `l` is the layer and `p` the
+/// platform in place of a store. Events are words that `event` reads.
+const CASES: &str = " ⇒ a,c>y ,c>x ⇒ K_A a| ; K_C y| ; K_F5 y| ; K_LEFT |y
+ ⇒ *,a>à ,`>* ⇒ K_BKQUOTE *| ; K_A à| ; K_BKSP |
+vaea wxyz ⇒ ?0,1>#11 ⇒ K_A a| ; K_1 x|
+oab vba ⇒ ?0,1>:01.#01 ⇒ K_A a| ; K_1 b|
+o0 v1 ⇒ =01,a>x ,a>y ⇒ K_A y| ; o=1 y| ; K_A yx|
+o0 v1 ⇒ !01,a>x ,a>y ⇒ K_A x| ; o=1 x| ; K_A xy|
+ ⇒ ,a>b ⇒ K_A b| ; -0,0,xy xyb| ; @1 x|yb
+vs ⇒ =l0,a>y ,a>n ⇒ K_A n| ; &layer=s n| ; K_A ny| ; &layer=S ny| ; K_A nyn|
+vx ⇒ =l0,a>y !l0,a>n ⇒ K_A n| ; &Layer=x n| ; K_A ny| ; &LAYER=_x ny| ; K_A nyn|
+vz ⇒ =l0,a>y =p0,a>z ,a>n ⇒ layer=z | ; platform=z | ; K_A n| ; @0 |n
+vDefault wdefault ⇒ =l0,a>y =l1,a>x ,a>n !l0,b>u ⇒ K_A x| ; K_B xu|
+v wdefault ⇒ =l0,a>e =l1,a>d ,b>:l0.z ⇒ K_A d| ; K_B dz| ; K_A dze|
+wdefault ⇒ =l0,a>d ,a>n ,b>:l0 ⇒ K_B | ; K_A d| ; &layer=x d| ; K_A dn| ; K_B dn| ; K_A dnd|
+vs ⇒ =l0,a>x ,a>:l0.^ ⇒ K_A x| ; K_A xx|
+vs wt ⇒ =l0.=l1,a>x =l1,a>t =l0,a>:l1.s ,a>:l0.^ ⇒ K_A s| ; K_A st|
+vs wab xyz ⇒ =l0.?1,1>#22 ⇒ &layer=s | ; K_B b| ; K_1 z|
+&layer:0 v1 wdefault ⇒ =01,a>y =l2,a>x ,a>n =l2,b>d ⇒ K_A x| ; &layer=1 x| ; K_A xy| ; K_B xyd|
+&layer:0 v1 ⇒ =l1,a>y ,a>n ⇒ K_A n| ; &layer=1 n| ; K_A ny|
+&platform:0 v1 ⇒ =01,a>y =p1,a>x ,a>n ⇒ K_A n| ; &PLATFORM=1 n| ; K_A ny|
+v* ⇒ =l0,a>y ,a>n ,b>:l0 ⇒ K_A n| ; K_B n| ; K_A ny|
+vNative__WINDOWS ⇒ =p0,a>y ,a>n ⇒ K_A y| ; &platform=web y| ; K_A yn| ; &platform=__NATIVE_windows__ yn| ; K_A yny|
+vNative__WINDOWS ⇒ =p0,a>y ,a>n ⇒ &platform=_ | ; K_A n| ; &platform=native n| ; K_A nn|
+v__ w ⇒ =p0,a>y =p1,b>y !p0,c>z !p1,d>z ⇒ K_A y| ; K_B yy| ; K_C yyc| ; K_D yycd| ; &platform= yycd| ; K_A yycdy|
+vnative_native_DESKTOP ⇒ =p0,a>y ,a>n ⇒ K_A y| ; &platform=desktop_native y| ; K_A yy|
+vnativ wwindows_web ⇒ =p0,a>y =p1,a>z !p0,a>n ⇒ K_A n| ; &platform=nativ_web n| ; K_A ny|
+vé ⇒ =p0,a>y ,a>n ⇒ &platform=É | ; K_A n| ; &platform=x_é n| ; K_A ny|
+v* wnative* ⇒ =p0,a>y =p1,a>z !p1,a>n ⇒ K_A n| ; &platform=native n| ; K_A nn|
+vweb wweb_x ⇒ !p0,a>n =l1,a>z ,a>y ⇒ K_A n| ; &platform=web_x n| ; K_A ny| ; &layer=web_x ny| ; K_A nyz|";
 
 fn digit(byte: u8) -> u32 {
     u32::from(byte.saturating_sub(b'0'))
@@ -231,8 +231,8 @@ fn is_played(alloc: Global, tables: &Tables, steps: &str) -> Result<bool, Fail> 
 
 /// Whether each event of a case leaves the wanted text.
 fn is_right(alloc: Global, case: &str) -> Result<bool, Fail> {
-    let (stores, rest) = case.split_once("; ").unwrap_or((case, ""));
-    let (records, steps) = rest.split_once(" ; ").unwrap_or((rest, ""));
+    let (stores, rest) = parted(case)?;
+    let (records, steps) = parted(rest)?;
     let tables = keyboard(alloc, stores, records)?;
     is_played(alloc, &tables, steps)
 }

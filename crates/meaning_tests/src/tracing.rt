@@ -12,25 +12,27 @@ use kmx_verifier::verify;
 use plain_event::PlainState;
 use rule_model::Tables;
 use rule_trace::{Coverage, Traced, chosen_lines_are_lines, trace_event};
+use source_tests::fixtures::parted;
 use std::alloc::Global;
 use std::fmt::Write;
 use std::test::Fail;
 
 /// On each line the statements behind the first two of a keyboard, which are `begin Unicode > use(main)` and
-/// `group(main) using keys`, so that they stand from line 3 on; then its events, each with the lines that it chooses; then
-/// each line of a rule with its count. `¶` is a line feed. A press may have its modifiers before its key, `T_` keys are the
-/// first of their own, `@` is a place of the caret, and `=` parts the name and the value of a setting.
+/// `group(main) using keys`, so that they stand from line 3 on; behind ` ⇒ ` its events, parted by ` ; `, each with the lines
+/// that it chooses; and behind another each line of a rule with its count. `¶` is a line feed. A press may have its modifiers
+/// before its key, `T_` keys are the first of their own, `@` is a place of the caret, and `=` parts the name and the value of a
+/// setting.
 const CASES: &str = "\
-+ 'c' > 'x'¶'a' + 'c' > 'y' | K_A - ; K_C 4 | 3=0 4=1
-+ 'a' > 'x' | K_B - | 3=0
-c no rule | K_A - |
-+ 'a' > 'x'¶store(o) '0'¶if(o = '0') + 'a' > 'y' | K_A 5 ; o=1 - ; @0 - ; K_A 3 | 3=1 5=1
-+ 'a' > 'x' use(main) | K_A 3.3.3.3.3.3.3.3.3.3.3.3.3.3.3.3.3.3.3.3.3.3.3.3.3.3.3.3.3.3.3.3.3.3.3.3.3.3.3.3.3.3.3.3.3.3.3.3.3.3 | 3=50
-+ 'a' > 'x'¶match > use(g)¶group(g)¶'x' > 'y' | K_A 3.6 | 3=1 6=1
-+ 'b' > 'x'¶nomatch > use(g)¶group(g)¶nul > 'y' | K_A 6 | 3=0 6=1
-+ 'a' > return use(g)¶group(g)¶nul > 'y' | K_A 3 | 3=1 5=0
-+ 'a' > use(g) 'x' use(h)¶group(g)¶nul > 'y'¶group(h)¶'yx' > 'z'¶match > use(g) | K_A 3.5.7 | 3=1 5=1 7=1
-store(v) 'ab'¶+ any(v) > 'x' | K_A 4 ; K_B 4 | 4=2";
++ 'c' > 'x'¶'a' + 'c' > 'y' ⇒ K_A - ; K_C 4 ⇒ 3=0 4=1
++ 'a' > 'x' ⇒ K_B - ⇒ 3=0
+c no rule ⇒ K_A - ⇒ 
++ 'a' > 'x'¶store(o) '0'¶if(o = '0') + 'a' > 'y' ⇒ K_A 5 ; o=1 - ; @0 - ; K_A 3 ⇒ 3=1 5=1
++ 'a' > 'x' use(main) ⇒ K_A 3.3.3.3.3.3.3.3.3.3.3.3.3.3.3.3.3.3.3.3.3.3.3.3.3.3.3.3.3.3.3.3.3.3.3.3.3.3.3.3.3.3.3.3.3.3.3.3.3.3 ⇒ 3=50
++ 'a' > 'x'¶match > use(g)¶group(g)¶'x' > 'y' ⇒ K_A 3.6 ⇒ 3=1 6=1
++ 'b' > 'x'¶nomatch > use(g)¶group(g)¶nul > 'y' ⇒ K_A 6 ⇒ 3=0 6=1
++ 'a' > return use(g)¶group(g)¶nul > 'y' ⇒ K_A 3 ⇒ 3=1 5=0
++ 'a' > use(g) 'x' use(h)¶group(g)¶nul > 'y'¶group(h)¶'yx' > 'z'¶match > use(g) ⇒ K_A 3.5.7 ⇒ 3=1 5=1 7=1
+store(v) 'ab'¶+ any(v) > 'x' ⇒ K_A 4 ; K_B 4 ⇒ 4=2";
 
 /// A keyboard with deadkeys, an option and three groups: the lines of `examples/sample.kmn`, with a comment in place of the one
 /// that names a picture.
@@ -230,10 +232,10 @@ fn is_right(alloc: Global, source: &str, steps: &str, hits: &str) -> Result<bool
 
 /// Whether a case is right.
 fn is_case_right(alloc: Global, case: &str) -> Result<bool, Fail> {
-    let (statements, rest) = case.split_once(" | ").unwrap_or((case, ""));
-    let (steps, hits) = rest.split_once(" |").unwrap_or((rest, ""));
+    let (statements, rest) = parted(case)?;
+    let (steps, hits) = parted(rest)?;
     let source = source_of(alloc, statements)?;
-    is_right(alloc, source.as_str(), steps, hits.trim())
+    is_right(alloc, source.as_str(), steps, hits)
 }
 
 #[test]

@@ -10,11 +10,13 @@ ghost use Rattle.rule_model.specs.Tab.{tab, tab_pattern, tab_rule, tab_group};
 ghost use Rattle.rule_model.specs.Plain.{caught_last};
 
 use crate::contents::{content, element, system_content};
-use crate::elements::{is_element, is_same, item_caught, place_caught, place_of, same_value};
+use crate::elements::{item_caught, place_caught, same_value};
 use indexed_tables::{IndexedTables, has_words};
 use kmn_base::{Element, Item, KeyPress, Memory, RuleKey, Seq};
 use rule_model::system::PLATFORM;
-use rule_model::{Catch, Caught, EventState, Group, Pat, Rule, is_item};
+use rule_model::{
+    Catch, Caught, EventState, Group, Pat, Rule, is_element, is_item, is_same, place_of,
+};
 use virtual_keys::Pressed;
 
 /// Whether a pattern looks at an item of the text, whatever the stores are.

@@ -6,6 +6,7 @@ use Rattle.std.proofs.Math.ListN.{drop_of_length-le}
 use Rattle.std.proofs.lemmas.List.Elements.{All-set, All-append, All-cons, All-nil}
 use Rattle.kmn_base.specs.declared.codes.Code.{Code}
 use Rattle.kmn_base.specs.declared.events.Event.{Event}
+use Rattle.kmn_base.specs.declared.limits.TheConstants.{FIELDS}
 use Rattle.rule_model.specs.declared.tables.Tables.{Tables}
 use Rattle.rule_model.specs.Event.{whole_text}
 use Rattle.play_session.specs.Printed.{IsSession, SessionsBegin, SessionsGoOn}
@@ -15,10 +16,9 @@ use Rattle.play_transcript.specs.Printing.{AppendsBut, IsBegun, Prints}
 use Rattle.play_transcript.specs.declared.playing.PlayEnd.{PlayEnd}
 use Rattle.play_transcript.specs.declared.playing.PlayEnd.TheVariants as ended
 use Rattle.play_transcript.proofs.PrintingLaws.{none_appended, appended_more, appended_all, begun_within, prints_rest}
-use Rattle.text_host.specs.declared.host.TheConstants.{HOST_FIELDS}
 use Rattle.text_host.specs.Host.{HostState, with_field, with_new_field}
 use Rattle.host_script.specs.declared.entries.HostEntry.{HostEntry}
-use Rattle.host_script.specs.declared.entries.HostEntry.TheVariants.{Add, Turn, Show, Act, Expect}
+use Rattle.host_script.specs.declared.entries.HostEntry.TheVariants.{Open, Field, Preview, Act, Expect}
 use Rattle.play_host.specs.declared.playing.Play.{Play}
 use Rattle.play_host.specs.declared.playing.Played.TheVariants as played
 use Rattle.play_host.specs.EachEntry.{AreSessions, PlaysBy, Plays}
@@ -69,9 +69,9 @@ compare_keeps play text None are = same_keeps play are
 compare_keeps play text (Some session) are = differ_keeps play (bytes_eq (whole_text session.state) text) are
 
 entry_keeps : SessionsBegin → SessionsGoOn → (play : Play) (entry : HostEntry) → AreSessions play.host → Keeps play (after_entry play entry)
-entry_keeps begin go_on play (Add line) are = open_keeps begin play (nat_le HOST_FIELDS (length play.host.sessions)) are
-entry_keeps begin go_on play (Turn line field) are = record { sessions = are; events = omega arith; failed = omega arith }
-entry_keeps begin go_on play (Show line press) are = show_keeps play (turned_to play) are
+entry_keeps begin go_on play (Open line) are = open_keeps begin play (nat_le FIELDS (length play.host.sessions)) are
+entry_keeps begin go_on play (Field line field) are = record { sessions = are; events = omega arith; failed = omega arith }
+entry_keeps begin go_on play (Preview line press) are = show_keeps play (turned_to play) are
 entry_keeps begin go_on play (Act line event) are = step_keeps go_on play event (turned_to play) refl are
 entry_keeps begin go_on play (Expect line text) are = compare_keeps play text (turned_to play) are
 

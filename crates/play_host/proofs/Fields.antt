@@ -9,16 +9,16 @@ use Rattle.kmn_base.specs.declared.codes.Code.{Code}
 use Rattle.kmn_base.specs.declared.events.Event.{Event}
 use Rattle.kmn_base.specs.declared.events.Event.TheVariants as event
 use Rattle.kmn_base.specs.declared.keys.KeyPress.{KeyPress}
+use Rattle.kmn_base.specs.declared.limits.TheConstants.{FIELDS}
 use Rattle.rule_model.specs.declared.tables.Tables.{Tables}
 use Rattle.rule_model.specs.Event.{event_refusal, unless_refused, whole_text}
 use Rattle.rule_model.specs.Trace.{Step}
 use Rattle.play_session.specs.Session.{SessionState, first_session, happened, after_step}
-use Rattle.text_host.specs.declared.host.TheConstants.{HOST_FIELDS}
 use Rattle.text_host.specs.Host.{HostState, field_of, with_field, with_new_field}
 use Rattle.text_host.specs.Alone.{HostCall, Opens, Turns, answer_to, gone_on, with_answer, answered_from, session_after, turned, after_calls}
 use Rattle.text_host.proofs.Alone.{steps_are_those_alone, fields_begin, fields_are_apart, opened, acted, others_stay}
 use Rattle.host_script.specs.declared.entries.HostEntry.{HostEntry}
-use Rattle.host_script.specs.declared.entries.HostEntry.TheVariants.{Add, Turn, Show, Act, Expect}
+use Rattle.host_script.specs.declared.entries.HostEntry.TheVariants.{Open, Field, Preview, Act, Expect}
 use Rattle.play_host.specs.declared.playing.Play.{Play}
 use Rattle.play_host.specs.Playing.{first_play, turned_to, refusal_in, shown, stepped, compared, rest_unless, play_unless, after_entries}
 use Rattle.play_host.specs.HostText.{step_in}
@@ -61,9 +61,9 @@ past_last : (host : HostState) (field opens : ℕ) → field ≡ suc (length hos
 past_last host field opens is = ap (field_of host) is ∙ slice_get_past host.sessions (length host.sessions + opens) (omega arith)
 
 -- its number passes 64 where there is no room for one more
-no_room : (host : HostState) (field opens : ℕ) → field ≡ suc (length host.sessions + opens) → field ≤ HOST_FIELDS → nat_le HOST_FIELDS (length host.sessions) ≡ true → ⊥
+no_room : (host : HostState) (field opens : ℕ) → field ≡ suc (length host.sessions + opens) → field ≤ FIELDS → nat_le FIELDS (length host.sessions) ≡ true → ⊥
 no_room host field opens is few full =
-    let room : HOST_FIELDS ≤ length host.sessions = leb-true HOST_FIELDS (length host.sessions) full in
+    let room : FIELDS ≤ length host.sessions = leb-true FIELDS (length host.sessions) full in
     omega (arith, is, few, room)
 
 none_behind : (calls : List HostCall) → calls_behind 0 calls ≡ calls
@@ -137,9 +137,9 @@ module _ (field : ℕ) (entries : List HostEntry) (more : (play : Play) → Answ
 
 open_steps : (field : ℕ) (entries : List HostEntry) (play : Play) → Answers field entries play
 open_steps field [] play session there = refl
-open_steps field (Add line ∷ entries) play session there = open_add field entries (open_steps field entries) play session there (nat_le HOST_FIELDS (length play.host.sessions))
-open_steps field (Turn line other ∷ entries) play session there = open_steps field entries (record play { field = other }) session there
-open_steps field (Show line press ∷ entries) play session there = open_show field entries (open_steps field entries) play session there press (turned_to play)
+open_steps field (Open line ∷ entries) play session there = open_add field entries (open_steps field entries) play session there (nat_le FIELDS (length play.host.sessions))
+open_steps field (Field line other ∷ entries) play session there = open_steps field entries (record play { field = other }) session there
+open_steps field (Preview line press ∷ entries) play session there = open_show field entries (open_steps field entries) play session there press (turned_to play)
 open_steps field (Act line event ∷ entries) play session there = open_act field entries (open_steps field entries) play session there event
 open_steps field (Expect line text ∷ entries) play session there = open_expect field entries (open_steps field entries) play session there text (turned_to play)
 
@@ -167,7 +167,7 @@ module _ (field : ℕ) (tables : Tables) (entries : List HostEntry) (more : (pla
   new_opened (suc opens) is = more (wider play) opens (wider_count opens is) over
 
   module _ (opens : ℕ) (is : field ≡ suc (length play.host.sessions + opens)) where
-    new_add : field ≤ HOST_FIELDS → (full : Bool) → nat_le HOST_FIELDS (length play.host.sessions) ≡ full → steps_left field (cond full play (wider play)) entries
+    new_add : field ≤ FIELDS → (full : Bool) → nat_le FIELDS (length play.host.sessions) ≡ full → steps_left field (cond full play (wider play)) entries
         ≡ answered_from field (first_session tables) (calls_behind opens (calls_left (cond full play (wider play)) entries))
     new_add few true full = absurd (no_room play.host field opens is few full)
     new_add few false full = new_opened opens is
@@ -210,12 +210,12 @@ module _ (field : ℕ) (tables : Tables) (entries : List HostEntry) (more : (pla
     not_turned same = ap (field_of play.host) (eqb-true play.field field same) ∙ past_last play.host field opens is
 
 -- so it is of each number that a host has room for
-new_steps : (field : ℕ) (tables : Tables) → field ≤ HOST_FIELDS → (entries : List HostEntry) (play : Play) → WillAnswer field tables entries play
+new_steps : (field : ℕ) (tables : Tables) → field ≤ FIELDS → (entries : List HostEntry) (play : Play) → WillAnswer field tables entries play
 new_steps field tables few [] play opens is over = refl
-new_steps field tables few (Add line ∷ entries) play opens is over =
-    new_add field tables entries (new_steps field tables few entries) play over opens is few (nat_le HOST_FIELDS (length play.host.sessions)) refl
-new_steps field tables few (Turn line other ∷ entries) play opens is over = new_steps field tables few entries (record play { field = other }) opens is over
-new_steps field tables few (Show line press ∷ entries) play opens is over = new_show field tables entries (new_steps field tables few entries) play over opens is press (turned_to play)
+new_steps field tables few (Open line ∷ entries) play opens is over =
+    new_add field tables entries (new_steps field tables few entries) play over opens is few (nat_le FIELDS (length play.host.sessions)) refl
+new_steps field tables few (Field line other ∷ entries) play opens is over = new_steps field tables few entries (record play { field = other }) opens is over
+new_steps field tables few (Preview line press ∷ entries) play opens is over = new_show field tables entries (new_steps field tables few entries) play over opens is press (turned_to play)
 new_steps field tables few (Act line event ∷ entries) play opens is over =
     new_act field tables entries (new_steps field tables few entries) play over opens is event (eqb play.field field) (turned_to play)
     (not_turned field tables entries (new_steps field tables few entries) play over opens is)
@@ -263,9 +263,9 @@ module _ (entries : List HostEntry) (more : (play : Play) → LeavesHost entries
 
 leaves_host : (entries : List HostEntry) (play : Play) → LeavesHost entries play
 leaves_host [] play = refl
-leaves_host (Add line ∷ entries) play = host_add entries (leaves_host entries) play (nat_le HOST_FIELDS (length play.host.sessions))
-leaves_host (Turn line other ∷ entries) play = leaves_host entries (record play { field = other })
-leaves_host (Show line press ∷ entries) play = host_show entries (leaves_host entries) play press (turned_to play)
+leaves_host (Open line ∷ entries) play = host_add entries (leaves_host entries) play (nat_le FIELDS (length play.host.sessions))
+leaves_host (Field line other ∷ entries) play = leaves_host entries (record play { field = other })
+leaves_host (Preview line press ∷ entries) play = host_show entries (leaves_host entries) play press (turned_to play)
 leaves_host (Act line event ∷ entries) play = host_act entries (leaves_host entries) play event (turned_to play) refl
 leaves_host (Expect line text ∷ entries) play = host_expect entries (leaves_host entries) play text (turned_to play)
 
@@ -286,22 +286,22 @@ none_isnt : (session : SessionState) → None ≡ Some session → ⊥
 none_isnt session same = cc
 
 -- calls leave no more fields than a host has room for
-few_opened : (host : HostState) (full : Bool) → nat_le HOST_FIELDS (length host.sessions) ≡ full → length host.sessions ≤ HOST_FIELDS
-    → length (cond full host (with_new_field host)).sessions ≤ HOST_FIELDS
+few_opened : (host : HostState) (full : Bool) → nat_le FIELDS (length host.sessions) ≡ full → length host.sessions ≤ FIELDS
+    → length (cond full host (with_new_field host)).sessions ≤ FIELDS
 few_opened host true is few = few
 few_opened host false is few =
-    let room : length host.sessions < HOST_FIELDS = leb-false HOST_FIELDS (length host.sessions) is in
+    let room : length host.sessions < FIELDS = leb-false FIELDS (length host.sessions) is in
     omega (arith, room, length-append host.sessions (first_session host.tables ∷ []))
 
-few_after : (calls : List HostCall) (host : HostState) → length host.sessions ≤ HOST_FIELDS → length (after_calls host calls).sessions ≤ HOST_FIELDS
+few_after : (calls : List HostCall) (host : HostState) → length host.sessions ≤ FIELDS → length (after_calls host calls).sessions ≤ FIELDS
 few_after [] host few = few
 few_after (Opens ∷ calls) host few =
-    let full : Bool = nat_le HOST_FIELDS (length host.sessions) in
+    let full : Bool = nat_le FIELDS (length host.sessions) in
     few_after calls (cond full host (with_new_field host)) (few_opened host full refl few)
 few_after (Turns field event ∷ calls) host few =
-    few_after calls (turned field event (field_of host field) host) (subst (λ (n : ℕ). n ≤ HOST_FIELDS) (sym (turned_count host field event (field_of host field))) few)
+    few_after calls (turned field event (field_of host field) host) (subst (λ (n : ℕ). n ≤ FIELDS) (sym (turned_count host field event (field_of host field))) few)
 
-few_there : (host : HostState) (place : ℕ) (session : SessionState) → length host.sessions ≤ HOST_FIELDS → field_of host (suc place) ≡ Some session → suc place ≤ HOST_FIELDS
+few_there : (host : HostState) (place : ℕ) (session : SessionState) → length host.sessions ≤ FIELDS → field_of host (suc place) ≡ Some session → suc place ≤ FIELDS
 few_there host place session few there =
     let within : place < length host.sessions = slice_get_within host.sessions place session there in
     omega (arith, within, few)
@@ -323,15 +323,15 @@ begins_session field tables calls more host (suc opens) session is over there =
     more (with_new_field host) opens session (omega (arith, is, length-append host.sessions (first_session host.tables ∷ []))) over there
 
 opens_session : (field : ℕ) (tables : Tables) (calls : List HostCall) → HasSession field tables calls → (host : HostState) (opens : ℕ) (session : SessionState)
-    → field ≡ suc (length host.sessions + opens) → host.tables ≡ tables → field ≤ HOST_FIELDS → (full : Bool) → nat_le HOST_FIELDS (length host.sessions) ≡ full
+    → field ≡ suc (length host.sessions + opens) → host.tables ≡ tables → field ≤ FIELDS → (full : Bool) → nat_le FIELDS (length host.sessions) ≡ full
     → field_of (after_calls (cond full host (with_new_field host)) calls) field ≡ Some session → session ≡ session_after field (first_session tables) (calls_behind opens calls)
 opens_session field tables calls more host opens session is over few true full there = absurd (no_room host field opens is few full)
 opens_session field tables calls more host opens session is over few false full there = begins_session field tables calls more host opens session is over there
 
-has_session : (field : ℕ) (tables : Tables) → field ≤ HOST_FIELDS → (calls : List HostCall) → HasSession field tables calls
+has_session : (field : ℕ) (tables : Tables) → field ≤ FIELDS → (calls : List HostCall) → HasSession field tables calls
 has_session field tables few [] host opens session is over there = absurd (none_isnt session (sym (past_last host field opens is) ∙ there))
 has_session field tables few (Opens ∷ calls) host opens session is over there =
-    opens_session field tables calls (has_session field tables few calls) host opens session is over few (nat_le HOST_FIELDS (length host.sessions)) refl there
+    opens_session field tables calls (has_session field tables few calls) host opens session is over few (nat_le FIELDS (length host.sessions)) refl there
 has_session field tables few (Turns other event ∷ calls) host opens session is over there =
     has_session field tables few calls (turned other event (field_of host other) host) opens session
     (is ∙ ap (λ (n : ℕ). suc (n + opens)) (sym (turned_count host other event (field_of host other)))) (turned_tables host other event (field_of host other) ∙ over) there
@@ -345,7 +345,7 @@ fields_are_traces tables entries (suc opens) session there =
     let host : HostState = (first_play tables).host in
     let behind : field_of (after_calls host (calls_of tables entries)) (suc opens) ≡ Some session
     = ap (λ (h : HostState). field_of h (suc opens)) (sym (leaves_host entries (first_play tables))) ∙ there in
-    let few : suc opens ≤ HOST_FIELDS
+    let few : suc opens ≤ FIELDS
     = few_there (after_calls host (calls_of tables entries)) opens session (few_after (calls_of tables entries) host (omega arith)) behind in
     record {
       steps = new_steps (suc opens) tables few entries (first_play tables) opens place refl

@@ -11,7 +11,7 @@ use Rattle.rule_model.specs.Act.{one_more}
 use Rattle.rule_model.specs.Trace.{Step}
 use Rattle.play_session.specs.Session.{SessionState}
 use Rattle.host_script.specs.declared.entries.HostEntry.{HostEntry}
-use Rattle.host_script.specs.declared.entries.HostEntry.TheVariants.{Add, Turn, Show, Act, Expect}
+use Rattle.host_script.specs.declared.entries.HostEntry.TheVariants.{Open, Field, Preview, Act, Expect}
 use Rattle.play_host.specs.declared.playing.Play.{Play}
 use Rattle.play_host.specs.HostCalls.{event_steps, entry_steps, steps_left}
 use Rattle.play_host.specs.HostText.{step_in, event_text, text_or_refusal, entry_lines, end_lines, lines_left, host_text}
@@ -28,9 +28,9 @@ event_told play event None (Some session) = append-nil _
 
 entry_told : (play : Play) (entry : HostEntry) → flat_map piece_text (entry_pieces play entry) ≡ entry_lines play entry
 entry_told play (Act line event) = event_told play event (refusal_in (turned_to play) event) (turned_to play)
-entry_told play (Add line) = refl
-entry_told play (Turn line field) = refl
-entry_told play (Show line press) = append-nil _
+entry_told play (Open line) = refl
+entry_told play (Field line field) = refl
+entry_told play (Preview line press) = append-nil _
 entry_told play (Expect line text) = append-nil _
 
 rest_told : (refused : Option Code) (pieces : List HostPiece) (lines : List ℕ) → flat_map piece_text pieces ≡ lines
@@ -75,9 +75,9 @@ module _ (field : ℕ) where
       → filter_map (step_told field) (entry_pieces play entry ++ rest_unless (entry_refusal play entry) pieces)
       ≡ rest_unless (entry_refusal play entry) (entry_steps field play entry ++ steps)
   entry_steps_told play (Act line event) pieces steps is = event_steps_told play event (refusal_in (turned_to play) event) (turned_to play) pieces steps is
-  entry_steps_told play (Add line) pieces steps is = is
-  entry_steps_told play (Turn line other) pieces steps is = is
-  entry_steps_told play (Show line press) pieces steps is = rest_steps (refusal_in (turned_to play) (event.Key press)) pieces steps is
+  entry_steps_told play (Open line) pieces steps is = is
+  entry_steps_told play (Field line other) pieces steps is = is
+  entry_steps_told play (Preview line press) pieces steps is = rest_steps (refusal_in (turned_to play) (event.Key press)) pieces steps is
   entry_steps_told play (Expect line text) pieces steps is = is
 
   steps_told : (play : Play) (entries : List HostEntry) → filter_map (step_told field) (pieces_left play entries) ≡ steps_left field play entries

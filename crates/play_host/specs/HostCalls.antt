@@ -6,16 +6,16 @@ use Rattle.rule_model.specs.Trace.{Step}
 use Rattle.play_session.specs.Session.{SessionState}
 use Rattle.text_host.specs.Alone.{HostCall, Opens, Turns}
 use Rattle.host_script.specs.declared.entries.HostEntry.{HostEntry}
-use Rattle.host_script.specs.declared.entries.HostEntry.TheVariants.{Add, Turn, Show, Act, Expect}
+use Rattle.host_script.specs.declared.entries.HostEntry.TheVariants.{Open, Field, Preview, Act, Expect}
 use Rattle.play_host.specs.declared.playing.Play.{Play}
 use Rattle.play_host.specs.Playing.{first_play, turned_to, entry_refusal, after_entry, rest_unless}
 use Rattle.play_host.specs.HostText.{step_in}
 
 -- the calls of an entry: a new field, or an event; a preview changes nothing
 abbrev pub entry_calls : Play → HostEntry → List HostCall
-entry_calls play (Add line) = Opens ∷ []
-entry_calls play (Turn line field) = []
-entry_calls play (Show line press) = []
+entry_calls play (Open line) = Opens ∷ []
+entry_calls play (Field line field) = []
+entry_calls play (Preview line press) = []
 entry_calls play (Act line event) = Turns play.field event ∷ []
 entry_calls play (Expect line text) = []
 
@@ -40,9 +40,9 @@ event_steps event None = []
 event_steps event (Some session) = step_in session event ∷ []
 
 abbrev pub entry_steps : ℕ → Play → HostEntry → List Step
-entry_steps field play (Add line) = []
-entry_steps field play (Turn line other) = []
-entry_steps field play (Show line press) = []
+entry_steps field play (Open line) = []
+entry_steps field play (Field line other) = []
+entry_steps field play (Preview line press) = []
 entry_steps field play (Act line event) = if nat_eq play.field field then event_steps event (turned_to play) else []
 entry_steps field play (Expect line text) = []
 

@@ -20,7 +20,7 @@ use Rattle.play_transcript.specs.Ends.{end_after}
 use Rattle.play_transcript.specs.declared.playing.PlayEnd.{PlayEnd}
 use Rattle.play_transcript.specs.declared.playing.PlayEnd.TheVariants as ended
 use Rattle.host_script.specs.declared.entries.HostEntry.{HostEntry}
-use Rattle.host_script.specs.declared.entries.HostEntry.TheVariants.{Add, Turn, Show, Act, Expect}
+use Rattle.host_script.specs.declared.entries.HostEntry.TheVariants.{Open, Field, Preview, Act, Expect}
 use Rattle.play_host.specs.declared.playing.Play.{Play}
 use Rattle.play_host.specs.Playing.{first_play, turned_to, refusal_in, entry_refusal, after_entry, rest_unless}
 
@@ -70,9 +70,9 @@ preview_lines play press =
 
 -- the lines of an entry
 abbrev pub entry_lines : Play → HostEntry → List ℕ
-entry_lines play (Add line) = []
-entry_lines play (Turn line field) = []
-entry_lines play (Show line press) = preview_lines play press
+entry_lines play (Open line) = []
+entry_lines play (Field line field) = []
+entry_lines play (Preview line press) = preview_lines play press
 entry_lines play (Act line event) = event_lines play event
 entry_lines play (Expect line text) = expect_text play.field line text (turned_to play)
 

@@ -4,14 +4,14 @@ use Rattle.std.specs.Str.{bytes_eq}
 use Rattle.kmn_base.specs.declared.codes.Code.{Code}
 use Rattle.kmn_base.specs.declared.events.Event.{Event}
 use Rattle.kmn_base.specs.declared.events.Event.TheVariants as event
+use Rattle.kmn_base.specs.declared.limits.TheConstants.{FIELDS}
 use Rattle.rule_model.specs.declared.tables.Tables.{Tables}
 use Rattle.rule_model.specs.Act.{one_more}
 use Rattle.rule_model.specs.Event.{whole_text, event_refusal}
 use Rattle.play_session.specs.Session.{SessionState, after_step}
-use Rattle.text_host.specs.declared.host.TheConstants.{HOST_FIELDS}
 use Rattle.text_host.specs.Host.{first_host, field_of, with_field, with_new_field}
 use Rattle.host_script.specs.declared.entries.HostEntry.{HostEntry}
-use Rattle.host_script.specs.declared.entries.HostEntry.TheVariants.{Add, Turn, Show, Act, Expect}
+use Rattle.host_script.specs.declared.entries.HostEntry.TheVariants.{Open, Field, Preview, Act, Expect}
 use Rattle.play_host.specs.declared.playing.Play.{Play}
 
 -- before the first entry no field is open
@@ -29,16 +29,16 @@ refusal_in (Some session) event = event_refusal session.state event
 
 -- why an entry is refused; a preview is where its key event would be
 abbrev pub entry_refusal : Play → HostEntry → Option Code
-entry_refusal play (Add line) = None
-entry_refusal play (Turn line field) = None
-entry_refusal play (Show line press) = refusal_in (turned_to play) (event.Key press)
+entry_refusal play (Open line) = None
+entry_refusal play (Field line field) = None
+entry_refusal play (Preview line press) = refusal_in (turned_to play) (event.Key press)
 entry_refusal play (Act line event) = refusal_in (turned_to play) event
 entry_refusal play (Expect line text) = None
 
 -- a field is opened behind the others and turned to, where there is room for one
 abbrev pub opened : Play → Play
 opened play =
-    if nat_le HOST_FIELDS (length play.host.sessions) then play
+    if nat_le FIELDS (length play.host.sessions) then play
     else record play { host = with_new_field play.host; field = length play.host.sessions + 1 }
 
 -- a preview was shown of the field that is turned to
@@ -59,9 +59,9 @@ compared play text (Some session) = if bytes_eq (whole_text session.state) text 
 
 -- the play after an entry that isn't refused
 abbrev pub after_entry : Play → HostEntry → Play
-after_entry play (Add line) = opened play
-after_entry play (Turn line field) = record play { field = field }
-after_entry play (Show line press) = shown play (turned_to play)
+after_entry play (Open line) = opened play
+after_entry play (Field line field) = record play { field = field }
+after_entry play (Preview line press) = shown play (turned_to play)
 after_entry play (Act line event) = stepped play event (turned_to play)
 after_entry play (Expect line text) = compared play text (turned_to play)
 

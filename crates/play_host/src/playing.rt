@@ -105,12 +105,12 @@ fn play_entry<S: Sink>(
     ensures prints { IsTrue (S.told out.old) → Prints (S.written out.old) (S.written out.new) (entry_lines play.old entry.now) result }
 {
     match entry {
-        HostEntry::Add { .. } => open_field(alloc, play),
-        HostEntry::Turn { field, .. } => {
+        HostEntry::Open { .. } => open_field(alloc, play),
+        HostEntry::Field { field, .. } => {
             play.field = *field;
             Ok(Played::On)
         }
-        HostEntry::Show { press, .. } => play_preview(alloc, play, *press, out),
+        HostEntry::Preview { press, .. } => play_preview(alloc, play, *press, out),
         HostEntry::Act { event, .. } => play_event(alloc, play, event, out),
         HostEntry::Expect { line, text } => play_expect(alloc, play, *line, text.as_slice(), out),
     }

@@ -1,15 +1,21 @@
--- The first line of a text.
+-- The first line of a text, and the text of a script.
 use Rattle.std.proofs.Common.{◌≡◌, ℕ, ◌+◌, ◌<◌, ◌≤◌, not, Bool, nat_lt, if◌then◌else◌, Ok, Err, refl, false, true, inl, inr, List, [], ◌∷◌, length, length-drop, take, drop, suc, sym, ap, ◌∙◌, subst, arith}
 use Rattle.std.proofs.lemmas.Grind.{common_steps}
 use Rattle.std.proofs.lemmas.Bool.{cases_Bool, cases_lt}
 use Rattle.std.proofs.lemmas.Str.{is_utf8-from_IsUtf8, IsUtf8-from_is_utf8}
 use Rattle.std.specs.Str.{is_utf8}
+use Rattle.kmn_base.specs.Answers.{and_then}
+use Rattle.kmn_base.specs.Texts.{without_mark}
 use Rattle.kmn_base.specs.declared.codes.Code.TheVariants.{P01}
 use Rattle.kmn_base.specs.declared.limits.TheConstants.{TEXT_BYTES}
-use Rattle.play_script.specs.Entries.{entries, entries_of, with_found, first_script, lines_found}
-use Rattle.std.specs.Prelude.{◌==◌, IsUtf8}
+use Rattle.kmn_base.specs.declared.refusals.Refusal.{Refusal}
+use Rattle.play_script.specs.Answers.{Answers, refusal_of}
+use Rattle.play_script.specs.declared.errors.ScriptError.{ScriptError}
+use Rattle.play_script.specs.declared.errors.ScriptError.TheVariants as error
+use Rattle.play_script.specs.Entries.{script_text, entries, entries_of, with_found, first_script, lines_found}
+use Rattle.std.specs.Prelude.{◌==◌, IsSomeAnd, IsUtf8, Result}
 use Rattle.std.specs.List.{position_or_len, onto_first}
-use Rattle.play_script.specs.Lines.{text_lines, is_end, end_size, without_mark}
+use Rattle.play_script.specs.Lines.{text_lines, is_end, end_size}
 
 plain_line : (byte : ℕ) (text : List ℕ) (n : ℕ) → position_or_len is_end (byte ∷ text) ≡ suc n → text_lines (byte ∷ text) ≡ onto_first byte (text_lines text)
     → text_lines text ≡ take n text ∷ text_lines (drop (n + end_size (drop n text)) text)
@@ -56,22 +62,36 @@ line_some text n some within = elim (cases_lt n (length text)) [
 
 pub ruleset first_steps = (first_line_first, line_some)
 
-pub form_kept : {A : Type 0} (over form : Bool) (long other read : A) → over ≡ false → form ≡ true → (if over then long else (if not form then other else read)) ≡ read
+form_kept : {A : Type 0} (over form : Bool) (long other read : A) → over ≡ false → form ≡ true → (if over then long else (if not form then other else read)) ≡ read
 form_kept true form long other read is ok = absurd (cc)
 form_kept false true long other read is ok = refl
 form_kept false false long other read is ok = absurd (cc)
 
-pub form_broken : {A : Type 0} (over form : Bool) (long other read : A) → over ≡ false → ¬ (form ≡ true) → (if over then long else (if not form then other else read)) ≡ other
+form_broken : {A : Type 0} (over form : Bool) (long other read : A) → over ≡ false → ¬ (form ≡ true) → (if over then long else (if not form then other else read)) ≡ other
 form_broken true form long other read is ok = absurd (cc)
 form_broken false true long other read is ok = absurd (ok refl)
 form_broken false false long other read is ok = refl
 
--- a script that is UTF-8 is read by its lines, and no other is
-pub script_text : (dictionary : List (List ℕ)) (bytes : List ℕ) → nat_lt TEXT_BYTES (length bytes) ≡ false → IsUtf8 bytes
-    → entries dictionary bytes ≡ entries_of (with_found (Ok first_script) (lines_found dictionary 1 (text_lines (without_mark bytes))))
-unfolding entries
-script_text dictionary bytes short text = form_kept (nat_lt TEXT_BYTES (length bytes)) (is_utf8 bytes) _ _ _ short (is_utf8-from_IsUtf8 bytes text)
+-- a script that isn't too long has a text where it is UTF-8, and none else
+pub text_kept : (bytes : List ℕ) → nat_lt TEXT_BYTES (length bytes) ≡ false → IsUtf8 bytes → script_text bytes ≡ Ok (without_mark bytes)
+text_kept bytes short text = form_kept (nat_lt TEXT_BYTES (length bytes)) (is_utf8 bytes) _ _ _ short (is_utf8-from_IsUtf8 bytes text)
 
-pub script_other : (dictionary : List (List ℕ)) (bytes : List ℕ) → nat_lt TEXT_BYTES (length bytes) ≡ false → ¬ (IsUtf8 bytes) → entries dictionary bytes ≡ Err (record { line = 1; code = P01 })
+pub text_broken : (bytes : List ℕ) → nat_lt TEXT_BYTES (length bytes) ≡ false → ¬ (IsUtf8 bytes) → script_text bytes ≡ Err (record { line = 1; code = P01 })
+text_broken bytes short other = form_broken (nat_lt TEXT_BYTES (length bytes)) (is_utf8 bytes) _ _ _ short (λ e. other (IsUtf8-from_is_utf8 bytes e))
+
+-- what has no text is refused as that
+pub text_refused : {A : Type 0} (text : Result (List ℕ) Refusal) (next : List ℕ → Result A Refusal) (error : ScriptError)
+    → IsSomeAnd (refusal_of error) (λ refusal. text ≡ Err refusal) → Answers (and_then text next) (Err error)
+text_refused text next error.Memory is = tt
+text_refused text next (error.Refused refusal) is = ap (λ t. and_then t next) is
+
+-- a script is read by the lines of its text
+pub text_read : (dictionary : List (List ℕ)) (bytes text : List ℕ) → script_text bytes ≡ Ok text
+    → entries dictionary bytes ≡ entries_of (with_found (Ok first_script) (lines_found dictionary 1 (text_lines text)))
 unfolding entries
-script_other dictionary bytes short other = form_broken (nat_lt TEXT_BYTES (length bytes)) (is_utf8 bytes) _ _ _ short (λ e. other (IsUtf8-from_is_utf8 bytes e))
+text_read dictionary bytes text is = ap (λ t. and_then t (λ (text : List ℕ). entries_of (with_found (Ok first_script) (lines_found dictionary 1 (text_lines text))))) is
+
+pub script_refused : (dictionary : List (List ℕ)) (bytes : List ℕ) (error : ScriptError)
+    → IsSomeAnd (refusal_of error) (λ refusal. script_text bytes ≡ Err refusal) → Answers (entries dictionary bytes) (Err error)
+unfolding entries
+script_refused dictionary bytes error is = text_refused (script_text bytes) _ error is

@@ -2,6 +2,8 @@
 use Rattle.std.specs.Prelude.{ℕ, ◌+◌, not, nat_eq, nat_lt, if◌then◌else◌, List, [], ◌∷◌, ◌++◌, length, codes, Option, Some, None, Result, Ok, Err}
 use Rattle.std.specs.List.{slice_split}
 use Rattle.std.specs.Str.{byte, bytes_eq, is_utf8}
+use Rattle.kmn_base.specs.Answers.{and_then}
+use Rattle.kmn_base.specs.Texts.{without_mark}
 use Rattle.kmn_base.specs.declared.codes.Code.{Code}
 use Rattle.kmn_base.specs.declared.codes.Code.TheVariants.{P01, P02, P03, P04, P05, P06, P07, P08}
 use Rattle.kmn_base.specs.declared.refusals.Refusal.{Refusal}
@@ -12,7 +14,7 @@ use Rattle.rule_model.specs.declared.script.Entry.TheVariants.{Act, Expect}
 use Rattle.play_script.specs.declared.lines.LineKind.{LineKind}
 use Rattle.play_script.specs.declared.lines.LineKind.TheVariants as kind
 use Rattle.play_script.specs.Found.{Found, Reads, Breaks}
-use Rattle.play_script.specs.Lines.{text_lines, without_mark}
+use Rattle.play_script.specs.Lines.{text_lines}
 use Rattle.play_script.specs.Presses.{press_with}
 use Rattle.play_script.specs.Strings.{string}
 use Rattle.play_script.specs.Words.{is_closing, without_blanks, first_word, behind_word, words, number, name}
@@ -93,17 +95,13 @@ kind_found line (Some kind.Edit) rest = edit_found line rest
 kind_found line (Some kind.Setting) rest = option_found line rest
 kind_found line (Some kind.Expect) rest = expect_found line rest
 
--- what is found in a line that begins with a byte, which is no blank: nothing behind #
-abbrev pub begun_found : List (List ℕ) → ℕ → ℕ → List ℕ → List Found
-begun_found dictionary line first text =
-    if nat_eq first (byte "#") then []
-    else if nat_eq first (byte "[") then brackets_found dictionary line (slice_split is_closing text)
-    else kind_found line (kind_of (first_word text)) (behind_word text)
-
--- the same without the blanks before it: nothing in one that is blank
+-- what is found in a line without the blanks before it: nothing in one that is blank, or that begins with #
 abbrev pub text_found : List (List ℕ) → ℕ → List ℕ → List Found
 text_found dictionary line [] = []
-text_found dictionary line (c ∷ text) = begun_found dictionary line c (c ∷ text)
+text_found dictionary line (c ∷ text) =
+    if nat_eq c (byte "#") then []
+    else if nat_eq c (byte "[") then brackets_found dictionary line (slice_split is_closing (c ∷ text))
+    else kind_found line (kind_of (first_word (c ∷ text))) (behind_word (c ∷ text))
 
 -- what is found in a line
 abbrev pub line_found : List (List ℕ) → ℕ → List ℕ → List Found
@@ -142,9 +140,14 @@ abbrev pub entries_of : Result Script Refusal → Result (List Entry) Refusal
 entries_of (Ok s) = Ok s.entries
 entries_of (Err refusal) = Err refusal
 
+-- the text of a script without a first U+FEFF, unless the script is too long or isn't UTF-8
+abbrev pub script_text : List ℕ → Result (List ℕ) Refusal
+script_text bytes =
+    if nat_lt TEXT_BYTES (length bytes) then Err (record { line = 1; code = P06 })
+    else if not (is_utf8 bytes) then Err (record { line = 1; code = P01 })
+    else Ok (without_mark bytes)
+
 -- the entries of a script for a keyboard with this dictionary of keys, or its first refusal
 unfoldable pub entries : List (List ℕ) → List ℕ → Result (List Entry) Refusal
 entries dictionary bytes =
-    if nat_lt TEXT_BYTES (length bytes) then Err (record { line = 1; code = P06 })
-    else if not (is_utf8 bytes) then Err (record { line = 1; code = P01 })
-    else entries_of (with_found (Ok first_script) (lines_found dictionary 1 (text_lines (without_mark bytes))))
+    and_then (script_text bytes) (λ text. entries_of (with_found (Ok first_script) (lines_found dictionary 1 (text_lines text))))

@@ -1,6 +1,6 @@
 -- How a script is cut into lines.
-use Rattle.std.specs.Prelude.{ℕ, ◌==◌, Bool, not, ◌&&◌, ◌||◌, if◌then◌else◌, List, [], ◌∷◌, drop}
-use Rattle.std.specs.List.{onto_first, starts_with}
+use Rattle.std.specs.Prelude.{ℕ, ◌==◌, Bool, not, ◌&&◌, ◌||◌, if◌then◌else◌, List, [], ◌∷◌}
+use Rattle.std.specs.List.{onto_first}
 
 -- a byte with which a line end begins: LF or CR
 abbrev pub is_end : ℕ → Bool
@@ -24,7 +24,3 @@ abbrev pub end_size : List ℕ → ℕ
 end_size [] = 0
 end_size (b ∷ []) = 1
 end_size (b ∷ next ∷ bytes) = if (b == 13) && (next == 10) then 2 else 1
-
--- a text without a first U+FEFF
-abbrev pub without_mark : List ℕ → List ℕ
-without_mark bytes = if starts_with (λ a b. a == b) bytes (0xEF ∷ 0xBB ∷ 0xBF ∷ []) then drop 3 bytes else bytes

@@ -17,7 +17,7 @@ mod transcript;
 mod words;
 
 pub use errors::ScriptError;
-pub use lines::{first_line, read_line, read_script, without_mark};
+pub use lines::{first_line, read_line, read_script, script_text};
 pub use presses::{first_piece, needed_press};
 pub use reader::{Reader, needed_number, nothing_more, refused};
 pub use transcript::{

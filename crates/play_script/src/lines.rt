@@ -1,11 +1,11 @@
 //! The lines of a script one by one.
 
-ghost use Rattle.std.specs.Prelude.{◌≡◌, ◌+◌, ◌<◌, ◌≤◌, ◌∷◌, length, take, drop, position, Ok};
+ghost use Rattle.std.specs.Prelude.{◌≡◌, ◌+◌, ◌<◌, ◌≤◌, ◌∷◌, length, take, drop, position, Ok, Err, IfOk, IsSomeAnd, MatchResult};
 ghost use Rattle.std.specs.List.{position_or_len};
 ghost use Rattle.kmn_base.specs.declared.limits.TheConstants.{TEXT_BYTES};
-ghost use Rattle.play_script.specs.Lines.{text_lines, is_end, end_size, without_mark};
-ghost use Rattle.play_script.specs.Entries.{kind_of, kind_found, begun_found, text_found, line_found, lines_found, entries_of, first_script, entries, with_found};
-ghost use Rattle.play_script.specs.Answers.{Answers, Leaves};
+ghost use Rattle.play_script.specs.Lines.{text_lines, is_end, end_size};
+ghost use Rattle.play_script.specs.Entries.{kind_of, kind_found, text_found, line_found, lines_found, entries_of, first_script, script_text, entries, with_found};
+ghost use Rattle.play_script.specs.Answers.{refusal_of, Answers, Leaves};
 
 use crate::errors::ScriptError;
 use crate::presses::read_brackets;
@@ -13,6 +13,7 @@ use crate::reader::{Reader, read_caret, read_edit, read_expect, read_option, ref
 use crate::words::{behind_word, first_word, without_blanks};
 use kmn_base::limits::TEXT_BYTES;
 use kmn_base::slices::behind;
+use kmn_base::texts::without_mark;
 use kmn_base::{Code, Seq};
 use rule_model::Entry;
 use std::alloc::Global;
@@ -63,32 +64,6 @@ fn read_kind(
     }
 }
 
-/// Reads a line that begins with a byte, which is no blank.
-fn read_begun(
-    alloc: Global,
-    dictionary: &KeyDictionary,
-    line: u32,
-    first: u8,
-    text: &[u8],
-    reader: &mut Reader,
-) -> Result<(), ScriptError>
-    ensures { Leaves (with_found (Ok reader.old) (begun_found dictionary.now line first text.now)) reader.new result }
-{
-    if first == b'#' {
-        Ok(())
-    } else if first == b'[' {
-        read_brackets(dictionary, line, text, reader)
-    } else {
-        read_kind(
-            alloc,
-            line,
-            kind_of(first_word(text)),
-            behind_word(text),
-            reader,
-        )
-    }
-}
-
 /// Reads a line that begins with no blank.
 fn read_text(
     alloc: Global,
@@ -100,8 +75,15 @@ fn read_text(
     ensures { Leaves (with_found (Ok reader.old) (text_found dictionary.now line text.now)) reader.new result }
 {
     match text {
-        [] => Ok(()),
-        [first, ..] => read_begun(alloc, dictionary, line, *first, text, reader),
+        [] | [b'#', ..] => Ok(()),
+        [b'[', ..] => read_brackets(dictionary, line, text, reader),
+        _ => read_kind(
+            alloc,
+            line,
+            kind_of(first_word(text)),
+            behind_word(text),
+            reader,
+        ),
     }
 }
 
@@ -184,21 +166,23 @@ fn read_lines(
     Ok(reader.into_entries())
 }
 
-/// The text without a first U+FEFF.
-pub fn without_mark(bytes: &[u8]) -> &[u8]
-    ensures is { result.now ≡ without_mark bytes.now }
-    ensures within { length result.now ≤ length bytes.now }
+/// The text of a script without a first U+FEFF; P06 where the script is too long, P01 where it isn't UTF-8, both with line 1.
+pub fn script_text(bytes: &[u8]) -> Result<&[u8], ScriptError>
+    ensures is { MatchResult result (λ text. script_text bytes.now ≡ Ok text.now) (λ error. IsSomeAnd (refusal_of error) (λ refusal. script_text bytes.now ≡ Err refusal)) }
+    ensures within { IfOk result (λ text. length text.now ≤ TEXT_BYTES) }
 {
-    if bytes.starts_with(b"\xEF\xBB\xBF") {
-        behind(bytes, 3)
-    } else {
-        bytes
+    if bytes.len() > TEXT_BYTES {
+        return Err(refused(1, Code::P06));
+    }
+    match str::from_utf8(bytes) {
+        Ok(_) => Ok(without_mark(bytes)),
+        Err(_) => Err(refused(1, Code::P01)),
     }
 }
 
 /// The entries of a script for a keyboard with these names of keys, or the first of P01 to P08 that it breaks: P06 and P01
 /// of the whole script, with line 1, then the others by line and in reading order.
-#[tactic(auto, unfolding(crate::specs::Entries::entries))]
+#[tactic(auto, using(crate::proofs::TextLaws::text_read))]
 pub fn read_script(
     alloc: Global,
     bytes: &[u8],
@@ -206,11 +190,5 @@ pub fn read_script(
 ) -> Result<Seq<Entry>, ScriptError>
     ensures { Answers (entries names.now bytes.now) result }
 {
-    if bytes.len() > TEXT_BYTES {
-        return Err(refused(1, Code::P06));
-    }
-    match str::from_utf8(bytes) {
-        Ok(_) => read_lines(alloc, names, without_mark(bytes)),
-        Err(_) => Err(refused(1, Code::P01)),
-    }
+    read_lines(alloc, names, script_text(bytes)?)
 }

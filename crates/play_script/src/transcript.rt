@@ -29,7 +29,7 @@ pub fn line_of(
     line.push_str(" ctx=")?;
     put_items(&mut line, context)?;
     line.push_str("\n")?;
-    Ok(text_of(line))
+    Ok(Text::from_string(line))
 }
 
 /// Whether the key was passed on, beeps, and groups entered. After want of memory nothing is known of the line.
@@ -80,7 +80,7 @@ fn value_word(saved: bool) -> &'static [u8]
 pub fn expect_line(alloc: Global, line: u32) -> Result<Text, Memory>
     ensures { IfOk result (λ text. text ≡ expect_line line) }
 {
-    Ok(text_of(format!(in alloc; "expect failed line={line}\n")?))
+    Ok(Text::from_string(format!(in alloc; "expect failed line={line}\n")?))
 }
 
 /// The line of an event that is refused.
@@ -104,7 +104,7 @@ pub fn text_line(alloc: Global, left: &[char], right: &[char]) -> Result<Text, M
     line.push_str("|")?;
     put_characters(&mut line, right)?;
     line.push_str("\n")?;
-    Ok(text_of(line))
+    Ok(Text::from_string(line))
 }
 
 /// The last line: how many events there were, and how many expected texts differed.
@@ -112,14 +112,7 @@ pub fn text_line(alloc: Global, left: &[char], right: &[char]) -> Result<Text, M
 pub fn end_line(alloc: Global, events: usize, failed: usize) -> Result<Text, Memory>
     ensures { IfOk result (λ line. line ≡ end_line events failed) }
 {
-    Ok(text_of(format!(in alloc; "end events={events} failed={failed}\n")?))
-}
-
-/// The bytes of a string.
-fn text_of(string: String) -> Text
-    ensures { result ≡ string_bytes string }
-{
-    Seq::from_vec(string.into_bytes())
+    Ok(Text::from_string(format!(in alloc; "end events={events} failed={failed}\n")?))
 }
 
 /// Characters as code points joined by dots, or `-` where there are none. After want of memory nothing is known of the line,

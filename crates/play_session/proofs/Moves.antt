@@ -127,7 +127,7 @@ pub host_sets : (engine : EngineState) (editor : EditorText) (name value : List 
     → stands_for (set_by_host name value engine) editor ≡ setting_event name value (stands_for engine editor)
 host_sets engine editor name value = option_is_set engine editor (option_named name engine) (map Char value)
 
--- and the text of the session stays
+-- and the text of the session stays, with what the last press did
 texts_stay : (limit : ℕ) (engine : EngineState) (editor : EditorText) (option : Option ℕ) (value : List Element) → AreTogether limit engine editor → AreTogether limit (with_option option value engine) editor
 texts_stay limit engine editor None value h = h
 texts_stay limit engine editor (Some option) value h = record { same = h.same; sound = h.sound; context = h.context; few = h.few }
@@ -136,10 +136,24 @@ tables_stay : (engine : EngineState) (option : Option ℕ) (value : List Element
 tables_stay engine None value = refl
 tables_stay engine (Some option) value = refl
 
+inserted_stays : (engine : EngineState) (option : Option ℕ) (value : List Element) → (with_option option value engine).inserted ≡ engine.inserted
+inserted_stays engine None value = refl
+inserted_stays engine (Some option) value = refl
+
+chosen_stays : (engine : EngineState) (option : Option ℕ) (value : List Element) → (with_option option value engine).chosen ≡ engine.chosen
+chosen_stays engine None value = refl
+chosen_stays engine (Some option) value = refl
+
 pub set_stays_together : (limit : ℕ) (engine : EngineState) (editor : EditorText) (name value : List ℕ) → AreTogether limit engine editor → AreTogether limit (set_by_host name value engine) editor
 set_stays_together limit engine editor name value h = texts_stay limit engine editor (option_named name engine) (map Char value) h
 
 pub set_keeps_tables : (engine : EngineState) (name value : List ℕ) → (set_by_host name value engine).tables ≡ engine.tables
 set_keeps_tables engine name value = tables_stay engine (option_named name engine) (map Char value)
 
-pub ruleset setting_steps = (host_sets, set_stays_together, set_keeps_tables)
+pub set_keeps_inserted : (engine : EngineState) (name value : List ℕ) → (set_by_host name value engine).inserted ≡ engine.inserted
+set_keeps_inserted engine name value = inserted_stays engine (option_named name engine) (map Char value)
+
+pub set_keeps_chosen : (engine : EngineState) (name value : List ℕ) → (set_by_host name value engine).chosen ≡ engine.chosen
+set_keeps_chosen engine name value = chosen_stays engine (option_named name engine) (map Char value)
+
+pub ruleset setting_steps = (host_sets, set_stays_together, set_keeps_tables, set_keeps_inserted, set_keeps_chosen)

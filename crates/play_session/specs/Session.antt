@@ -73,6 +73,12 @@ engine_of session inserted chosen =
       chosen = chosen;
     }
 
+-- a session tells what its engine's last press inserted and which lines it chose, or of no press where its last step was none
+pub record TellsPress (session : SessionState) (engine : EngineState) : Type 0 where
+  pub typed : Bool
+  pub inserted : session.inserted ≡ typed_text typed engine
+  pub chosen : session.chosen ≡ typed_lines typed engine
+
 -- the list that both stand for has the editor's text and its marks in the window, which is the engine's context; and the
 -- text has at most so many characters
 pub record AreTogether (limit : ℕ) (engine : EngineState) (editor : EditorText) : Type 0 where

@@ -159,6 +159,8 @@ pub(crate) fn setting_event(
     ensures tables { engine.new.tables ≡ engine.old.tables }
     ensures state { IfOk result (λ _. stands_for engine.new editor.now ≡ setting_event name.now value.now (stands_for engine.old editor.now)) }
     ensures unchanged { IfErr result (λ _. engine.new ≡ engine.old) }
+    ensures inserted { engine.new.inserted ≡ engine.old.inserted }
+    ensures chosen { engine.new.chosen ≡ engine.old.chosen }
 {
     engine.setting(alloc, name, value)?;
     Ok(())

@@ -105,7 +105,7 @@ impl<'a> Model for Session<'a> {
 }
 
 impl<'a> Session<'a> {
-    ghost use Rattle.play_session.specs.Session.{engine_of, text_with_context, first_session, happened, after_step};
+    ghost use Rattle.play_session.specs.Session.{TellsPress, engine_of, text_with_context, first_session, happened, after_step};
     ghost use Rattle.play_session.specs.Answers.{step_of, code_of, takes_memory};
     ghost use Rattle.rule_engine.specs.Engine.{name_of};
     ghost use Rattle.play_session.specs.Printed.{value_of};
@@ -191,7 +191,7 @@ impl<'a> Session<'a> {
         ensures refused { IfErr result (λ error. code_of error ≡ event_refusal self.old.state (event.Key press)) }
         ensures unchanged { IfErr result (λ _. self.new ≡ self.old) }
     {
-        if self.editor.left().len() + self.editor.right().len() > TEXT_CHARS_AT_KEY {
+        if self.editor.len() > TEXT_CHARS_AT_KEY {
             return Err(StepError::Length);
         }
         let before = cells_now(alloc, &self.engine, self.options.as_slice())?;
@@ -270,7 +270,7 @@ impl<'a> Session<'a> {
         ensures inserted { IfOk result (λ preview. preview.inserted ≡ (happened self.now (event.Key press)).inserted) }
         ensures refused { IfErr result (λ error. code_of error ≡ event_refusal self.now.state (event.Key press)) }
     {
-        if self.editor.left().len() + self.editor.right().len() > TEXT_CHARS_AT_KEY {
+        if self.editor.len() > TEXT_CHARS_AT_KEY {
             return Err(StepError::Length);
         }
         Ok(preview_key(alloc, &self.engine, &self.editor, press)?)
@@ -290,6 +290,7 @@ impl<'a> Session<'a> {
     /// The engine, with its context.
     pub fn engine(&self) -> &Engine<'a>
         ensures value { result.now ≡ engine_of self.now result.now.inserted result.now.chosen }
+        ensures press { TellsPress self.now result.now }
         ensures names { self.now.state.names ≡ (first_state (tab self.now.tables)).names }
     {
         &self.engine

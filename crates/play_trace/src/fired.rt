@@ -4,7 +4,7 @@ ghost use Rattle.std.specs.Prelude.{◌≡◌, ◌++◌, flat_map, IfOk};
 ghost use Rattle.std.specs.String.{string_bytes};
 ghost use Rattle.play_trace.specs.TraceText.{fired_line, hit_if_any, never_chosen, never_line, events_line, hits_text};
 
-use kmn_base::{Memory, Seq, Text};
+use kmn_base::{Memory, Text};
 use rule_model::put_numbers;
 use rule_trace::Hit;
 use std::alloc::{AllocError, Global};
@@ -17,7 +17,7 @@ pub(crate) fn fired_line(alloc: Global, number: u32, lines: &[u32]) -> Result<Te
     write!(&mut line, "{number} fired ")?;
     put_numbers(&mut line, lines)?;
     line.push_str("\n")?;
-    Ok(text_of(line))
+    Ok(Text::from_string(line))
 }
 
 /// The last lines: how often each line was chosen, which never was, and how many events there were.
@@ -29,7 +29,7 @@ pub(crate) fn hits_text(alloc: Global, events: usize, hits: &[Hit]) -> Result<Te
     put_hits(&mut text, hits)?;
     put_never(alloc, &mut text, hits)?;
     put_events(&mut text, events)?;
-    Ok(text_of(text))
+    Ok(Text::from_string(text))
 }
 
 /// A line for each hit that was counted.
@@ -82,11 +82,4 @@ fn never_chosen(alloc: Global, hits: &[Hit]) -> Result<Vec<u32>, AllocError>
         }
     }
     Ok(lines)
-}
-
-/// The bytes of a string.
-fn text_of(string: String) -> Text
-    ensures { result ≡ string_bytes string }
-{
-    Seq::from_vec(string.into_bytes())
 }

@@ -1,7 +1,8 @@
 //! The words that a program was called with.
 //!
-//! It stands on `kmn_base` for what a word is. A program calls `words` with what the system gave it: each word behind the program's
-//! name comes whole, or memory is wanting.
+//! It stands on `kmn_base` for what a word is. A program calls `words` with what the system gave it, and takes what comes for the
+//! words behind its name. That they are the words of the call no clause says, since the toolchain's contract of `Env::arg` tells
+//! nothing of them; what is proved is that `words` returns, whatever the system gives.
 #![tactic(auto)]
 
 use kmn_base::{Memory, Seq, Text};

@@ -24,7 +24,8 @@ use Rattle.option_store.proofs.Meaning.{calls_follow, first_option_values, first
 use Rattle.context_cache.specs.Cached.{CacheValue}
 use Rattle.event_text.specs.Texts.{InsertedValue}
 use Rattle.rule_engine.specs.Engine.{EngineState, IsEngine, IsRunnable, IsAtWork, engine_with, first_engine, option_named, with_option, set_by_host}
-use Rattle.rule_engine.specs.Event.{moment_with}
+use Rattle.rule_engine.specs.Event.{HasPlaces, moment_with}
+use Rattle.rule_engine.proofs.OtherStores.{others_at_first}
 use Rattle.rule_matching.specs.Moment.{truths_at}
 
 -- there are as many values of options as options
@@ -41,9 +42,9 @@ module _ {X : Type 0} where
       one true behind = ap suc behind
       one false behind = behind
 
-pub at_work_is_engine : (tables : Tables) (cache : CacheValue) (cells : List Cell) (truths : List Bool) (inserted : InsertedValue) (chosen : List ℕ) (lines : ℕ)
-    → IsAtWork tables cache cells truths inserted lines → IsEngine (engine_with tables cache.items cells inserted.text chosen)
-at_work_is_engine tables cache cells truths inserted chosen lines h =
+pub at_work_is_engine : (tables : Tables) (cache : CacheValue) (cells : List Cell) (truths : List Bool) (inserted : InsertedValue) (chosen : List ℕ) (lines : ℕ) (places : ℕ × ℕ)
+    → IsAtWork tables cache cells truths inserted lines places → IsEngine (engine_with tables cache.items cells inserted.text chosen)
+at_work_is_engine tables cache cells truths inserted chosen lines places h =
     let stores : List StoreMeaning = (tab tables).stores in
     record {
       few = h.few;
@@ -58,13 +59,14 @@ nothing_inserted = record { text = []; room = EVENT_PUTS }
 abbrev pub nothing_at_hand : CacheValue
 nothing_at_hand = record { items = []; room = WINDOW_ITEMS }
 
-pub first_is_at_work : (tables : Tables) (cache : CacheValue) (cells : List Cell) (truths : List Bool) (inserted : InsertedValue) (lines : ℕ) → IsRunnable tables
+pub first_is_at_work : (tables : Tables) (cache : CacheValue) (cells : List Cell) (truths : List Bool) (inserted : InsertedValue) (lines : ℕ) (places : ℕ × ℕ) → IsRunnable tables
     → cache ≡ nothing_at_hand → cells ≡ first_cells 0 (length (tab tables).stores) → truths ≡ truths_at (moment_with tables cells)
-    → inserted ≡ nothing_inserted → lines ≡ EVENT_ENTRIES → IsAtWork tables cache cells truths inserted lines
-first_is_at_work tables cache cells truths inserted lines can empty are right nothing noted = record {
+    → inserted ≡ nothing_inserted → lines ≡ EVENT_ENTRIES → HasPlaces tables places → IsAtWork tables cache cells truths inserted lines places
+first_is_at_work tables cache cells truths inserted lines places can empty are right nothing noted has = record {
   runnable = can;
   few = omega (arith, ap (λ (value : CacheValue). length value.items) empty);
   stores = ap length are ∙ first_cells_count 0 (length (tab tables).stores);
+  others = others_at_first tables cells (length (tab tables).stores) are;
   right = right;
   text = omega (arith, ap (λ (value : InsertedValue). length value.text) nothing);
   room = record {
@@ -72,16 +74,18 @@ first_is_at_work tables cache cells truths inserted lines can empty are right no
     text = ap (λ (value : InsertedValue). value.room) nothing;
     noted = noted;
   };
+  places = has;
 }
 
 -- a copy, which has room of its own
-pub copy_is_at_work : (tables same : Tables) (cache kept : CacheValue) (cells values : List Cell) (truths right : List Bool) (inserted text : InsertedValue) (lines noted : ℕ)
-    → IsAtWork tables cache cells truths inserted lines → same ≡ tables → kept ≡ record cache { room = WINDOW_ITEMS } → values ≡ cells → right ≡ truths
-    → text ≡ inserted → noted ≡ EVENT_ENTRIES → IsAtWork same kept values right text noted
-copy_is_at_work tables same cache kept cells values truths right inserted text lines noted h is items are rights puts room =
+pub copy_is_at_work : (tables same : Tables) (cache kept : CacheValue) (cells values : List Cell) (truths right : List Bool) (inserted text : InsertedValue) (lines noted : ℕ) (places found : ℕ × ℕ)
+    → IsAtWork tables cache cells truths inserted lines places → same ≡ tables → kept ≡ record cache { room = WINDOW_ITEMS } → values ≡ cells → right ≡ truths
+    → text ≡ inserted → noted ≡ EVENT_ENTRIES → HasPlaces tables found → IsAtWork same kept values right text noted found
+copy_is_at_work tables same cache kept cells values truths right inserted text lines noted places found h is items are rights puts room has =
     let whole : kept ≡ cache = items ∙ (λ i. record cache { room = sym h.room.items i }) in
-    let places : noted ≡ lines = room ∙ sym h.room.noted in
-    transport (λ i. IsAtWork (sym is i) (sym whole i) (sym are i) (sym rights i) (sym puts i) (sym places i)) h
+    let entries : noted ≡ lines = room ∙ sym h.room.noted in
+    let stores : found ≡ places = has ∙ sym h.places in
+    transport (λ i. IsAtWork (sym is i) (sym whole i) (sym are i) (sym rights i) (sym puts i) (sym entries i) (sym stores i)) h
 
 pub first_values : (tables : Tables) (cells : List Cell) → cells ≡ first_cells 0 (length (tab tables).stores) → engine_with tables [] cells [] [] ≡ first_engine tables
 first_values tables cells are =

@@ -2,6 +2,7 @@ pub mod Contexts
 pub mod Engines
 pub mod OptionNames
 pub mod OptionSteps
+pub mod OtherStores
 pub mod Runnable
 pub mod Stores
 pub mod Truths

@@ -1,8 +1,8 @@
 -- Whether the platform has the words of each store's elements: it is told by the cell of the platform alone.
-use Rattle.std.proofs.Common.{◌≡◌, ◌≢◌, ℕ, zero, suc, ◌+◌, ◌-◌, ◌<◌, List, [], length, map, Bool, ◌++◌, take, drop, append-nil, Option, Some, Result, Ok, Err, sym, ◌∙◌, ap, refl, inl, inr, arith, length-set}
-use Rattle.std.specs.Prelude.{MatchResult, slice_get, slice_set, unwrap_or}
+use Rattle.std.proofs.Common.{◌≡◌, ◌≢◌, ℕ, ◌+◌, ◌-◌, ◌<◌, List, [], length, map, Bool, true, ◌++◌, take, drop, append-nil, Option, Some, Result, Ok, Err, sym, ◌∙◌, ap, refl, inl, inr, arith, length-set}
+use Rattle.std.specs.Prelude.{MatchResult, is_some, slice_set, unwrap_or}
 use Rattle.std.proofs.lemmas.Bool.Decides.{eqb_tells}
-use Rattle.std.proofs.lemmas.List.{get_or-set_same, get_or-set_other, length-map}
+use Rattle.std.proofs.lemmas.List.{get_or-set_same, length-map}
 use Rattle.std.proofs.Math.ListN.{drop_of_length-le}
 use Rattle.std.proofs.Math.Seq.{take-length}
 use Rattle.std.proofs.lemmas.Option.{unwrap_or-slice_get}
@@ -10,7 +10,7 @@ use Rattle.kmn_base.specs.declared.items.Element.{Element}
 use Rattle.kmn_base.specs.declared.items.Element.TheVariants.{Char}
 use Rattle.rule_model.specs.declared.tables.Tables.{Tables}
 use Rattle.rule_model.specs.Content.{content, elements_at, option_number}
-use Rattle.rule_model.specs.Keyboard.{Platform, StoreMeaning}
+use Rattle.rule_model.specs.Keyboard.{Numbered, Platform, StoreMeaning}
 use Rattle.rule_model.specs.Plain.{option_names}
 use Rattle.rule_model.specs.System.{has_words}
 use Rattle.rule_model.specs.Tab.{tab, tab_options, with_options}
@@ -23,6 +23,7 @@ use Rattle.option_store.proofs.Meaning.{option_value_found, stated_at}
 use Rattle.rule_matching.specs.Moment.{content_at, truths_at}
 use Rattle.rule_engine.specs.Event.{CanAct, moment_with}
 use Rattle.rule_index.proofs.StoreIndexes.{count_of_all}
+use Rattle.rule_engine.proofs.OtherStores.{cell_at_first, cell_elsewhere, others_kept}
 
 -- the platform is an option
 platform_is_option : (tables : Tables) → option_number (tab tables).stores Platform ≡ Some (length (option_names (with_options (tab_options tables) 0 tables.stores)) + 1)
@@ -57,12 +58,6 @@ module _ (tables : Tables) where
 
 -- ---- what changes it
 
-cell_elsewhere : (cells : List Cell) (n m : ℕ) (change : Cell → Cell) → m ≢ n → cell_at (changed n change cells) m ≡ cell_at cells m
-cell_elsewhere cells n m change other =
-    let cell : Cell = change (cell_at cells n) in
-    unwrap_or-slice_get (slice_set cells n cell) m (first_cell m)
-    ∙ (get_or-set_other cells n m cell (first_cell m) other ∙ sym (unwrap_or-slice_get cells m (first_cell m)))
-
 cell_there : (cells : List Cell) (n : ℕ) (change : Cell → Cell) → n < length cells → cell_at (changed n change cells) n ≡ change (cell_at cells n)
 cell_there cells n change few =
     let cell : Cell = change (cell_at cells n) in
@@ -90,13 +85,15 @@ truths_kept_or_left tables cells after n change (Ok x) count within other done =
 truths_kept_or_left tables cells after n change (Err e) count within other done = ap (λ (these : List Cell). truths_at (moment_with tables these)) (sym done)
 
 -- so an event acts on
-pub acts_on : (tables : Tables) (cells after : List Cell) (truths : List Bool) (n : ℕ) (change : Cell → Cell) → CanAct tables cells truths → n + 1 < length (tab tables).stores
-    → after ≡ changed n change cells → CanAct tables after truths
-acts_on tables cells after truths n change can before is = record {
+pub acts_on : (tables : Tables) (cells after : List Cell) (truths : List Bool) (places : ℕ × ℕ) (n : ℕ) (change : Cell → Cell) → CanAct tables cells truths places → n + 1 < length (tab tables).stores
+    → is_some (option_number (tab tables).stores (Numbered n)) ≡ true → after ≡ changed n change cells → CanAct tables after truths places
+acts_on tables cells after truths places n change can before option is = record {
   short = can.short;
   platform = can.platform;
   stores = ap length is ∙ (length-set cells n (change (cell_at cells n)) ∙ can.stores);
+  others = others_kept tables cells after n change option is can.others;
   right = can.right ∙ truths_kept tables cells after n change can.stores before is;
+  places = can.places;
 }
 
 -- what is saved doesn't either
@@ -107,9 +104,9 @@ saved_in cells n m elements few = elim (eqb_tells m n) [
   | inr other ↦ ap (current_value elements) (cell_elsewhere cells n m save_cell other.1)
 ]
 
-pub acts_on_saved : (tables : Tables) (cells after : List Cell) (truths : List Bool) (n : ℕ) → CanAct tables cells truths → n < length cells → after ≡ changed n save_cell cells
-    → CanAct tables after truths
-acts_on_saved tables cells after truths n can few is =
+pub acts_on_saved : (tables : Tables) (cells after : List Cell) (truths : List Bool) (places : ℕ × ℕ) (n : ℕ) → CanAct tables cells truths places → n < length cells
+    → is_some (option_number (tab tables).stores (Numbered n)) ≡ true → after ≡ changed n save_cell cells → CanAct tables after truths places
+acts_on_saved tables cells after truths places n can few option is =
     let stores : List StoreMeaning = (tab tables).stores in
     let counted : length after ≡ length stores = ap length is ∙ (length-set cells n (save_cell (cell_at cells n)) ∙ can.stores) in
     let same : current_value (stated stores) (platform_cell tables after) ≡ current_value (stated stores) (platform_cell tables cells)
@@ -118,7 +115,9 @@ acts_on_saved tables cells after truths n can few is =
       short = can.short;
       platform = can.platform;
       stores = counted;
+      others = others_kept tables cells after n save_cell option is can.others;
       right = can.right ∙ (truths_told tables cells (current_value (stated stores) (platform_cell tables cells)) can.stores refl ∙ sym (truths_told tables after _ counted same));
+      places = can.places;
     }
 
 -- the last has the text that the host gives it
@@ -133,20 +132,12 @@ truths_given tables cells after n text count last is =
     sym (truths_told tables after (map Char text) counted (ap (current_value (stated (tab tables).stores)) cell))
 
 -- at first it has the elements that it is stated with
-first_there : (k n m : ℕ) → unwrap_or (slice_get (first_cells k n) m) (first_cell (k + m)) ≡ first_cell (k + m)
-first_there k zero m = refl
-first_there k (suc n) zero = let same : k ≡ k + 0 = omega arith in ap first_cell same
-first_there k (suc n) (suc m) =
-    let next : k + suc m ≡ k + 1 + m = omega arith in
-    ap (λ cell. unwrap_or (slice_get (first_cells (k + 1) n) m) (first_cell cell)) next ∙ (first_there (k + 1) n m ∙ ap first_cell (sym next))
-
 pub truths_at_first : (tables : Tables) (cells : List Cell) (n : ℕ) → cells ≡ first_cells 0 (length (tab tables).stores) → n ≡ length (tab tables).stores - 1
     → truths_by tables (elements_at (tab tables).stores (Some n)) ≡ truths_at (moment_with tables cells)
 truths_at_first tables cells n are last =
     let all : List StoreMeaning = (tab tables).stores in
-    let here : 0 + n ≡ n = omega arith in
     let cell : platform_cell tables cells ≡ first_cell n
-    = (λ i. cell_at (are i) (sym last i)) ∙ (ap (λ k. unwrap_or (slice_get (first_cells 0 (length all)) n) (first_cell k)) (sym here) ∙ (first_there 0 (length all) n ∙ ap first_cell here)) in
+    = (λ i. cell_at (are i) (sym last i)) ∙ cell_at_first (length all) n in
     let counted : length cells ≡ length all = ap length are ∙ first_cells_count 0 (length all) in
     sym (truths_told tables cells (elements_at all (Some n)) counted (ap (current_value (stated all)) cell ∙ stated_at all n))
 

@@ -21,7 +21,7 @@ use Rattle.rule_index.specs.Stores.{HaveFewElements}
 use Rattle.context_cache.specs.Cached.{CacheValue}
 use Rattle.event_text.specs.Texts.{InsertedValue}
 use Rattle.rule_matching.specs.Moment.{truths_at}
-use Rattle.rule_engine.specs.Event.{HasRoom, HasShortContexts, HaveFewRecords, PlatformStays, moment_with}
+use Rattle.rule_engine.specs.Event.{HasPlaces, HasRoom, HasShortContexts, HaveFewRecords, OthersHoldThemselves, PlatformStays, moment_with}
 
 -- an engine: its tables, the last items before the caret, of each option, in order, the current value and the saved one, what
 -- the last press inserted, and the lines of the rules that it chose
@@ -75,15 +75,18 @@ pub record IsRunnable (tables : Tables) : Type 0 where
   pub stores : length tables.stores ≤ STORES
   pub platform : PlatformStays tables
 
--- what an engine is made of: tables that can be run, the last items, a cell for each store, for each store whether the platform
--- has the words of its elements, and room for a press
-pub record IsAtWork (tables : Tables) (cache : CacheValue) (cells : List Cell) (truths : List Bool) (inserted : InsertedValue) (lines : ℕ) : Type 0 where
+-- what an engine is made of: tables that can be run, the last items, a cell for each store, where one that is no option holds
+-- itself, for each store whether the platform has the words of its elements, and room for a press and for the places that are
+-- found in it
+pub record IsAtWork (tables : Tables) (cache : CacheValue) (cells : List Cell) (truths : List Bool) (inserted : InsertedValue) (lines : ℕ) (rooms : ℕ × ℕ) : Type 0 where
   pub runnable : IsRunnable tables
   pub few : length cache.items ≤ WINDOW_ITEMS
   pub stores : length cells ≡ length (tab tables).stores
+  pub others : OthersHoldThemselves tables cells
   pub right : truths ≡ truths_at (moment_with tables cells)
   pub text : length inserted.text ≤ EVENT_PUTS
   pub room : HasRoom cache inserted lines
+  pub places : HasPlaces tables rooms
 
 -- how a press begins, where the text before the caret is read again first, and what it leaves
 abbrev pub begun : List ℕ → EngineState → EventState

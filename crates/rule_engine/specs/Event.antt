@@ -1,5 +1,5 @@
 -- The state inside an event as the engine has it: the tables, the lent text, and the state of the event that they stand for.
-use Rattle.std.specs.Prelude.{◌≡◌, ◌<◌, ◌≤◌, ℕ, Bool, List, length, All}
+use Rattle.std.specs.Prelude.{◌≡◌, ◌<◌, ◌≤◌, ℕ, Bool, List, None, length, All}
 use Rattle.kmn_base.specs.declared.limits.TheConstants.{EVENT_ENTRIES, EVENT_PUTS, RECORDS, WINDOW_ITEMS}
 use Rattle.rule_model.specs.declared.event_state.EventState.{EventState}
 use Rattle.rule_model.specs.declared.tables.Group.{Group}
@@ -7,13 +7,15 @@ use Rattle.rule_model.specs.declared.tables.Out.{Out}
 use Rattle.rule_model.specs.declared.tables.Out.TheVariants as output
 use Rattle.rule_model.specs.declared.tables.Rule.{Rule}
 use Rattle.rule_model.specs.declared.tables.Tables.{Tables}
-use Rattle.rule_model.specs.Keyboard.{Ref, Keyboard}
+use Rattle.rule_model.specs.Keyboard.{Ref, Numbered, Keyboard}
+use Rattle.rule_model.specs.Content.{option_number}
 use Rattle.rule_model.specs.Match.{Content}
 use Rattle.rule_model.specs.Act.{content_now}
 use Rattle.rule_model.specs.Enter.{enter_group}
 use Rattle.rule_model.specs.ChosenLines.{Adding, add_lines}
 use Rattle.rule_model.specs.Tab.{tab}
 use Rattle.option_store.specs.declared.options.Cell.{Cell}
+use Rattle.option_store.specs.Cells.{cell_at, first_cell}
 use Rattle.option_store.specs.Meaning.{option_values}
 use Rattle.context_cache.specs.Cached.{CacheValue}
 use Rattle.event_text.specs.Texts.{InsertedValue}
@@ -94,10 +96,21 @@ HasShortContexts tables = All (λ (group : Group). AreShort group.rules) tables.
 abbrev pub HaveFewRecords : List Group → Type 0
 HaveFewRecords groups = All (λ (group : Group). length group.rules ≤ RECORDS) groups
 
+-- for each store there is room for the place of an item in it, and for a mark
+abbrev pub HasPlaces : Tables → ℕ × ℕ → Type 0
+HasPlaces tables rooms = rooms ≡ (length (tab tables).stores, length (tab tables).stores)
+
+-- each store that is no option holds itself, with nothing saved and no text of the host
+pub record OthersHoldThemselves (tables : Tables) (cells : List Cell) : Type 0 where
+  pub itself : (store : ℕ) → option_number (tab tables).stores (Numbered store) ≡ None → cell_at cells store ≡ first_cell store
+
 -- what holds while an event acts on tables: no context has more items than are caught, no output changes the platform, there is
--- a cell for each store, and it is right of each store whether the platform has the words of its elements
-pub record CanAct (tables : Tables) (cells : List Cell) (truths : List Bool) : Type 0 where
+-- a cell for each store, where one that is no option holds itself, it is right of each store whether the platform has the words
+-- of its elements, and there is room for the places that are found
+pub record CanAct (tables : Tables) (cells : List Cell) (truths : List Bool) (rooms : ℕ × ℕ) : Type 0 where
   pub short : HasShortContexts tables
   pub platform : PlatformStays tables
   pub stores : length cells ≡ length (tab tables).stores
+  pub others : OthersHoldThemselves tables cells
   pub right : truths ≡ truths_at (moment_with tables cells)
+  pub places : HasPlaces tables rooms

@@ -8,6 +8,8 @@ ghost use Rattle.rule_model.specs.Keyboard.{Numbered};
 ghost use Rattle.rule_model.specs.Plain.{option_numbers};
 ghost use Rattle.rule_model.specs.Tab.{tab};
 ghost use Rattle.rule_engine.specs.Engine.{IsAtWork, IsRunnable, engine_with, press_outcome, press_leaves};
+ghost use Rattle.rule_engine.specs.Event.{OthersHoldThemselves};
+ghost use Rattle.rule_matching.specs.PlaceMemory.{rooms};
 ghost use Rattle.rule_matching.specs.StoreValues.{elements_in};
 
 use crate::entering::press;
@@ -43,6 +45,7 @@ pub struct Preview {
 impl<'a> Model for Engine<'a> {
     ghost use Rattle.std.specs.Arc.{arc_value};
     ghost use Rattle.std.specs.Prelude.{vec_capacity};
+    ghost use Rattle.rule_matching.specs.PlaceMemory.{rooms};
     ghost use Rattle.rule_engine.specs.Engine.{EngineState, engine_with, IsAtWork};
 
     ghost Value = { EngineState };
@@ -50,7 +53,7 @@ impl<'a> Model for Engine<'a> {
     ghost view = { λ engine. engine_with (arc_value engine.indexed) engine.workspace.cache.items engine.workspace.options engine.workspace.inserted.text engine.workspace.chosen.items };
 
     ghost invariant = { λ engine. IsAtWork (arc_value engine.indexed) engine.workspace.cache engine.workspace.options engine.workspace.truths.items engine.workspace.inserted
-        (vec_capacity engine.workspace.chosen) };
+        (vec_capacity engine.workspace.chosen) (rooms engine.workspace.places) };
 }
 
 /// How many stores the keyboard of a file has: the layer and the platform stand behind those of the file.
@@ -199,6 +202,7 @@ impl<'a> Engine<'a> {
         ensures current { option_values (tab self.now.tables).stores result.now ≡ self.now.current }
         ensures saved { option_saves (tab self.now.tables).stores result.now ≡ self.now.saved }
         ensures stores { length result.now ≡ length (tab self.now.tables).stores }
+        ensures others { OthersHoldThemselves self.now.tables result.now }
     {
         &self.workspace.options
     }
@@ -273,12 +277,12 @@ fn pressed(
     workspace: Workspace,
 ) -> AfterPress
     requires few { length left.now < 2 ^ 32 }
-    requires work { IsAtWork indexed.now workspace.cache workspace.options workspace.truths.items workspace.inserted (vec_capacity workspace.chosen) }
+    requires work { IsAtWork indexed.now workspace.cache workspace.options workspace.truths.items workspace.inserted (vec_capacity workspace.chosen) (rooms workspace.places) }
     ensures outcome { result.outcome ≡ press_outcome left.now key (engine_with indexed.now workspace.cache.items workspace.options workspace.inserted.text workspace.chosen.items) }
     ensures engine { engine_with indexed.now result.workspace.cache.items result.workspace.options result.workspace.inserted.text result.workspace.chosen.items
         ≡ press_leaves left.now key (engine_with indexed.now workspace.cache.items workspace.options workspace.inserted.text workspace.chosen.items) }
     ensures work { IsAtWork indexed.now result.workspace.cache result.workspace.options result.workspace.truths.items result.workspace.inserted
-        (vec_capacity result.workspace.chosen) }
+        (vec_capacity result.workspace.chosen) (rooms result.workspace.places) }
 {
     let mut event = PressEvent::begin(indexed, left, workspace);
     press(key, &mut event);

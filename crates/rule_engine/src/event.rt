@@ -11,6 +11,7 @@ ghost use Rattle.rule_model.specs.KeyEvent.{begin_event, deleted, inserted, outc
 ghost use Rattle.rule_model.specs.Tab.{tab, elements_of, tab_group, tab_rule};
 ghost use Rattle.rule_index.specs.Groups.{IsRuleIndexOf};
 ghost use Rattle.rule_matching.specs.Moment.{AreShort};
+ghost use Rattle.rule_matching.specs.PlaceMemory.{rooms};
 ghost use Rattle.rule_engine.specs.Event.{CanAct, HasRoom, HasShortContexts, PlatformStays, keyboard_of, moment_of};
 
 use crate::workspace::Workspace;
@@ -53,6 +54,7 @@ impl<'a> Model for PressEvent<'a> {
     ghost use Rattle.std.specs.Prelude.{[], vec_capacity};
     ghost use Rattle.option_store.specs.Meaning.{with_values};
     ghost use Rattle.rule_model.specs.Tab.{tab};
+    ghost use Rattle.rule_matching.specs.PlaceMemory.{rooms};
     ghost use Rattle.rule_engine.specs.Event.{CanAct, EventValue, HasNoted};
 
     ghost Value = { EventValue };
@@ -74,7 +76,7 @@ impl<'a> Model for PressEvent<'a> {
       lines = event.lines.items;
     } };
 
-    ghost invariant = { λ event. CanAct event.indexed.now event.options event.truths.items × HasNoted event.lines.items event.entered (vec_capacity event.lines) };
+    ghost invariant = { λ event. CanAct event.indexed.now event.options event.truths.items (rooms event.places) × HasNoted event.lines.items event.entered (vec_capacity event.lines) };
 }
 
 impl<'a> PressEvent<'a> {
@@ -88,7 +90,7 @@ impl<'a> PressEvent<'a> {
     ) -> PressEvent<'a>
         requires few { length lent.now < 2 ^ 32 }
         requires room { HasRoom workspace.cache workspace.inserted (vec_capacity workspace.chosen) }
-        requires can { CanAct indexed.now workspace.options workspace.truths.items }
+        requires can { CanAct indexed.now workspace.options workspace.truths.items (rooms workspace.places) }
         ensures { result ≡ record {
           tables = indexed.now;
           lent = lent.now;
@@ -121,7 +123,7 @@ impl<'a> PressEvent<'a> {
         ensures cache { result.workspace.cache.items ≡ window self.entry.state.left }
         ensures current { option_values (keyboard_of self.entry).stores result.workspace.options ≡ self.entry.state.current }
         ensures saved { option_saves (keyboard_of self.entry).stores result.workspace.options ≡ self.entry.state.saved }
-        ensures can { CanAct self.entry.tables result.workspace.options result.workspace.truths.items }
+        ensures can { CanAct self.entry.tables result.workspace.options result.workspace.truths.items (rooms result.workspace.places) }
         ensures chosen { result.workspace.chosen.items ≡ self.entry.lines }
         ensures room { HasRoom result.workspace.cache result.workspace.inserted (vec_capacity result.workspace.chosen) }
         ensures few { length result.workspace.inserted.text ≤ EVENT_PUTS }

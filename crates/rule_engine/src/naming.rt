@@ -6,17 +6,10 @@ ghost use Rattle.rule_model.specs.Plain.{option_names};
 ghost use Rattle.rule_model.specs.Tab.{tab};
 ghost use Rattle.rule_engine.specs.Engine.{name_of};
 
-use kmn_base::names::same_name;
 use kmn_base::{Memory, Seq, Text};
 use rule_index::IndexedKeyboard;
+use rule_model::has_name;
 use std::alloc::Global;
-
-/// Whether an option has a name.
-fn has_name(name: &[u8], other: &[u8]) -> bool
-    ensures { result ≡ has_name name.now other.now }
-{
-    !other.is_empty() && same_name(other, name)
-}
 
 /// The name of the layer or of the platform; empty for a number behind theirs.
 #[tactic(auto, using(crate::proofs::Stores::layer_name, crate::proofs::Stores::platform_name, crate::proofs::Stores::no_name))]

@@ -3,6 +3,7 @@ ghost use Rattle.kmn_base.specs.declared.limits.TheConstants.{EVENT_ENTRIES, EVE
 ghost use Rattle.option_store.specs.Cells.{changed, first_cells, host_cell};
 ghost use Rattle.rule_model.specs.Tab.{tab};
 ghost use Rattle.rule_matching.specs.Moment.{truths_at};
+ghost use Rattle.rule_matching.specs.PlaceMemory.{rooms};
 ghost use Rattle.rule_engine.specs.Event.{moment_with};
 
 use context_cache::Cache;
@@ -50,6 +51,7 @@ impl Workspace {
         ensures inserted { IfOk result (λ workspace. workspace.inserted ≡ record { text = []; room = EVENT_PUTS }) }
         ensures chosen { IfOk result (λ workspace. workspace.chosen.items ≡ []) }
         ensures lines { IfOk result (λ workspace. vec_capacity workspace.chosen ≡ EVENT_ENTRIES) }
+        ensures places { IfOk result (λ workspace. rooms workspace.places ≡ (stores, stores)) }
     {
         let options = Options::new(alloc, stores)?;
         let truths = vec![in alloc; false; stores as usize]?;
@@ -77,6 +79,7 @@ impl Workspace {
         ensures options { self.new.options ≡ self.old.options }
         ensures inserted { self.new.inserted ≡ self.old.inserted }
         ensures chosen { self.new.chosen ≡ self.old.chosen }
+        ensures places { self.new.places ≡ self.old.places }
     {
         let stated = indexed.stated(indexed.platform());
         indexed.find_truths(self.truths.as_mut_slice(), stated);
@@ -89,6 +92,7 @@ impl Workspace {
         ensures truths { result.truths.items ≡ [] }
         ensures inserted { result.inserted ≡ record { text = []; room = 0 } }
         ensures chosen { result.chosen.items ≡ [] }
+        ensures places { rooms result.places ≡ (0, 0) }
     {
         Workspace {
             cache: Cache::without_room(alloc),
@@ -109,7 +113,8 @@ impl Workspace {
         ensures truths { IfOk result (λ workspace. workspace.truths.items ≡ self.now.truths.items) }
         ensures inserted { IfOk result (λ workspace. workspace.inserted ≡ self.now.inserted) }
         ensures chosen { IfOk result (λ workspace. workspace.chosen.items ≡ self.now.chosen.items) }
-        ensures places { IfOk result (λ workspace. vec_capacity workspace.chosen ≡ EVENT_ENTRIES) }
+        ensures lines { IfOk result (λ workspace. vec_capacity workspace.chosen ≡ EVENT_ENTRIES) }
+        ensures places { IfOk result (λ workspace. rooms workspace.places ≡ (stores, stores)) }
     {
         let options = self.options.copy(alloc)?;
         let mut truths = Vec::with_capacity(alloc, self.truths.len())?;
@@ -146,6 +151,7 @@ impl Workspace {
         ensures cache { self.new.cache ≡ self.old.cache }
         ensures inserted { self.new.inserted ≡ self.old.inserted }
         ensures chosen { self.new.chosen ≡ self.old.chosen }
+        ensures places { self.new.places ≡ self.old.places }
     {
         if store != indexed.platform() {
             return self.options.host_set(alloc, store, text);

@@ -103,89 +103,79 @@ fn element_key(element: Element) -> RuleKey
     }
 }
 
-/// The record of a rule for a key, which has this place in a key store, and of two halves this one.
-fn record_of(
+/// Makes the records of a rule from what they have in common.
+#[derive(Drop)]
+struct RecordMaker<'a> {
     alloc: Global,
-    numbers: &Lookups<'_>,
-    template: &Template,
-    place: Option<u32>,
-    half: u32,
-    key: RuleKey,
-) -> Result<Rule, Memory>
-    requires place { unwrap_or place 0 < 0x7FFF_FFFF }
-    requires half { half ≤ 1 }
-    ensures { IfOk result (λ made. made ≡ template_record numbers.now.stores template.now place half key) }
-{
-    Ok(Rule {
-        line: template.line,
-        place: 2 * place.unwrap_or(0) + half,
-        key,
-        context: template.context.copy(alloc)?,
-        output: outputs_at(alloc, numbers, template.pieces.as_slice(), place)?,
-    })
+    numbers: &'a Lookups<'a>,
+    template: Template,
 }
 
-/// Appends the records of a rule for a key: one, or two halves.
-fn add_halves(
-    alloc: Global,
-    records: &mut Vec<Rule>,
-    numbers: &Lookups<'_>,
-    template: &Template,
-    place: Option<u32>,
-    key: RuleKey,
-) -> Result<(), Memory>
-    requires { unwrap_or place 0 < 0x7FFF_FFFF }
-    ensures { OnOk result (records.new.items ≡ records.old.items ++ template_halves numbers.now template.now place key) }
-{
-    if !has_halves(numbers, key) {
-        records.push(record_of(alloc, numbers, template, place, 0, key)?)?;
-        return Ok(());
+impl<'a> RecordMaker<'a> {
+    /// The record for a key, which has this place in a key store, and of two halves this one.
+    fn record_of(&self, place: Option<u32>, half: u32, key: RuleKey) -> Result<Rule, Memory>
+        requires place { unwrap_or place 0 < 0x7FFF_FFFF }
+        requires half { half ≤ 1 }
+        ensures { IfOk result (λ made. made ≡ template_record self.now.numbers.now.stores self.now.template place half key) }
+    {
+        let pieces = self.template.pieces.as_slice();
+        Ok(Rule {
+            line: self.template.line,
+            place: 2 * place.unwrap_or(0) + half,
+            key,
+            context: self.template.context.copy(self.alloc)?,
+            output: outputs_at(self.alloc, self.numbers, pieces, place)?,
+        })
     }
-    let small = record_of(alloc, numbers, template, place, 0, half_key(0, key))?;
-    records.push(small)?;
-    let large = record_of(alloc, numbers, template, place, 1, half_key(1, key))?;
-    records.push(large)?;
-    Ok(())
-}
 
-/// Appends the records of a rule for the elements of its key store.
-#[tactic(auto, using(crate::proofs::RuleRecords::unit_at, crate::proofs::RuleRecords::few_at))]
-fn add_placed(
-    alloc: Global,
-    records: &mut Vec<Rule>,
-    numbers: &Lookups<'_>,
-    template: &Template,
-    elements: &[Element],
-) -> Result<(), Memory>
-    requires { are_unit_elements elements.now ≡ true }
-    ensures { OnOk result (records.new.items ≡ records.old.items ++ template_records numbers.now template.now 0 elements.now) }
-{
-    for (place, element) in elements.iter().enumerate() {
-        let key = element_key(*element);
-        add_halves(alloc, records, numbers, template, Some(place as u32), key)?;
-    }
-    Ok(())
-}
-
-/// Appends the records of a rule with this key: those for each element of a key store, else those for its own key.
-fn add_keyed(
-    alloc: Global,
-    records: &mut Vec<Rule>,
-    numbers: &Lookups<'_>,
-    template: &Template,
-    key: &Option<SrcItem>,
-) -> Result<(), Memory>
-    requires { is_unit_key numbers.now.stores key.now ≡ true }
-    ensures { OnOk result (records.new.items ≡ records.old.items ++ template_keyed numbers.now template.now key.now) }
-{
-    match key {
-        Some(SrcItem::Any(store)) => {
-            let elements = numbers.elements(store.as_slice());
-            add_placed(alloc, records, numbers, template, elements)
+    /// Appends the records for a key: one, or two halves.
+    fn add_halves(
+        &self,
+        records: &mut Vec<Rule>,
+        place: Option<u32>,
+        key: RuleKey,
+    ) -> Result<(), Memory>
+        requires { unwrap_or place 0 < 0x7FFF_FFFF }
+        ensures { OnOk result (records.new.items ≡ records.old.items ++ template_halves self.now.numbers.now self.now.template place key) }
+    {
+        if !has_halves(self.numbers, key) {
+            records.push(self.record_of(place, 0, key)?)?;
+            return Ok(());
         }
-        _ => {
-            let wanted = own_key(numbers, key);
-            add_halves(alloc, records, numbers, template, None, wanted)
+        let small = self.record_of(place, 0, half_key(0, key))?;
+        records.push(small)?;
+        let large = self.record_of(place, 1, half_key(1, key))?;
+        records.push(large)?;
+        Ok(())
+    }
+
+    /// Appends the records for the elements of a key store.
+    #[tactic(auto, using(crate::proofs::RuleRecords::unit_at, crate::proofs::RuleRecords::few_at))]
+    fn add_placed(&self, records: &mut Vec<Rule>, elements: &[Element]) -> Result<(), Memory>
+        requires { are_unit_elements elements.now ≡ true }
+        ensures { OnOk result (records.new.items ≡ records.old.items ++ template_records self.now.numbers.now self.now.template 0 elements.now) }
+    {
+        for (place, element) in elements.iter().enumerate() {
+            let key = element_key(*element);
+            self.add_halves(records, Some(place as u32), key)?;
+        }
+        Ok(())
+    }
+
+    /// Appends the records for this key: those for each element of a key store, else those for its own key.
+    fn add_keyed(&self, records: &mut Vec<Rule>, key: &Option<SrcItem>) -> Result<(), Memory>
+        requires { is_unit_key self.now.numbers.now.stores key.now ≡ true }
+        ensures { OnOk result (records.new.items ≡ records.old.items ++ template_keyed self.now.numbers.now self.now.template key.now) }
+    {
+        match key {
+            Some(SrcItem::Any(store)) => {
+                let elements = self.numbers.elements(store.as_slice());
+                self.add_placed(records, elements)
+            }
+            _ => {
+                let wanted = own_key(self.numbers, key);
+                self.add_halves(records, None, wanted)
+            }
         }
     }
 }
@@ -201,6 +191,10 @@ pub fn add_records(
     requires { has_unit_key numbers.now.stores rule.now ≡ true }
     ensures { OnOk result (records.new.items ≡ records.old.items ++ rule_records numbers.now rule.now) }
 {
-    let template = template_of(alloc, numbers, rule)?;
-    add_keyed(alloc, records, numbers, &template, &rule.key)
+    let maker = RecordMaker {
+        alloc,
+        numbers,
+        template: template_of(alloc, numbers, rule)?,
+    };
+    maker.add_keyed(records, &rule.key)
 }

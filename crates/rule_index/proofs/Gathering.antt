@@ -1,8 +1,9 @@
 -- The elements of a store, walked by what they are, give a row for the first of each item.
-use Rattle.std.proofs.Common.{◌≡◌, ◌≢◌, ◌+◌, ◌<◌, ◌≤◌, ℕ, List, [], ◌∷◌, ◌++◌, Some, length, map, slice_index_or, inl, inr, refl, sym, ◌∙◌, ap, subst, arith}
+use Rattle.std.proofs.Common.{◌≡◌, ◌≢◌, ◌+◌, ◌*◌, ◌<◌, ◌≤◌, ℕ, List, [], ◌∷◌, ◌++◌, Some, length, map, slice_index_or, inl, inr, refl, sym, ◌∙◌, ap, subst, arith}
 use Rattle.std.specs.List.{All, Contains}
 use Rattle.std.proofs.lemmas.Bool.{cases_lt}
 use Rattle.std.proofs.lemmas.List.Elements.{All-push, All-contains, Contains-append_left, Contains-push}
+use Rattle.std.proofs.lemmas.List.Quantifiers.{all_pairs_push}
 use Rattle.std.proofs.lemmas.Option.{slice_get_cases}
 use Rattle.kmn_base.specs.declared.items.Item.{Item}
 use Rattle.kmn_base.specs.declared.items.Item.TheVariants as item
@@ -11,7 +12,7 @@ use Rattle.rule_model.specs.Match.{place_of}
 use Rattle.rule_index.specs.declared.holding.Holding.{Holding}
 use Rattle.rule_index.specs.declared.row.Row.{Row}
 use Rattle.rule_index.specs.Elements.{element_number, item_number}
-use Rattle.rule_index.specs.Holdings.{content_at, holding_of, IsHeld, IsSmall, AreGathered}
+use Rattle.rule_index.specs.Holdings.{holding_rank, content_at, holding_of, IsHeld, IsSmall, StandOnce, AreGathered}
 use Rattle.rule_index.specs.Next.{IsFirstOf, FirstOf}
 use Rattle.rule_index.specs.Rows.{rank, IsIndexOf}
 use Rattle.rule_index.proofs.Places.{first_is_place, place_has_number}
@@ -64,9 +65,14 @@ still rows more item store has = record {
 }
 
 -- the rows of a store's elements up to a count are passed, and the last class that was put is the greatest of them: all that was put
--- has a row for each item among them
+-- has a row for each item among them, and stands once
 pub record ArePassed (stores : List (List Element)) (store : ℕ) (places : List Row) (rows : List Holding) (count last : ℕ) : Type 0 where
-  pub gathered : AreGathered stores rows store
+  small : All IsSmall rows
+  right : All (IsHeld stores) rows
+  once : StandOnce rows
+  within : All (λ row. row.store < store + 1) rows
+  of_store : All (λ row. row.store ≡ store → row.item ≤ last) rows
+  complete : (x : Item) (other place : ℕ) → other < store → place_of x (content_at stores other) ≡ Some place → Contains rows (holding_of x other place)
   pub low : (k : ℕ) (d : Row) → k < count → k < length places → (slice_index_or places k d).class ≤ last
   pub high : (k : ℕ) (d : Row) → count ≤ k → k < length places → last ≤ (slice_index_or places k d).class
   put : (k : ℕ) (d : Row) → k < count → k < length places → 0 < (slice_index_or places k d).class → HasRowOf rows (slice_index_or places k d).class store
@@ -75,7 +81,12 @@ pub record ArePassed (stores : List (List Element)) (store : ℕ) (places : List
 -- none are passed at first
 pub none_passed : (stores : List (List Element)) (store : ℕ) (places : List Row) (rows : List Holding) → AreGathered stores rows store → ArePassed stores store places rows 0 0
 none_passed stores store places rows gathered = record {
-  gathered = gathered;
+  small = gathered.small;
+  right = gathered.right;
+  once = gathered.once;
+  within = λ k d there. (let earlier : (slice_index_or rows k d).store < store = gathered.within k d there in omega (arith, earlier));
+  of_store = λ k d there same. (let earlier : (slice_index_or rows k d).store < store = gathered.within k d there in absurd (omega (arith, earlier, same)));
+  complete = gathered.complete;
   low = λ k d below within. absurd (omega arith);
   high = λ k d up within. omega arith;
   put = λ k d below within some. absurd (omega arith);
@@ -92,7 +103,12 @@ module _ (stores : List (List Element)) (store : ℕ) (places : List Row) (rows 
   -- it is of the class of the one before it
   pub same_passed : row.class ≡ last → ArePassed stores store places rows (count + 1) last
   same_passed same = record {
-    gathered = passed.gathered;
+    small = passed.small;
+    right = passed.right;
+    once = passed.once;
+    within = passed.within;
+    of_store = passed.of_store;
+    complete = passed.complete;
     low = λ k d below there. elim (cases_lt k count) [
       | inl early ↦ passed.low k d early there
       | inr late ↦ omega (arith, class_at k d (omega arith), same)
@@ -123,16 +139,29 @@ module _ (stores : List (List Element)) (store : ℕ) (places : List Row) (rows 
         let least : IsFirstOf row.class numbers 0 (Some row.number) = first_of_class numbers places count row index within (at row) others in
         sym (first_is_place x (content_at stores store) (Some row.number) (subst (λ (class : ℕ). IsFirstOf class numbers 0 (Some row.number)) (sym same) least))
 
+    apart : (k : ℕ) (d : Holding) → k < length rows → holding_rank (slice_index_or rows k d) ≢ holding_rank more
+    apart k d there same =
+        let one : Holding = slice_index_or rows k d in
+        let small_one : IsSmall one = passed.small k d there in
+        let ranks : (one.item * 65536 + one.store) * 65536 + one.place ≡ (row.class * 65536 + store) * 65536 + row.number = same in
+        let here : one.store ≡ store = omega (arith, ranks, small_one.0, small_one.1, few, small) in
+        let is : one.item ≡ row.class = omega (arith, ranks, here, small_one.1, small) in
+        let low : one.item ≤ last = passed.of_store k d there here in
+        omega (arith, low, is, above)
+
     new_row : HasRowOf (rows ++ more ∷ []) row.class store
     new_row = record { row = more; among = Contains-push rows more; of_item = refl; of_store = refl }
 
     pub first_passed : ArePassed stores store places (rows ++ more ∷ []) (count + 1) row.class
     first_passed = record {
-      gathered = record {
-        small = All-push IsSmall rows more passed.gathered.small (few, small);
-        right = All-push (IsHeld stores) rows more passed.gathered.right held;
-        complete = λ x other place below is. Contains-append_left rows (more ∷ []) (holding_of x other place) (passed.gathered.complete x other place below is);
-      };
+      small = All-push IsSmall rows more passed.small (few, small);
+      right = All-push (IsHeld stores) rows more passed.right held;
+      once = all_pairs_push (λ a b. holding_rank a ≢ holding_rank b) rows more passed.once apart;
+      within = (let on : store < store + 1 = omega arith in All-push (λ (r : Holding). r.store < store + 1) rows more passed.within on);
+      of_store = All-push (λ (r : Holding). r.store ≡ store → r.item ≤ row.class) rows more
+          (λ k d there same. (let low : (slice_index_or rows k d).item ≤ last = passed.of_store k d there same in omega (arith, low, above)))
+          (λ same. (let most : row.class ≤ row.class = omega arith in most));
+      complete = λ x other place below is. Contains-append_left rows (more ∷ []) (holding_of x other place) (passed.complete x other place below is);
       low = λ k d below there. elim (cases_lt k count) [
         | inl early ↦ (let low : (slice_index_or places k d).class ≤ last = passed.low k d early there in omega (arith, low, above))
         | inr late ↦ omega (arith, class_at k d (omega arith))
@@ -166,14 +195,16 @@ row_known stores rows x store place right is has =
 pub all_passed : (stores : List (List Element)) (store last : ℕ) (places : List Row) (rows : List Holding) → IsIndexOf (map element_number (content_at stores store)) places
     → ArePassed stores store places rows (length places) last → AreGathered stores rows (store + 1)
 all_passed stores store last places rows index passed = record {
-  small = passed.gathered.small;
-  right = passed.gathered.right;
+  small = passed.small;
+  right = passed.right;
+  once = passed.once;
+  within = passed.within;
   complete = λ x other place below is. elim (cases_lt other store) [
-    | inl early ↦ passed.gathered.complete x other place early is
+    | inl early ↦ passed.complete x other place early is
     | inr late ↦
         let this : other ≡ store = omega arith in
         let here : place_of x (content_at stores store) ≡ Some place = subst (λ (s : ℕ). place_of x (content_at stores s) ≡ Some place) this is in
-        subst (λ (s : ℕ). Contains rows (holding_of x s place)) (sym this) (row_known stores rows x store place passed.gathered.right here (put_for x place here))
+        subst (λ (s : ℕ). Contains rows (holding_of x s place)) (sym this) (row_known stores rows x store place passed.right here (put_for x place here))
   ];
 }
   where

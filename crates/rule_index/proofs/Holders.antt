@@ -1,18 +1,19 @@
--- Rows of all stores that are sorted are the holdings, and searches find what they say of an item.
-use Rattle.std.proofs.Common.{◌≡◌, ◌+◌, ◌-◌, ◌<◌, ◌≤◌, ◌&&◌, eqb, ℕ, Bool, true, false, List, [], Option, Some, None, length, drop, take, slice_get, slice_index_or, inl, inr, refl, sym, ◌∙◌, ap, subst, arith}
-use Rattle.std.specs.List.{All, Any, Contains}
+-- Rows of all stores that are sorted are the holdings, and a search finds what they say of an item and a store.
+use Rattle.std.proofs.Common.{◌≡◌, ◌<◌, ◌≤◌, ◌&&◌, eqb, ℕ, Bool, true, false, List, [], Option, Some, None, length, slice_get, slice_index_or, inl, inr, refl, sym, ◌∙◌, ap, subst, arith}
+use Rattle.std.specs.List.{All, Contains}
 use Rattle.std.specs.List.Sorted.{IsPermutation, IsNonDecreasingBy}
-use Rattle.std.proofs.lemmas.Bool.{cases_lt, cases_Bool, eqb-true, eq-eqb, cond-true, cond-false}
-use Rattle.std.proofs.lemmas.List.{get_or_default, get_or-take, get_or-drop, length-take, length-drop}
+use Rattle.std.proofs.lemmas.Bool.{cases_lt, cases_Bool, eqb-true, eqb-false, eq-eqb, ne_eqb, cond-true, cond-false}
+use Rattle.std.proofs.lemmas.List.{get_or_default}
 use Rattle.std.proofs.Math.ListN.{get_or-eq_default}
 use Rattle.std.proofs.lemmas.List.Sorted.{All-permutation, Contains-permutation}
+use Rattle.std.proofs.lemmas.Map.Keys.{IsDistinct-IsPermutation, IsDistinct-from_apart, apart_from_distinct}
 use Rattle.std.proofs.lemmas.Option.{slice_get_cases, slice_get_within, get_or_from_slice_get}
 use Rattle.kmn_base.specs.declared.items.Item.{Item}
 use Rattle.kmn_base.specs.declared.items.Element.{Element}
 use Rattle.rule_model.specs.Match.{place_of}
 use Rattle.rule_index.specs.declared.holding.Holding.{Holding}
 use Rattle.rule_index.specs.Elements.{item_number}
-use Rattle.rule_index.specs.Holdings.{holding_start, holding_rank, content_at, holding_of, IsHeld, IsSmall, AreGathered, AreHoldings, AreHoldersOf, EndsAt, place_if}
+use Rattle.rule_index.specs.Holdings.{holding_start, holding_rank, content_at, holding_of, IsHeld, IsSmall, StandOnce, AreGathered, AreHoldings, EndsAt, place_if}
 
 -- there is a store that has an item
 store_within : (stores : List (List Element)) (x : Item) (store place : ℕ) → place_of x (content_at stores store) ≡ Some place → store < length stores
@@ -24,11 +25,33 @@ store_within stores x store place is = elim (cases_lt store (length stores)) [
       cc
 ]
 
+-- rows that stand once do so in any order
+abbrev same_rank : Holding → Holding → Bool
+same_rank a b = eqb (holding_rank a) (holding_rank b)
+
+either_way : (m n : ℕ) → eqb m n ≡ eqb n m
+either_way m n = elim (cases_Bool (eqb m n)) [
+  | inl same ↦ same ∙ sym (eq-eqb n m (sym (eqb-true m n same)))
+  | inr other ↦ other ∙ sym (ne_eqb n m (λ same. eqb-false m n other (sym same)))
+]
+
+once_moved : (before rows : List Holding) → IsPermutation before rows → StandOnce before → StandOnce rows
+once_moved before rows moved once i j d less below =
+    eqb-false (holding_rank (slice_index_or rows i d)) (holding_rank (slice_index_or rows j d))
+    (apart_from_distinct same_rank rows i j d (IsDistinct-IsPermutation same_rank flips before rows moved (IsDistinct-from_apart same_rank before apart)) less below)
+  where
+    flips : (a b : Holding) → same_rank a b ≡ same_rank b a
+    flips a b = either_way (holding_rank a) (holding_rank b)
+
+    apart : (n k : ℕ) (e : Holding) → n < k → k < length before → same_rank (slice_index_or before n e) (slice_index_or before k e) ≡ false
+    apart n k e early within = ne_eqb (holding_rank (slice_index_or before n e)) (holding_rank (slice_index_or before k e)) (once n k e early within)
+
 -- the rows of all stores, sorted
 pub holdings_from : (stores : List (List Element)) (before rows : List Holding) → AreGathered stores before (length stores) → IsPermutation before rows
     → IsNonDecreasingBy holding_rank rows → AreHoldings stores rows
 holdings_from stores before rows gathered moved sorted = record {
   sorted = sorted;
+  once = once_moved before rows moved gathered.once;
   small = All-permutation IsSmall before rows moved gathered.small;
   right = All-permutation (IsHeld stores) before rows moved gathered.right;
   complete = λ x store place is. Contains-permutation before rows (holding_of x store place) moved (gathered.complete x store place (store_within stores x store place is) is);
@@ -136,56 +159,3 @@ none_past stores rows x store are past = go (place_of x (content_at stores store
         let has : Contains rows (holding_of x store place) = are.complete x store place is in
         let small : IsSmall (holding_of x store place) = subst IsSmall has.2 (are.small has.0 (holding_of x store place) has.1) in
         absurd (omega (arith, small.0))
-
--- the rows between the start of an item and that of the next are those of the item
-module _ (stores : List (List Element)) (rows : List Holding) (x : Item) (from to : ℕ) (are : AreHoldings stores rows)
-    (starts : EndsAt (holding_start (item_number x) 0) rows from) (ends : EndsAt (holding_start (item_number x + 1) 0) rows to) where
-  row_of_run : (k : ℕ) (d : Holding) → k < to - from → slice_index_or (take (to - from) (drop from rows)) k d ≡ slice_index_or rows (from + k) d
-  row_of_run k d below = get_or-take (to - from) (drop from rows) k d below ∙ get_or-drop from rows k d
-
-  run_length : length (take (to - from) (drop from rows)) ≡ to - from
-  run_length = omega (arith, length-take (to - from) (drop from rows), length-drop from rows, ends.within)
-
-  each : All (λ row. place_of x (content_at stores row.store) ≡ Some row.place) (take (to - from) (drop from rows))
-  each k d below =
-      let within : k < to - from = omega (arith, run_length) in
-      let row : Holding = slice_index_or rows (from + k) d in
-      let there : from + k < length rows = omega (arith, ends.within) in
-      let high : holding_start (item_number x) 0 ≤ holding_rank row = starts.behind (from + k) d (omega arith) there in
-      let low : holding_rank row < holding_start (item_number x + 1) 0 = ends.before (from + k) d (omega arith) in
-      let small : IsSmall row = are.small (from + k) d there in
-      let same : item_number x ≡ row.item = omega (arith, high, low, small.0, small.1) in
-      subst (λ (r : Holding). place_of x (content_at stores r.store) ≡ Some r.place) (sym (row_of_run k d within)) (are.right (from + k) d there x same)
-
-  all : (store place : ℕ) → place_of x (content_at stores store) ≡ Some place → Any (λ row. row.store ≡ store) (take (to - from) (drop from rows))
-  all store place is =
-      let one : Holding = holding_of x store place in
-      let has : Contains rows one = are.complete x store place is in
-      let small : IsSmall one = subst IsSmall has.2 (are.small has.0 one has.1) in
-      let up : from ≤ has.0 = not_before store place has in
-      let below : has.0 < to = not_behind store place has small in
-      let at : from + (has.0 - from) ≡ has.0 = omega arith in
-      (has.0 - from, one, omega (arith, run_length), row_of_run (has.0 - from) one (omega arith) ∙ ap (λ (k : ℕ). slice_index_or rows k one) at ∙ has.2, refl)
-    where
-      not_before : (store place : ℕ) → (has : Contains rows (holding_of x store place)) → from ≤ has.0
-      not_before store place has = elim (cases_lt has.0 from) [
-        | inr late ↦ late
-        | inl early ↦
-            let less : holding_rank (slice_index_or rows has.0 (holding_of x store place)) < holding_start (item_number x) 0 = starts.before has.0 (holding_of x store place) early in
-            let low : holding_rank (holding_of x store place) < holding_start (item_number x) 0
-            = subst (λ (r : Holding). holding_rank r < holding_start (item_number x) 0) has.2 less in
-            absurd (omega (arith, low))
-      ]
-
-      not_behind : (store place : ℕ) → (has : Contains rows (holding_of x store place)) → IsSmall (holding_of x store place) → has.0 < to
-      not_behind store place has small = elim (cases_lt has.0 to) [
-        | inl early ↦ early
-        | inr late ↦
-            let more : holding_start (item_number x + 1) 0 ≤ holding_rank (slice_index_or rows has.0 (holding_of x store place)) = ends.behind has.0 (holding_of x store place) late has.1 in
-            let high : holding_start (item_number x + 1) 0 ≤ holding_rank (holding_of x store place)
-            = subst (λ (r : Holding). holding_start (item_number x + 1) 0 ≤ holding_rank r) has.2 more in
-            absurd (omega (arith, high, small.0, small.1))
-      ]
-
-  pub holders_found : AreHoldersOf x (content_at stores) (take (to - from) (drop from rows))
-  holders_found = record { each = each; all = all }

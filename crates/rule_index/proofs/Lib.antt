@@ -3,6 +3,7 @@ pub mod FewNames
 pub mod Finding
 pub mod Gathering
 pub mod GroupIndexes
+pub mod HolderRows
 pub mod Holders
 pub mod Meeting
 pub mod Next

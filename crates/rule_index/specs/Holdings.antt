@@ -1,6 +1,6 @@
 -- Which stores have an item, and where it first stands in each.
-use Rattle.std.specs.Prelude.{◌≡◌, ℕ, ◌+◌, ◌*◌, ◌<◌, ◌≤◌, ◌&&◌, nat_eq, if◌then◌else◌, List, [], length, slice_index_or, Option, Some, None}
-use Rattle.std.specs.List.{All, Any, Contains}
+use Rattle.std.specs.Prelude.{◌≡◌, ◌≢◌, ℕ, ◌+◌, ◌*◌, ◌<◌, ◌≤◌, ◌&&◌, nat_eq, if◌then◌else◌, List, [], length, slice_index_or, Option, Some, None}
+use Rattle.std.specs.List.{All, AllPairs, Any, Contains}
 use Rattle.std.specs.List.Sorted.{IsNonDecreasingBy}
 use Rattle.kmn_base.specs.declared.items.Item.{Item}
 use Rattle.kmn_base.specs.declared.items.Element.{Element}
@@ -32,15 +32,22 @@ IsHeld stores row = (x : Item) → item_number x ≡ row.item → place_of x (co
 abbrev pub IsSmall : Holding → Type 0
 IsSmall row = (row.store < 65536) × (row.place < 65536)
 
--- the rows of the first stores, up to a count of them, in any order
+-- no two rows have the same rank
+abbrev pub StandOnce : List Holding → Type 0
+StandOnce rows = AllPairs (λ a b. holding_rank a ≢ holding_rank b) rows
+
+-- the rows of the first stores, up to a count of them, in any order, each once
 pub record AreGathered (stores : List (List Element)) (rows : List Holding) (count : ℕ) : Type 0 where
   pub small : All IsSmall rows
   pub right : All (IsHeld stores) rows
+  pub once : StandOnce rows
+  pub within : All (λ row. row.store < count) rows
   pub complete : (x : Item) (store place : ℕ) → store < count → place_of x (content_at stores store) ≡ Some place → Contains rows (holding_of x store place)
 
--- the rows of all stores, sorted
+-- the rows of all stores, sorted, each once
 pub record AreHoldings (stores : List (List Element)) (rows : List Holding) : Type 0 where
   pub sorted : IsNonDecreasingBy holding_rank rows
+  pub once : StandOnce rows
   pub small : All IsSmall rows
   pub right : All (IsHeld stores) rows
   pub complete : (x : Item) (store place : ℕ) → place_of x (content_at stores store) ≡ Some place → Contains rows (holding_of x store place)
@@ -56,7 +63,9 @@ abbrev pub place_if : ℕ → ℕ → Option Holding → Option ℕ
 place_if item store None = None
 place_if item store (Some row) = if nat_eq row.item item && nat_eq row.store store then Some row.place else None
 
--- each row tells where the item first stands in a store, and every store that has the item has a row
+-- each row is of an item and tells where it first stands in a store, every store that has the item has a row, and the stores rise
 pub record AreHoldersOf (x : Item) (contents : ℕ → List Element) (rows : List Holding) : Type 0 where
+  pub items : All (λ row. row.item ≡ item_number x) rows
   pub each : All (λ row. place_of x (contents row.store) ≡ Some row.place) rows
   pub all : (store place : ℕ) → place_of x (contents store) ≡ Some place → Any (λ row. row.store ≡ store) rows
+  pub rise : AllPairs (λ a b. a.store < b.store) rows

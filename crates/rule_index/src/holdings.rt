@@ -154,7 +154,7 @@ impl Holdings {
         place_if(rows, place, item, store)
     }
 
-    /// The stores that have an item, each with its first place there.
+    /// The stores that have an item, in their order, each with its first place there.
     pub fn holders(&self, item: Item) -> &[Holding]
         requires { IsNonDecreasingBy holding_rank self.now }
         ensures { (stores : List (List Element)) → AreHoldings stores self.now → AreHoldersOf item (content_at stores) result.now }

@@ -1,5 +1,4 @@
 ghost use Rattle.std.specs.Prelude.{◌≡◌, ◌≤◌, ◌+◌, ◌-◌, Some, All, IfOk, IfSome, length, map, option_copied, option_map, slice_get};
-ghost use Rattle.std.specs.Option.{option_flatten};
 ghost use Rattle.kmn_base.specs.declared.limits.TheConstants.{RECORDS, STORES};
 ghost use Rattle.virtual_keys.specs.Dictionary.{name_in};
 ghost use Rattle.rule_model.specs.Content.{elements_at, option_number};
@@ -18,7 +17,7 @@ use crate::options::option_numbers;
 use crate::own_names::own_keys;
 use crate::rule_index::RuleIndex;
 use crate::values::{number_for, store_numbers};
-use indexed_tables::{has_words, system_elements};
+use indexed_tables::{has_words, number_at, system_elements};
 use kmn_base::{Element, Item, Memory, Seq};
 use kmx_parts::{FileGroup, FileStore, FileTables};
 use std::alloc::Global;
@@ -109,13 +108,6 @@ fn indexes_of(alloc: Global, file: &FileTables<'_>) -> Result<Vec<RuleIndex>, Me
         indexes.push(index)?;
     }
     Ok(indexes)
-}
-
-/// The option number in a list of numbers by store.
-fn number_at(numbers: &[Option<usize>], store: u32) -> Option<usize>
-    ensures { result ≡ option_flatten (slice_get numbers.now store) }
-{
-    numbers.get(store as usize).copied().flatten()
 }
 
 impl<'a> IndexedKeyboard<'a> {
@@ -251,7 +243,7 @@ impl<'a> IndexedKeyboard<'a> {
         }
     }
 
-    /// The stores that have an item, each with its first place there, by a search.
+    /// The stores that have an item, in their order, each with its first place there, by a search.
     pub fn holders(&self, item: Item) -> &[Holding]
         ensures { AreHoldersOf item (λ store. elements_at (tab self.now).stores (Some store)) result.now }
     {

@@ -1,12 +1,12 @@
 //! The option number of each store of a file, and of the system options behind them.
 
-ghost use Rattle.std.specs.Prelude.{◌≡◌, ◌++◌, ◌∷◌, [], true, false, IfOk, length, replicate, flat_map};
+ghost use Rattle.std.specs.Prelude.{◌≡◌, ◌++◌, false, IfOk, length, replicate, flat_map};
 ghost use Rattle.rule_model.specs.Tab.{pattern_options, output_options, rule_options, group_options, tab_options, with_options};
 ghost use Rattle.rule_model.specs.System.{system_options};
 ghost use Rattle.rule_model.specs.Plain.{option_numbers};
 ghost use Rattle.indexed_tables.specs.OptionFlags.{with_flags};
 
-use indexed_tables::{flag_numbers, mark};
+use indexed_tables::{mark, numbers_by_flags};
 use kmn_base::Memory;
 use kmx_parts::{FileGroup, FileRule, FileTables, Outputs, Patterns};
 use rule_model::{Out, Pat};
@@ -77,21 +77,10 @@ fn option_flags(alloc: Global, file: &FileTables<'_>) -> Result<Vec<bool>, Memor
     Ok(flags)
 }
 
-/// The flags of the stores and, set, those of the system options behind them.
-#[tactic(auto, using(std::proofs::lemmas::Grind::common_steps))]
-fn all_flags(alloc: Global, file: &FileTables<'_>) -> Result<Vec<bool>, Memory>
-    ensures { IfOk result (λ flags. flags.items ≡ with_flags (replicate (length file.now.stores) false) (tab_options file.now) ++ true ∷ true ∷ []) }
-{
-    let mut flags = option_flags(alloc, file)?;
-    flags.push(true)?;
-    flags.push(true)?;
-    Ok(flags)
-}
-
 /// The option number of each store, and of the system options behind them.
 pub fn option_numbers(alloc: Global, file: &FileTables<'_>) -> Result<Vec<Option<usize>>, Memory>
     ensures { IfOk result (λ numbers. numbers.items ≡ option_numbers 0 (with_options (tab_options file.now) 0 file.now.stores ++ system_options)) }
 {
-    let flags = all_flags(alloc, file)?;
-    flag_numbers(alloc, flags.as_slice())
+    let flags = option_flags(alloc, file)?;
+    numbers_by_flags(alloc, flags)
 }

@@ -73,7 +73,7 @@ from_number content left press stores using_keys rules number rule within is =
     ap (first (holds content left press)) (drop_more all number meant inside ∙ ap (λ (r : RuleMeaning). r ∷ drop (number + 1) all) same)
 
 -- the record of a number below their count
-there : (rules : List Rule) (number : ℕ) → number < length rules → (rule : Rule) × (slice_get rules number ≡ Some rule) × (rule ≡ get_or rules number rule)
+pub there : (rules : List Rule) (number : ℕ) → number < length rules → (rule : Rule) × (slice_get rules number ≡ Some rule) × (rule ≡ get_or rules number rule)
 there [] number within = absurd (omega arith)
 there (rule ∷ rules) zero within = (rule, refl, refl)
 there (rule ∷ rules) (suc number) within = there rules number (omega arith)

@@ -2,6 +2,7 @@ pub mod AllowedContexts
 pub mod Candidates
 pub mod Catches
 pub mod Contexts
+pub mod FirstHeld
 pub mod HeldRecords
 pub mod Holders
 pub mod KnownPlaces

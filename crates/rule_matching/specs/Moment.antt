@@ -1,10 +1,11 @@
 -- A keyboard at a moment, and which of its records hold then.
-use Rattle.std.specs.Prelude.{◌≤◌, ℕ, Bool, List, length, map, All, Option, Some, None, option_map, option_and_then, slice_get}
+use Rattle.std.specs.Prelude.{◌≤◌, ℕ, Bool, List, length, map, All, Option, Some, None, is_some, option_map, option_and_then, slice_get}
 use Rattle.std.specs.Option.{option_flatten}
 use Rattle.kmn_base.specs.declared.limits.TheConstants.{CONTEXT_ITEMS}
 use Rattle.kmn_base.specs.declared.items.Item.{Item}
 use Rattle.kmn_base.specs.declared.items.Element.{Element}
 use Rattle.kmn_base.specs.declared.keys.KeyPress.{KeyPress}
+use Rattle.rule_model.specs.declared.tables.Group.{Group}
 use Rattle.rule_model.specs.declared.tables.Rule.{Rule}
 use Rattle.rule_model.specs.declared.tables.Tables.{Tables}
 use Rattle.rule_model.specs.Content.{content, option_number}
@@ -13,7 +14,7 @@ use Rattle.rule_model.specs.Match.{Content}
 use Rattle.rule_model.specs.Hold.{holds}
 use Rattle.rule_model.specs.Choose.{Chosen}
 use Rattle.rule_model.specs.System.{has_words}
-use Rattle.rule_model.specs.Tab.{tab}
+use Rattle.rule_model.specs.Tab.{tab, tab_rule}
 
 -- tables, and the current value of each option at this moment
 pub record MomentValue : Type 0 where
@@ -36,6 +37,10 @@ saved_of stores saved store = option_and_then (λ option. option_flatten (slice_
 abbrev pub held_record : Content → List Item → KeyPress → Option RuleMeaning → Option Chosen
 held_record content left press None = None
 held_record content left press (Some rule) = option_map (λ caught. (rule, caught)) (holds content left press rule)
+
+-- whether a record of a group holds on a list at a moment
+abbrev pub is_held : MomentValue → Group → List Item → KeyPress → Rule → Bool
+is_held moment group left press rule = is_some (holds (content_at moment) left press (tab_rule moment.tables.stores group.using_keys rule))
 
 -- no context has more items than are caught
 abbrev pub AreShort : List Rule → Type 0

@@ -1,9 +1,8 @@
-ghost use Rattle.std.specs.Prelude.{◌≡◌, Some};
-ghost use Rattle.rule_model.specs.Match.{same_item, same_element, catch_at, item_caught, place_caught, is_element, is_same};
+ghost use Rattle.std.specs.Prelude.{◌≡◌};
+ghost use Rattle.rule_model.specs.Match.{same_element, catch_at, item_caught, place_caught};
 
 use crate::caught::MatchedItem;
 use kmn_base::{Element, Item};
-use rule_model::is_item;
 
 /// Whether two elements are the same.
 #[tactic(auto, using(rule_model::proofs::SameElements::equal_elements))]
@@ -32,18 +31,4 @@ pub fn place_caught(seen: &[MatchedItem], offset: u32) -> Option<usize>
     ensures { result ≡ place_caught seen.now offset }
 {
     found_at(seen, offset)?.place
-}
-
-/// Whether an item is the same as an element that there may be.
-pub fn is_element(item: Item, wanted: Option<Element>) -> bool
-    ensures { result ≡ is_element item wanted }
-{
-    wanted.is_some_and(|element| is_item(item, element))
-}
-
-/// Whether an item is the same as an item that there may be.
-pub fn is_same(item: Item, wanted: Option<Item>) -> bool
-    ensures { result ≡ is_same item wanted }
-{
-    wanted == Some(item)
 }

@@ -1,4 +1,4 @@
-ghost use Rattle.std.specs.Prelude.{◌≡◌, ◌≤◌, ◌<◌, ◌-◌, [], IfSome, Some, None, drop, false, length, map, nat_eq, option_and_then, option_map, slice_get, true, if◌then◌else◌};
+ghost use Rattle.std.specs.Prelude.{◌≡◌, ◌≤◌, ◌<◌, ◌-◌, [], IfSome, Some, None, drop, false, find, length, map, nat_eq, option_and_then, option_map, slice_get, true, if◌then◌else◌};
 ghost use Rattle.std.specs.List.{Contains};
 ghost use Rattle.kmn_base.specs.declared.limits.TheConstants.{CONTEXT_ITEMS};
 ghost use Rattle.rule_model.specs.Match.{takes_item};
@@ -9,12 +9,11 @@ ghost use Rattle.kmx_parts.specs.ContextItems.{pattern_of};
 ghost use Rattle.rule_index.specs.Groups.{IsRuleIndexOf};
 ghost use Rattle.rule_matching.specs.Choices.{all_caught, caught_in, content_of, meaning_in, record_in, RemembersFor};
 ghost use Rattle.rule_matching.specs.Matching.{allowed_catches, catch_of, compares_store, is_allowed, item_before, item_meaning, looks_at_store, RemembersRight};
-ghost use Rattle.rule_matching.specs.Moment.{content_at, held_record, AreShort};
+ghost use Rattle.rule_matching.specs.Moment.{content_at, held_record, is_held, AreShort};
 ghost use Rattle.rule_matching.specs.PlaceMemory.{rooms};
 
 use crate::caught::MatchedItems;
 use crate::choice::Choice;
-use crate::elements::{is_element, is_same};
 use crate::entered_group::EnteredGroup;
 use crate::moment::Moment;
 use crate::place_memory::PlaceMemory;
@@ -25,7 +24,7 @@ use kmn_base::limits::CONTEXT_ITEMS;
 use kmn_base::{Element, Item, RuleKey};
 use kmx_parts::{ContextItem, FileRule};
 use rule_index::wanted_classes;
-use rule_model::is_item;
+use rule_model::{is_element, is_item, is_same};
 use virtual_keys::Pressed;
 
 /// An item that is taken of no store, where it stands to its pattern as that asks.
@@ -202,6 +201,7 @@ fn held_record<'g>(
     requires right { RemembersFor choice.now places.old }
     ensures held { option_map (λ rule. (record_in choice.now entered.now.group.now rule, all_caught choice.now taken.new.items)) result
         ≡ held_record (content_of choice.now) choice.now.left.now choice.now.pressed (option_map (record_in choice.now entered.now.group.now) (slice_get entered.now.group.now.rules number)) }
+    ensures there { IfSome result (λ rule. slice_get entered.now.group.now.rules number ≡ Some rule) }
     ensures among { IfSome result (λ rule. Contains entered.now.group.now.rules rule) }
     ensures right { RemembersFor choice.now places.new }
     ensures rooms { rooms places.new ≡ rooms places.old }
@@ -243,6 +243,7 @@ pub fn first_held<'g>(
     requires index { IsRuleIndexOf entered.now.group.now entered.now.records.now }
     ensures held { option_map (λ rule. (tab_rule moment.now.tables.stores entered.now.group.now.using_keys rule, caught.new)) result ≡ first
         (holds (content_at moment.now) left.now entered.now.press) (map (tab_rule moment.now.tables.stores entered.now.group.now.using_keys) entered.now.group.now.rules) }
+    ensures first { result ≡ find (is_held moment.now entered.now.group.now left.now entered.now.press) entered.now.group.now.rules }
     ensures none { result ≡ None → caught.new ≡ caught.old }
     ensures among { IfSome result (λ rule. Contains entered.now.group.now.rules rule) }
     ensures right { RemembersRight moment.now left.now places.new }

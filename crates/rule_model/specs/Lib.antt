@@ -12,6 +12,7 @@ pub mod Lines
 pub mod Match
 pub mod Naming
 pub mod OwnLines
+pub mod Patterns
 pub mod Plain
 pub mod Src
 pub mod StepLaws

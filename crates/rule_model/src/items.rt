@@ -1,5 +1,5 @@
-ghost use Rattle.std.specs.Prelude.{◌≡◌};
-ghost use Rattle.rule_model.specs.Match.{is_item, item_of};
+ghost use Rattle.std.specs.Prelude.{◌≡◌, Some};
+ghost use Rattle.rule_model.specs.Match.{is_item, is_element, is_same, item_of, place_of, same_item};
 
 use kmn_base::{Element, Item};
 
@@ -22,4 +22,25 @@ pub fn is_item(item: Item, element: Element) -> bool
         Item::Char(c) => element == Element::Char(c),
         Item::Mark(mark) => element == Element::Mark(mark),
     }
+}
+
+/// The first place of an item in a store's content.
+pub fn place_of(item: Item, elements: &[Element]) -> Option<usize>
+    ensures { result ≡ place_of item elements.now }
+{
+    elements.iter().position(|element| is_item(item, *element))
+}
+
+/// Whether an item is the same as an element that there may be.
+pub fn is_element(item: Item, wanted: Option<Element>) -> bool
+    ensures { result ≡ is_element item wanted }
+{
+    wanted.is_some_and(|element| is_item(item, element))
+}
+
+/// Whether an item is the same as an item that there may be.
+pub fn is_same(item: Item, wanted: Option<Item>) -> bool
+    ensures { result ≡ is_same item wanted }
+{
+    wanted == Some(item)
 }

@@ -1,3 +1,6 @@
+ghost use Rattle.std.specs.Prelude.{◌≡◌};
+ghost use Rattle.rule_model.specs.Patterns.{is_condition, is_matched, is_nul};
+
 use kmn_base::{Element, RuleKey, Seq, Text};
 
 /// An item of a compiled context. Stores count from 0, offsets from 1.
@@ -17,6 +20,32 @@ pub enum Pat {
     SystemEqual(u32, u32),
     SystemUnequal(u32, u32),
     Nul,
+}
+
+impl Pat {
+    /// Whether it is a condition on a store or a system option.
+    pub fn is_condition(self) -> bool
+        ensures { result ≡ is_condition self }
+    {
+        matches!(
+            self,
+            Pat::Equal(..) | Pat::Unequal(..) | Pat::SystemEqual(..) | Pat::SystemUnequal(..)
+        )
+    }
+
+    /// Whether it is `nul`, the start of the text.
+    pub fn is_nul(self) -> bool
+        ensures { result ≡ is_nul self }
+    {
+        matches!(self, Pat::Nul)
+    }
+
+    /// Whether it is matched with an item of the text, as conditions and `nul` aren't.
+    pub fn is_matched(self) -> bool
+        ensures { result ≡ is_matched self }
+    {
+        !self.is_condition() && !self.is_nul()
+    }
 }
 
 /// An item of a compiled output. Stores and groups count from 0, offsets from 1.

@@ -1,6 +1,15 @@
 ghost use Rattle.std.specs.Prelude.{◌≡◌, ◌+◌, ◌-◌, ◌<◌, ◌^◌};
-ghost use Rattle.rule_model.specs.Event.{moved_caret};
+ghost use Rattle.rule_model.specs.Event.{has_name, moved_caret};
 ghost use Rattle.rule_model.specs.KeyEvent.{common_prefix};
+
+use kmn_base::names::same_name;
+
+/// Whether an option with the second name is found by the first: one without a name is found by none.
+pub fn has_name(name: &[u8], other: &[u8]) -> bool
+    ensures { result ≡ has_name name.now other.now }
+{
+    !other.is_empty() && same_name(other, name)
+}
 
 /// How many characters two texts begin with alike.
 #[tactic(auto, using(crate::proofs::PlainLists::common_prefix_ended, crate::proofs::PlainLists::common_prefix_other_ended))]

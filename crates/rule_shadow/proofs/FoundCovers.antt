@@ -19,7 +19,8 @@ use Rattle.rule_model.specs.declared.tables.Group.{Group}
 use Rattle.rule_model.specs.declared.tables.Tables.{Tables}
 use Rattle.rule_model.specs.Match.{item_of}
 use Rattle.rule_model.specs.Tab.{elements_of, store_elements}
-use Rattle.kmx_format.specs.Writable.{IsWritable, IsWritableStore, is_matched}
+use Rattle.kmx_format.specs.Writable.{IsWritable, IsWritableStore}
+use Rattle.rule_model.specs.Patterns.{is_matched}
 use Rattle.rule_shadow.specs.declared.cert.Cert.{Cert, By, Split', Row_of-Cert, end_of-Cert, more_of-Cert}
 use Rattle.rule_shadow.specs.declared.finding.Found.{Found}
 use Rattle.rule_shadow.specs.declared.finding.Found.TheVariants as finding

@@ -19,7 +19,8 @@ use Rattle.rule_model.specs.Content.{content}
 use Rattle.rule_model.specs.Match.{same_item}
 use Rattle.rule_model.specs.Hold.{holds}
 use Rattle.rule_model.specs.Tab.{tab, tab_rule}
-use Rattle.kmx_format.specs.Writable.{IsWritableRule, IsWritableGroup, is_matched}
+use Rattle.kmx_format.specs.Writable.{IsWritableRule, IsWritableGroup}
+use Rattle.rule_model.specs.Patterns.{is_matched}
 use Rattle.rule_shadow.specs.declared.finding.Found.{Found}
 use Rattle.rule_shadow.specs.declared.finding.Found.TheVariants as finding
 use Rattle.rule_shadow.specs.Places.{Narrowing, patterns_of, places_from}

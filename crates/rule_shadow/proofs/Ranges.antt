@@ -20,7 +20,7 @@ use Rattle.rule_model.specs.Tab.{tab, tab_options, tab_pattern, with_options, el
 use Rattle.rule_model.specs.System.{system_options}
 use Rattle.rule_model.proofs.PlainOptions.{content_of_other}
 use Rattle.virtual_keys.proofs.NamePlaces.{some_place}
-use Rattle.kmx_format.specs.Writable.{is_matched}
+use Rattle.rule_model.specs.Patterns.{is_matched}
 use Rattle.rule_shadow.specs.declared.cert.Range.{Range}
 use Rattle.rule_shadow.specs.declared.cert.Range.TheVariants as range
 use Rattle.rule_shadow.specs.declared.cert.Place.{Place}

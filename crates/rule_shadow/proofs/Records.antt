@@ -26,7 +26,7 @@ use Rattle.rule_model.specs.Match.{Content, same_element, same_value, same_item,
 use Rattle.rule_model.specs.Hold.{is_true, is_at_start, pattern_count, has_room, caught_by, holds}
 use Rattle.rule_model.specs.System.{system_ref, is_equal}
 use Rattle.rule_model.specs.Tab.{tab, tab_pattern, tab_rule, elements_of}
-use Rattle.kmx_format.specs.Writable.{is_matched}
+use Rattle.rule_model.specs.Patterns.{is_matched}
 use Rattle.rule_model.proofs.CaughtParts.{caught_parts}
 use Rattle.rule_shadow.specs.declared.cert.Range.{Range}
 use Rattle.rule_shadow.specs.declared.cert.Range.TheVariants as range

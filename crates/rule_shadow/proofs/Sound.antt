@@ -28,7 +28,7 @@ use Rattle.virtual_keys.proofs.NamePlaces.{some_place}
 use Rattle.kmx_format.specs.Writable.{IsWritable, IsWritableRule, IsWritableGroup, IsWritableKey}
 use Rattle.rule_shadow.specs.declared.cert.Cert.{Cert, By, Split', Row_of-Cert, end_of-Cert, more_of-Cert}
 use Rattle.rule_shadow.specs.declared.cert.Place.{Place}
-use Rattle.kmx_format.specs.Writable.{is_matched}
+use Rattle.rule_model.specs.Patterns.{is_matched}
 use Rattle.rule_shadow.specs.declared.cert.Range.{Range}
 use Rattle.rule_shadow.specs.declared.cert.Range.TheVariants as range
 use Rattle.rule_shadow.specs.Places.{Narrowing, is_fixed, items_of, patterns_of, first_given, range_of, places_from}

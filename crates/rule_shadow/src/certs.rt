@@ -7,7 +7,7 @@ ghost use Rattle.rule_shadow.specs.Covers.{items_at, narrowed, nothing_narrowed,
 
 use crate::cert::Cert;
 use crate::covering::covers_rule;
-use crate::place_list::{is_matched, places};
+use crate::place_list::places;
 use crate::subject::Subject;
 use kmn_base::limits::CONTEXT_ITEMS;
 use kmn_base::{Element, Item};
@@ -20,7 +20,7 @@ fn pattern_at(context: &[Pat], place: u32) -> Option<Pat>
     let [pattern, rest @ ..] = context else {
         return None;
     };
-    if !is_matched(*pattern) {
+    if !pattern.is_matched() {
         return pattern_at(rest, place);
     }
     if place == 0 {

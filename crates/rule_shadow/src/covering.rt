@@ -7,7 +7,6 @@ ghost use Rattle.rule_shadow.specs.Covers.{covers_item, covers_range, same_store
 use crate::cert::{Place, Range};
 use crate::flagged::FlaggedTables;
 use crate::key_cover::covers_key;
-use crate::place_list::is_matched;
 use kmn_base::{Element, Item};
 use rule_model::{Pat, Rule, is_item, item_of};
 
@@ -74,7 +73,7 @@ fn cover_each(tables: &FlaggedTables, context: &[Pat], places: &[Place]) -> bool
     let [pattern, rest @ ..] = context else {
         return true;
     };
-    if !is_matched(*pattern) {
+    if !pattern.is_matched() {
         return cover_each(tables, rest, places);
     }
     let [place, behind @ ..] = places else {
@@ -89,7 +88,7 @@ pub fn pattern_count(context: &[Pat]) -> usize
 {
     context
         .iter()
-        .filter(|pattern| is_matched(**pattern))
+        .filter(|pattern| pattern.is_matched())
         .count()
 }
 

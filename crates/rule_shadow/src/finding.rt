@@ -15,7 +15,7 @@ use crate::certs::{narrowed, nothing_narrowed, split_store};
 use crate::covering::{conditions_too, cover_last, keeps_nul};
 use crate::key_cover::{fits_each, fitting_presses};
 use crate::near::{Near, is_at_most, near_rules};
-use crate::place_list::{is_matched, places};
+use crate::place_list::places;
 use crate::subject::Subject;
 use kmn_base::limits::CONTEXT_ITEMS;
 use kmn_base::{Element, Item, Memory, Seq};
@@ -197,7 +197,7 @@ fn first_split(alloc: Global, search: &Search, place: u32, context: &[Pat]) -> R
     let [pattern, rest @ ..] = context else {
         return Ok(Found::NotFound);
     };
-    if !is_matched(*pattern) {
+    if !pattern.is_matched() {
         return first_split(alloc, search, place, rest);
     }
     match split_rules(alloc, search, place)? {

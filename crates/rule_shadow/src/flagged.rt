@@ -1,12 +1,13 @@
 //! Tables with a flag for each store that is an option, and where memory may be taken with the items of each store in a set.
 
-ghost use Rattle.std.specs.Prelude.{◌≡◌, false, option_copied, slice_get, unwrap_or, is_some, IfSome};
+ghost use Rattle.std.specs.Prelude.{◌≡◌, option_copied, slice_get, is_some, IfSome};
 ghost use Rattle.rule_model.specs.Match.{place_of};
 ghost use Rattle.rule_model.specs.Tab.{elements_of};
 ghost use Rattle.store_sets.specs.Numbers.{AreSetsOf};
 ghost use Rattle.rule_shadow.specs.Flags.{TellOptions};
 ghost use Rattle.rule_shadow.specs.Places.{is_fixed};
 
+use indexed_tables::flag_at;
 use kmn_base::{Element, Item};
 use rule_model::{Group, Tables};
 use std::marker::Model;
@@ -106,11 +107,4 @@ impl<'a> FlaggedTables<'a> {
     {
         self.tables.groups.as_slice().get(group as usize)
     }
-}
-
-/// A flag by its place; none is set past the end.
-fn flag_at(flags: &[bool], place: usize) -> bool
-    ensures { result ≡ unwrap_or (slice_get flags.now place) false }
-{
-    flags.get(place).copied().unwrap_or(false)
 }

@@ -9,7 +9,6 @@ use crate::cert::Place;
 use crate::covering::{covers_place, pattern_count};
 use crate::flagged::FlaggedTables;
 use crate::key_cover::fits_each;
-use crate::place_list::is_matched;
 use crate::subject::Subject;
 use kmn_base::Memory;
 use rule_model::{Pat, Rule};
@@ -62,7 +61,7 @@ fn missed_from(
     let [pattern, rest @ ..] = context else {
         return miss_of(missed);
     };
-    if !is_matched(*pattern) {
+    if !pattern.is_matched() {
         return missed_from(tables, missed, from, rest, places);
     }
     let [place, behind @ ..] = places else {

@@ -1,6 +1,6 @@
 ghost use Rattle.std.specs.Prelude.{◌≡◌, ◌+◌, ◌≤◌, ◌++◌, [], length};
 ghost use Rattle.kmn_base.specs.declared.limits.TheConstants.{CONTEXT_ITEMS};
-ghost use Rattle.kmx_format.specs.Writable.{is_matched};
+ghost use Rattle.rule_model.specs.Patterns.{is_matched};
 ghost use Rattle.rule_shadow.specs.Places.{first_given, store_range, range_at, stated_range, range_of, places_from};
 
 use crate::cert::{Place, Range};
@@ -55,16 +55,6 @@ fn range_of(tables: &FlaggedTables, seen: &[Range], given: Option<Item>, pattern
     }
 }
 
-/// Whether an item of a context is a pattern.
-pub fn is_matched(pattern: Pat) -> bool
-    ensures { result ≡ is_matched pattern }
-{
-    !matches!(
-        &pattern,
-        Pat::Equal(..) | Pat::Unequal(..) | Pat::SystemEqual(..) | Pat::SystemUnequal(..) | Pat::Nul
-    )
-}
-
 /// The item to which the first place is narrowed, if any.
 fn first_given(narrowing: &[Option<Item>]) -> Option<Item>
     ensures { result ≡ first_given narrowing.now }
@@ -90,7 +80,7 @@ fn add_places(
     let [pattern, rest @ ..] = context else {
         return;
     };
-    if !is_matched(*pattern) {
+    if !pattern.is_matched() {
         seen.push(Range::Unknown);
         add_places(tables, narrowing, rest, seen, places);
         return;

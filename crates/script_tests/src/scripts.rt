@@ -7,7 +7,7 @@ use play_script::{
     value_line,
 };
 use rule_model::Entry;
-use source_tests::fixtures::is_refusal;
+use source_tests::fixtures::{is_refusal, parted};
 use std::alloc::{AllocError, Global};
 use std::test::Fail;
 use virtual_keys::KeyDictionary;
@@ -194,7 +194,7 @@ fn gives(alloc: Global, script: &[u8], names: &KeyDictionary, wanted: &str) -> R
 
 /// Whether a row says what its script gives.
 fn is_right(alloc: Global, names: &KeyDictionary, row: &str) -> Result<bool, Fail> {
-    let (text, wanted) = row.split_once(" ⇒ ").ok_or("a row without an answer")?;
+    let (text, wanted) = parted(row)?;
     gives(alloc, script_of(alloc, text)?.as_slice(), names, wanted)
 }
 

@@ -3,6 +3,7 @@
 use crate::sources::tables;
 use kmn_base::Memory;
 use rule_shadow::{Cert, Finder, covers};
+use source_tests::fixtures::parted;
 use std::alloc::Global;
 use std::test::Fail;
 
@@ -12,27 +13,27 @@ const EIGHT: &str = "\
 store(v) 'ab'¶H¶'a' 'a' 'a' + '1'¶'a' 'a' 'b' + '1'¶'a' 'b' 'a' + '1'¶'a' 'b' 'b' + '1'¶'b' 'a' 'a' + '1'¶\
 'b' 'a' 'b' + '1'¶'b' 'b' 'a' + '1'¶'b' 'b' 'b' + '1'¶any(v) any(v) any(v) + '1'";
 
-/// On each line the number of a record, whether its certificate is right, and the certificate as it is built: a number is a
-/// part `By`, and `p:n` makes the last n parts a split at place p.
+/// On each line the number of a record and a certificate for it as it is built and, behind ` ⇒ `, whether that is right: in a
+/// certificate a number is a part `By`, and `p:n` makes the last n parts a split at place p.
 const CASES: &str = "\
-8 yes 0 1 2:2 2 3 2:2 1:2 4 5 2:2 6 7 2:2 1:2 0:2
-8 yes 0 4 0:2 2 6 0:2 1:2 1 5 0:2 3 7 0:2 1:2 2:2
-8 no 0
-8 no 8
-8 no 9
-8 no 4294967295
-8 no 0 1 2:2
-8 no 1 0 2:2 2 3 2:2 1:2 4 5 2:2 6 7 2:2 1:2 0:2
-8 no 0 1 2:2 2 3 2:2 1:2 4 5 2:2 6 2:1 1:2 0:2
-8 no 0 1 2:2 2 3 2:2 1:2 4 5 2:2 6 7 7 2:3 1:2 0:2
-8 no 0 1 2:2 2 3 2:2 1:2 0:1
-8 no 0 1 0:2 2 3 0:2 1:2 4 5 0:2 6 7 0:2 1:2 0:2
-8 no 0 1 3:2 2 3 3:2 1:2 4 5 3:2 6 7 3:2 1:2 0:2
-8 no 0:0
-8 no 0 1 4294967295:2
-7 no 0 1 2:2 2 3 2:2 1:2 4 5 2:2 6 7 2:2 1:2 0:2
-0 no 8
-9 no 0 1 2:2 2 3 2:2 1:2 4 5 2:2 6 7 2:2 1:2 0:2";
+8 0 1 2:2 2 3 2:2 1:2 4 5 2:2 6 7 2:2 1:2 0:2 ⇒ yes
+8 0 4 0:2 2 6 0:2 1:2 1 5 0:2 3 7 0:2 1:2 2:2 ⇒ yes
+8 0 ⇒ no
+8 8 ⇒ no
+8 9 ⇒ no
+8 4294967295 ⇒ no
+8 0 1 2:2 ⇒ no
+8 1 0 2:2 2 3 2:2 1:2 4 5 2:2 6 7 2:2 1:2 0:2 ⇒ no
+8 0 1 2:2 2 3 2:2 1:2 4 5 2:2 6 2:1 1:2 0:2 ⇒ no
+8 0 1 2:2 2 3 2:2 1:2 4 5 2:2 6 7 7 2:3 1:2 0:2 ⇒ no
+8 0 1 2:2 2 3 2:2 1:2 0:1 ⇒ no
+8 0 1 0:2 2 3 0:2 1:2 4 5 0:2 6 7 0:2 1:2 0:2 ⇒ no
+8 0 1 3:2 2 3 3:2 1:2 4 5 3:2 6 7 3:2 1:2 0:2 ⇒ no
+8 0:0 ⇒ no
+8 0 1 4294967295:2 ⇒ no
+7 0 1 2:2 2 3 2:2 1:2 4 5 2:2 6 7 2:2 1:2 0:2 ⇒ no
+0 8 ⇒ no
+9 0 1 2:2 2 3 2:2 1:2 4 5 2:2 6 7 2:2 1:2 0:2 ⇒ no";
 
 /// A certificate `By`, or a split with so many of the last parts.
 fn built(parts: &mut Vec<Cert>, word: &str) -> Result<Cert, Memory> {
@@ -61,10 +62,9 @@ fn certificate(alloc: Global, words: &str) -> Result<Option<Cert>, Memory> {
     Ok(parts.pop())
 }
 
-/// Whether a certificate is right or wrong as a line says, with and without a finder.
-fn is_so(alloc: Global, finder: &Finder, case: &str) -> Result<bool, Memory> {
-    let (rule, rest) = case.split_once(" ").unwrap_or((case, ""));
-    let (wanted, words) = rest.split_once(" ").unwrap_or((rest, ""));
+/// Whether a record's certificate is right or wrong as a line says.
+fn is_so(alloc: Global, finder: &Finder, record: &str, wanted: &str) -> Result<bool, Memory> {
+    let (rule, words) = record.split_once(" ").unwrap_or((record, ""));
     let rule = rule.parse().unwrap_or(0);
     match certificate(alloc, words)? {
         Some(cert) => Ok(finder.covers(0, rule, &cert) == (wanted == "yes")),
@@ -77,7 +77,8 @@ fn wrong_case(alloc: Global) -> Result<Option<&'static str>, Fail> {
     let tables = tables(alloc, EIGHT)?;
     let finder = Finder::new(alloc, &tables)?;
     for case in CASES.lines() {
-        if !is_so(alloc, &finder, case)? {
+        let (record, wanted) = parted(case)?;
+        if !is_so(alloc, &finder, record, wanted)? {
             return Ok(Some(case));
         }
     }

@@ -6,7 +6,7 @@ ghost use Rattle.kmx_format.specs.Writable.{IsWritable};
 ghost use Rattle.shadow_text.specs.DeadLines.{rule_lines, is_dead, lines_before, dead_line, end_line, dead_text};
 
 use crate::verdicts::{Verdict, rising, verdicts};
-use kmn_base::{Memory, Seq, Text};
+use kmn_base::{Memory, Text};
 use rule_model::{Tables, put_numbers};
 use std::alloc::{AllocError, Global};
 
@@ -25,7 +25,7 @@ pub fn dead_text(alloc: Global, tables: &Tables) -> Result<Text, Memory>
     let mut text = String::new(alloc);
     put_dead(alloc, &mut text, all.as_slice(), dead.as_slice())?;
     put_end(&mut text, lines.len(), dead.len())?;
-    Ok(Seq::from_vec(text.into_bytes()))
+    Ok(Text::from_string(text))
 }
 
 /// The lines that records have, each once, rising.

@@ -1,15 +1,30 @@
-//! What several tests take: the bytes of names, the texts that tables write by signs, and the refusals that they name.
+//! What several tests take: the bytes of names, what parts a row of a table from its answer, the texts that tables write by
+//! signs, and the refusals that they name.
 
-ghost use Rattle.std.specs.Prelude.{◌≡◌, IfOk};
+ghost use Rattle.std.specs.Prelude.{◌≡◌, None, IfOk, MatchResult};
+ghost use Rattle.std.specs.Str.Pattern.{FindsText, SplitsAroundMatch};
+ghost use Rattle.source_tests.specs.declared.fixtures.TheConstants.{ANSWER_SIGN};
 
 use kmn_base::{Memory, Refusal, Seq, Text};
 use std::alloc::{AllocError, Global};
+
+/// What stands between a row's text and its answer.
+const ANSWER_SIGN: &str = " ⇒ ";
 
 /// The name that a text spells.
 pub fn name_of(alloc: Global, text: &str) -> Result<Text, Memory>
     ensures { IfOk result (λ name. name ≡ text.now) }
 {
     Seq::from_slice(alloc, text.as_bytes())
+}
+
+/// The text of a table's row and its answer, which stands behind the first ` ⇒ `.
+pub fn parted(row: &str) -> Result<(&str, &str), &'static str>
+    ensures { MatchResult result
+        (λ parts. SplitsAroundMatch (FindsText ANSWER_SIGN.now) row.now parts.0.now parts.1.now)
+        (λ _. FindsText ANSWER_SIGN.now row.now None) }
+{
+    row.split_once(ANSWER_SIGN).ok_or("a row without an answer")
 }
 
 /// The character that one of a table stands for: `¶` is a line feed, `␍` a carriage return, `␉` a tab, `␀` U+0000, `␡` U+FFFF,

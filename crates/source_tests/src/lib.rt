@@ -2,8 +2,9 @@
 //! `lines` of `kmn_lines`, `tokens` of `kmn_tokens`, `items` of `kmn_items`, and `names` of `kmn_names`.
 //!
 //! They stand here because a crate with tests is proved twice, once with them and once without: so each of those crates is
-//! proved once, and the tests are proved over them. `fixtures` has what several of them take; `statement_tests` takes of it
-//! what reads the signs of its rows, and `compile_tests` and `script_tests` what reads the refusals of theirs.
+//! proved once, and the tests are proved over them. `fixtures` has what several of them take: the tests of all crates take of
+//! it what parts a row of text from its answer, `statement_tests` what reads the signs of its rows, and `compile_tests` and
+//! `script_tests` what reads the refusals of theirs.
 #![tactic(auto)]
 
 pub mod fixtures;

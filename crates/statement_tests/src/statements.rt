@@ -5,7 +5,7 @@ use crate::rows::{ITEMS, LIMITS, LINES, LimitRow, SAMPLE, SAMPLE_RULES, STATEMEN
 use crate::telling::{write_error, write_groups, write_program};
 use kmn_base::{Code, CompileError, Refusal};
 use kmn_parser::parse;
-use source_tests::fixtures::source_of;
+use source_tests::fixtures::{parted, source_of};
 use std::alloc::{AllocError, Global};
 use std::fmt::Write;
 use std::test::Fail;
@@ -34,7 +34,7 @@ fn opened_source(alloc: Global, row: &str) -> Result<(String, u32), Fail> {
 
 /// Whether the parser answers as a row of a table says.
 fn is_answered(alloc: Global, row: &str) -> Result<bool, Fail> {
-    let (text, wanted) = row.split_once(" ⇒ ").ok_or("a row without an answer")?;
+    let (text, wanted) = parted(row)?;
     let (source, opened) = opened_source(alloc, text)?;
     let given = answer(alloc, opened, source.as_bytes())?;
     Ok(given.as_str().strip_prefix("; ").unwrap_or("nothing") == wanted)

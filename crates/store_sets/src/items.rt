@@ -2,14 +2,7 @@ ghost use Rattle.std.specs.Prelude.{◌≡◌, is_some};
 ghost use Rattle.rule_model.specs.Match.{place_of};
 
 use kmn_base::{Element, Item};
-use rule_model::is_item;
-
-/// The first place of an item among elements.
-fn place_of(item: Item, elements: &[Element]) -> Option<usize>
-    ensures { result ≡ place_of item elements.now }
-{
-    elements.iter().position(|element| is_item(item, *element))
-}
+use rule_model::place_of;
 
 /// Whether some element is the same as an item, looked for element by element.
 pub fn is_among(item: Item, elements: &[Element]) -> bool

@@ -5,13 +5,13 @@ use Rattle.std.proofs.lemmas.Bool.Decides.{eqb_tells}
 use Rattle.std.proofs.lemmas.Option.{slice_get_within}
 use Rattle.kmn_base.specs.declared.events.Event.{Event}
 use Rattle.kmn_base.specs.declared.codes.Code.{Code}
+use Rattle.kmn_base.specs.declared.limits.TheConstants.{FIELDS}
 use Rattle.rule_model.specs.Act.{one_more}
 use Rattle.rule_model.specs.Event.{State, Happening, happening, event_refusal, unless_refused}
 use Rattle.rule_model.specs.Keyboard.{Keyboard}
 use Rattle.rule_model.specs.Tab.{tab}
 use Rattle.rule_model.specs.Trace.{Steps, steps_from, before_steps, step_then, trace}
 use Rattle.play_session.specs.Session.{SessionState, first_session, after_step, happened}
-use Rattle.text_host.specs.declared.host.TheConstants.{HOST_FIELDS}
 use Rattle.text_host.specs.Host.{HostState, field_of, with_field, with_new_field}
 use Rattle.text_host.specs.Alone.{HostCall, Opens, Turns, answer_to, gone_on, kept_unless, with_answer, alone_from, answered_from, session_after, turned, after_calls, StepsAreThoseAlone, FieldsAreApart, FieldsBegin}
 
@@ -118,7 +118,7 @@ apart host (suc k) (suc place) event (Some session) differ =
 pub fields_are_apart : FieldsAreApart
 fields_are_apart host field session [] is = is
 fields_are_apart host field session (Opens ∷ calls) is =
-    let full : Bool = nat_le HOST_FIELDS (length host.sessions) in
+    let full : Bool = nat_le FIELDS (length host.sessions) in
     fields_are_apart (cond full host (with_new_field host)) field session calls (opened_or_full host field session is full)
 fields_are_apart host field session (Turns other event ∷ calls) is = elim (eqb_tells other field) [
   | inl same ↦

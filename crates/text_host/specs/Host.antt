@@ -4,6 +4,7 @@ use Rattle.std.specs.List.{All}
 use Rattle.kmn_base.specs.declared.codes.Code.{Code}
 use Rattle.kmn_base.specs.declared.codes.Code.TheVariants.{E1, E2}
 use Rattle.kmn_base.specs.declared.events.Event.{Event}
+use Rattle.kmn_base.specs.declared.limits.TheConstants.{FIELDS}
 use Rattle.rule_model.specs.declared.tables.Tables.{Tables}
 use Rattle.rule_model.specs.Event.{event_refusal}
 use Rattle.play_session.specs.declared.session.StepError.{StepError}
@@ -11,7 +12,6 @@ use Rattle.play_session.specs.declared.session.StepError.TheVariants as step_err
 use Rattle.play_session.specs.Session.{SessionState, first_session}
 use Rattle.text_host.specs.declared.host.HostError.{HostError}
 use Rattle.text_host.specs.declared.host.HostError.TheVariants as error
-use Rattle.text_host.specs.declared.host.TheConstants.{HOST_FIELDS}
 
 -- a host: the tables of its file, and the sessions of its fields in order
 pub record HostState : Type 0 where
@@ -62,7 +62,7 @@ of_step step_error.Memory = error.Memory
 
 -- a new field is refused exactly where there are 64
 abbrev pub add_refusal : HostState → Option HostRefusal
-add_refusal host = if nat_le HOST_FIELDS (length host.sessions) then Some Full else None
+add_refusal host = if nat_le FIELDS (length host.sessions) then Some Full else None
 
 -- an event is refused where there is no such field, else where its session refuses it
 abbrev pub step_refusal : Option SessionState → Event → Option HostRefusal

@@ -1,13 +1,14 @@
 ghost use Rattle.std.specs.Prelude.{◌≡◌, ◌≢◌, ◌+◌, ◌<◌, ◌≤◌, false, length, IfOk, IfErr, IsSomeAnd, MatchOption, None, Some, Ok};
 ghost use Rattle.kmn_base.specs.declared.events.Event.TheVariants as event;
+ghost use Rattle.kmn_base.specs.declared.limits.TheConstants.{FIELDS};
 ghost use Rattle.kmx_format.specs.TablesOf.{tables_of};
 ghost use Rattle.rule_model.specs.Event.{event_of};
 ghost use Rattle.rule_model.specs.Tab.{tab};
 ghost use Rattle.play_session.specs.Answers.{step_of, takes_memory};
 ghost use Rattle.play_session.specs.Session.{first_session, happened, after_step};
 ghost use Rattle.text_host.specs.Host.{first_host, field_of, with_field, with_new_field, add_refusal, step_refusal, refusal_of};
-ghost use Rattle.text_host.specs.declared.host.TheConstants.{HOST_FIELDS};
 
+use kmn_base::limits::FIELDS;
 use kmn_base::{Event, KeyPress, Memory};
 use kmx_verifier::Verified;
 use play_session::{Preview, Session, Step, StepError};
@@ -15,16 +16,13 @@ use std::alloc::Global;
 use std::marker::Model;
 use thiserror::Error;
 
-/// How many fields a host has at most. The number is our own choice.
-pub const HOST_FIELDS: usize = 64;
-
 /// Why a call on a host was not done. The host is then as it was.
 #[derive(Debug, Drop, Error)]
 pub enum HostError {
     /// There is no field of this number.
     #[error("no such field")]
     NoField,
-    /// There are `HOST_FIELDS` fields already.
+    /// There are `FIELDS` fields already.
     #[error("no room for another field")]
     Full,
     /// A place is past the field's text.
@@ -68,21 +66,21 @@ impl From<StepError> for HostError {
 #[derive(Drop)]
 pub struct Host<'a> {
     file: &'a Verified<'a>,
-    /// All over that file, and at most `HOST_FIELDS`.
+    /// All over that file, and at most `FIELDS`.
     fields: Vec<Session<'a>>,
 }
 
 impl<'a> Model for Host<'a> {
     ghost use Rattle.std.specs.Prelude.{◌≡◌, ◌≤◌, length};
+    ghost use Rattle.kmn_base.specs.declared.limits.TheConstants.{FIELDS};
     ghost use Rattle.kmx_format.specs.TablesOf.{tables_of};
-    ghost use Rattle.text_host.specs.declared.host.TheConstants.{HOST_FIELDS};
     ghost use Rattle.text_host.specs.Host.{HostState, AreOver};
 
     ghost Value = { HostState };
 
     ghost view = { λ host. record { tables = tables_of host.file.now; sessions = host.fields.items } };
 
-    ghost invariant = { λ host. AreOver (tables_of host.file.now) host.fields.items × (length host.fields.items ≤ HOST_FIELDS) };
+    ghost invariant = { λ host. AreOver (tables_of host.file.now) host.fields.items × (length host.fields.items ≤ FIELDS) };
 }
 
 impl<'a> Host<'a> {
@@ -97,16 +95,16 @@ impl<'a> Host<'a> {
     }
 
     /// Adds a field before its first event, and answers its number: one more than there were fields. `Full` comes exactly where
-    /// there are `HOST_FIELDS`. The file is walked for the first field alone.
+    /// there are `FIELDS`. The file is walked for the first field alone.
     #[tactic(auto, using(crate::proofs::Fields::one_more))]
     pub fn add(&mut self, alloc: Global) -> Result<u32, HostError>
         ensures number { IfOk result (λ number. number ≡ length self.new.sessions) }
         ensures leaves { IfOk result (λ _. self.new ≡ with_new_field self.old) }
-        ensures room { IfOk result (λ _. length self.old.sessions < HOST_FIELDS) }
+        ensures room { IfOk result (λ _. length self.old.sessions < FIELDS) }
         ensures refused { IfErr result (λ error. refusal_of error ≡ add_refusal self.old) }
         ensures unchanged { IfErr result (λ _. self.new ≡ self.old) }
     {
-        if self.fields.len() >= HOST_FIELDS {
+        if self.fields.len() >= FIELDS {
             return Err(HostError::Full);
         }
         let session = self.new_session(alloc)?;
@@ -129,7 +127,7 @@ impl<'a> Host<'a> {
     /// The sessions of all fields, by number.
     pub fn fields(&self) -> &[Session<'a>]
         ensures value { result.now ≡ self.now.sessions }
-        ensures few { length result.now ≤ HOST_FIELDS }
+        ensures few { length result.now ≤ FIELDS }
     {
         self.fields.as_slice()
     }

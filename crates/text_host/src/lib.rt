@@ -11,5 +11,5 @@
 mod host;
 pub mod laws;
 
-pub use host::{HOST_FIELDS, Host, HostError};
+pub use host::{Host, HostError};
 pub use play_session::Preview;

@@ -1,12 +1,13 @@
 -- The rules of a touch layout, and the first of them that bytes break.
-use Rattle.std.specs.Prelude.{ℕ, ◌&&◌, not, nat_eq, nat_lt, Bool, if◌then◌else◌, List, [], ◌∷◌, ◌++◌, length, drop, bytes_eq, Option, Some, None, option_map, ◌==◌, Result, Ok, Err}
+use Rattle.std.specs.Prelude.{ℕ, ◌&&◌, not, nat_eq, nat_lt, Bool, if◌then◌else◌, List, [], ◌∷◌, ◌++◌, length, bytes_eq, Option, Some, None, option_map, Result, Ok, Err}
 use Rattle.std.specs.Option.{option_or}
 use Rattle.std.specs.Str.{is_utf8}
-use Rattle.std.specs.List.{list_any, starts_with}
+use Rattle.std.specs.List.{list_any}
 use Rattle.kmn_base.specs.declared.codes.Code.{Code}
 use Rattle.kmn_base.specs.declared.codes.Code.TheVariants.{T1, T2, T3, T4, T5, T6, T7}
 use Rattle.kmn_base.specs.declared.limits.TheConstants.{TEXT_BYTES}
 use Rattle.kmn_base.specs.Names.{same_name}
+use Rattle.kmn_base.specs.Texts.{without_mark}
 use Rattle.serde_json.specs.Data.{Data}
 use Rattle.serde_json.specs.Read.{read}
 use Rattle.rule_model.specs.declared.tables.Tables.{Tables}
@@ -64,10 +65,6 @@ layer_fault before layer = if list_any (is_same_layer layer) before then Some (f
 abbrev pub layers_fault : List Layer → List Layer → Option LayoutFault
 layers_fault before [] = None
 layers_fault before (layer ∷ layers) = option_or (layer_fault before layer) (layers_fault (before ++ layer ∷ []) layers)
-
--- a text without a first U+FEFF
-abbrev pub without_mark : List ℕ → List ℕ
-without_mark bytes = if starts_with (λ a b. a == b) bytes (0xEF ∷ 0xBB ∷ 0xBF ∷ []) then drop 3 bytes else bytes
 
 -- the JSON value of bytes
 abbrev pub value_of : List ℕ → Option Data

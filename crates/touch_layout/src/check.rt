@@ -8,7 +8,7 @@ ghost use Rattle.touch_layout.specs.Ids.{has_record};
 ghost use Rattle.touch_layout.specs.Keys.{key_view, keys_view};
 ghost use Rattle.touch_layout.specs.LayerIds.{layer_of};
 ghost use Rattle.touch_layout.specs.Layers.{layers_view, layout_view};
-ghost use Rattle.touch_layout.specs.Layout.{leads_nowhere, does_nothing, has_strange_id, key_code, keys_fault, without_mark, value_of, read_layout, rules_fault, count_of, layout_fault, key_count};
+ghost use Rattle.touch_layout.specs.Layout.{leads_nowhere, does_nothing, has_strange_id, key_code, keys_fault, value_of, read_layout, rules_fault, count_of, layout_fault, key_count};
 ghost use Rattle.touch_layout.specs.declared.faults.LayoutError.TheVariants.{Refused};
 
 use crate::faults::{LayoutError, LayoutFault, whole_layout};
@@ -20,6 +20,7 @@ use crate::ruled::recorded_names;
 use indexed_tables::IndexedTables;
 use indexmap::IndexSet;
 use kmn_base::limits::TEXT_BYTES;
+use kmn_base::texts::without_mark;
 use kmn_base::{Code, Memory};
 use kmn_names::NameTable;
 use rule_model::{Group, Tables};
@@ -117,17 +118,6 @@ fn rules_fault(
     match layers_fault(alloc, found.layers.as_slice())? {
         Some(fault) => Ok(Some(fault)),
         None => found_keys_fault(alloc, keyboard, groups, found),
-    }
-}
-
-/// A text without a first U+FEFF.
-fn without_mark(bytes: &[u8]) -> &[u8]
-    ensures { result.now ≡ without_mark bytes.now }
-{
-    if bytes.starts_with(b"\xEF\xBB\xBF") {
-        &bytes[3..]
-    } else {
-        bytes
     }
 }
 

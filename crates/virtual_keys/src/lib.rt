@@ -17,7 +17,7 @@ mod tables;
 mod unicode_names;
 
 pub use dictionary::{FIRST_OWN_CODE, KeyDictionary};
-pub use names::{key_named, modifier_named, name_of};
+pub use names::{key_named, modifier_named, modifiers, name_of};
 pub use pressed::Pressed;
 pub use presses::{char_of, has, has_either, is_plain};
 pub use unicode_names::named_chars;

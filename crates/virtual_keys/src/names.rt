@@ -1,5 +1,5 @@
 ghost use Rattle.std.specs.Prelude.{◌≡◌, map, option_map};
-ghost use Rattle.virtual_keys.specs.Keys.{name_numbered, key_code, key_name, shift_flag};
+ghost use Rattle.virtual_keys.specs.Keys.{name_numbered, key_code, key_name, shift_flag, shift_flags};
 
 use crate::tables::{KEYS, MODIFIERS};
 use kmn_base::names::named_in;
@@ -14,6 +14,14 @@ fn name_numbered(table: &'static [(&'static str, u16)], number: u16) -> Option<&
         }
     }
     None
+}
+
+/// The words of the shift flags, each with its flag.
+#[tactic(auto, unfolding(crate::specs::Keys::shift_flags))]
+pub fn modifiers() -> &'static [(&'static str, u16)]
+    ensures { map (λ row. (row.0.now, row.1)) result.now ≡ shift_flags }
+{
+    &MODIFIERS
 }
 
 /// The code of the key of a name.

@@ -1,6 +1,6 @@
 use Rattle.std.proofs.Common.{◌≡◌, drop}
 use Rattle.std.specs.List.{list_any}
-use Rattle.core_differences.specs.Constructs.{is_nul}
+use Rattle.rule_model.specs.Patterns.{is_nul}
 use Rattle.core_differences.proofs.constructs.some_nul.Given as goal
 
 abbrev pub invariant-loop-item : goal.invariant-loop-item

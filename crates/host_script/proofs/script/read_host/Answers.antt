@@ -1,12 +1,8 @@
-use Rattle.std.proofs.Common.{rules, arith, Err, sym, subst}
-use Rattle.std.proofs.lemmas.Bool.Decides.{nat_tests}
-use Rattle.play_script.specs.Answers.{Answers}
-use Rattle.host_script.specs.HostEntries.{host_entries}
-use Rattle.host_script.proofs.LineLaws.{script_text, script_other}
+use Rattle.std.proofs.lemmas.Result.{err_from_is_err_and}
+use Rattle.host_script.proofs.LineLaws.{script_refused}
 use Rattle.host_script.proofs.script.read_host.Goals as goal
 
-pub returns-in-Ok : goal.returns-in-Ok
-returns-in-Ok c = search (rules, script_text)
-
-pub returns-in-Err : goal.returns-in-Err
-returns-in-Err c = subst (λ error. Answers (host_entries c.args.names.now c.args.bytes.now) (Err error)) (sym c.refused-in-Err.ensures) (script_other c.args.names.now c.args.bytes.now (grind (arith, nat_tests, c.if-bytes-gt-TEXT_BYTES.false)) c.in-Err.ensures.cases.0)
+pub returns-in_err-script_text : goal.returns-in_err-script_text
+returns-in_err-script_text c =
+    let p = err_from_is_err_and c.from_residual.result c.from_residual.ensures.1 in
+    rw (p.1, p.2) (script_refused c.args.names.now c.args.bytes.now c.in_err-script_text.field-0.0 c.in_err-script_text.ensures.is)

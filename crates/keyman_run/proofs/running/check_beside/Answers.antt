@@ -1,3 +1,4 @@
+use Rattle.keyman_status.proofs.Printed.{tells_made}
 use Rattle.keyman_run.specs.Orders.{keys_work}
 use Rattle.keyman_run.specs.Steps.{itself}
 use Rattle.keyman_run.proofs.LayoutLaws.{count_behind, does_sound}
@@ -6,8 +7,8 @@ use Rattle.keyman_run.proofs.running.check_beside.Goals as goal
 
 pub returns-in-Ok : goal.returns-in-Ok
 returns-in-Ok g c =
-    does_behind itself (keys_work c.args.tables.now c.args.layout.now) count_behind g.F.Folder _ _ _ c.in-Ok.count g.S.Sink _ _ c.tell_sound.result c.in-Ok.ensures
-    (does_sound c.in-Ok.count g.F.Folder _ g.S.Sink _ _ c.tell_sound.result c.tell_sound.ensures)
+    does_behind itself (keys_work c.args.tables.now c.args.layout.now) count_behind g.F.Folder _ _ _ c.in-Ok.count g.S.Sink _ _ c.tell_made.result c.in-Ok.ensures
+    (does_sound c.in-Ok.count g.F.Folder _ g.S.Sink _ _ c.tell_made.result (tells_made _ _ _ _ _ _ _ c.tell_made.ensures c.sound_line.ensures))
 
 pub returns-in-Err : goal.returns-in-Err
 returns-in-Err g c =

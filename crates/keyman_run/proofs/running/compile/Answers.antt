@@ -1,6 +1,7 @@
 use Rattle.std.proofs.Common.{List, ℕ}
 use Rattle.kmn_compiler.specs.declared.compiling.Compiled.{Compiled}
 use Rattle.keyman_status.specs.declared.status.Status.TheVariants as status
+use Rattle.keyman_status.proofs.Printed.{tells_made}
 use Rattle.keyman_run.specs.Endings.{Ending, compile_ending}
 use Rattle.keyman_lines.specs.Lines.{compiled_line}
 use Rattle.keyman_run.specs.Orders.{compiled_work, compile_work}
@@ -20,10 +21,10 @@ pub returns-in-Ok-write : goal.returns-in-Ok-write
 returns-in-Ok-write g c =
     let line : List ℕ = compiled_line c.in-Ok.compiled in
     let bytes : List ℕ = c.in-Ok.compiled.bytes in
-    does_as (and_then (compiled_work c.args.source.now) (rest c.args.file.now)) (compile_work c.args.source.now c.args.file.now) g.F.Folder _ _ g.S.Sink _ _ c.tell_compiled.result (file_behind c.args.source.now (rest c.args.file.now))
-    (does_behind itself (compiled_work c.args.source.now) (rest c.args.file.now) g.F.Folder _ _ _ c.in-Ok.compiled g.S.Sink _ _ c.tell_compiled.result c.in-Ok.ensures.gives
-    (does_written status.Done line c.args.file.now bytes c.as_slice.result.now g.F.Folder _ _ g.S.Sink _ _ c.tell_compiled.result _
-    c.as_slice.ensures c.in-Ok-write.ensures.counts c.in-Ok-write.ensures.told c.in-Ok-write.ensures.writes c.tell_compiled.ensures))
+    does_as (and_then (compiled_work c.args.source.now) (rest c.args.file.now)) (compile_work c.args.source.now c.args.file.now) g.F.Folder _ _ g.S.Sink _ _ c.tell_made.result (file_behind c.args.source.now (rest c.args.file.now))
+    (does_behind itself (compiled_work c.args.source.now) (rest c.args.file.now) g.F.Folder _ _ _ c.in-Ok.compiled g.S.Sink _ _ c.tell_made.result c.in-Ok.ensures.gives
+    (does_written status.Done line c.args.file.now bytes c.as_slice.result.now g.F.Folder _ _ g.S.Sink _ _ c.tell_made.result _
+    c.as_slice.ensures c.in-Ok-write.ensures.counts c.in-Ok-write.ensures.told c.in-Ok-write.ensures.writes (tells_made _ _ _ _ _ _ _ c.tell_made.ensures c.compiled_line.ensures)))
 
 pub returns-in-Ok : goal.returns-in-Ok
 returns-in-Ok g c =

@@ -1,5 +1,6 @@
 use Rattle.std.proofs.Common.{List, ℕ, IsTrue, sym, subst}
 use Rattle.keyman_status.specs.declared.status.Status.TheVariants as status
+use Rattle.keyman_status.proofs.Printed.{tells_made}
 use Rattle.keyman_run.specs.Endings.{Ending, decompile_ending}
 use Rattle.keyman_lines.specs.Lines.{decompiled_line}
 use Rattle.keyman_run.specs.Orders.{text_work}
@@ -19,9 +20,9 @@ rest source text = Give (decompile_ending source text)
 
 pub returns-in-Ok-write-clause-does : goal.returns-in-Ok-write-clause-does
 returns-in-Ok-write-clause-does g c =
-    does_behind itself (text_work c.args.file.now) (rest c.args.source.now) g.F.Folder _ _ _ c.in-Ok.text g.S.Sink _ _ c.tell_decompiled.result c.in-Ok.ensures.gives
-    (does_written status.Done (decompiled_line c.in-Ok.text) c.args.source.now c.in-Ok.text c.as_slice.result.now g.F.Folder _ _ g.S.Sink _ _ c.tell_decompiled.result _
-    c.as_slice.ensures c.in-Ok-write.ensures.counts c.in-Ok-write.ensures.told c.in-Ok-write.ensures.writes c.tell_decompiled.ensures)
+    does_behind itself (text_work c.args.file.now) (rest c.args.source.now) g.F.Folder _ _ _ c.in-Ok.text g.S.Sink _ _ c.tell_made.result c.in-Ok.ensures.gives
+    (does_written status.Done (decompiled_line c.in-Ok.text) c.args.source.now c.in-Ok.text c.as_slice.result.now g.F.Folder _ _ g.S.Sink _ _ c.tell_made.result _
+    c.as_slice.ensures c.in-Ok-write.ensures.counts c.in-Ok-write.ensures.told c.in-Ok-write.ensures.writes (tells_made _ _ _ _ _ _ _ c.tell_made.ensures c.decompiled_line.ensures))
 
 pub returns-in-Ok-write-clause-means : goal.returns-in-Ok-write-clause-means
 returns-in-Ok-write-clause-means g c = λ told written.

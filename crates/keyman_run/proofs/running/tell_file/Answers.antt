@@ -1,6 +1,12 @@
+use Rattle.keyman_status.proofs.Printed.{tells_made}
 use Rattle.keyman_run.specs.Steps.{verify_stop}
-use Rattle.keyman_run.proofs.FileRuns.{as_stop, tells_unread}
+use Rattle.keyman_run.proofs.FileRuns.{as_stop, tells_unread, tells_valid}
 use Rattle.keyman_run.proofs.running.tell_file.Goals as goal
+
+pub returns-in-Ok : goal.returns-in-Ok
+returns-in-Ok g c =
+    tells_valid c.args.bytes.now c.in-Ok.file g.S.Sink _ _ c.tell_made.result c.in-Ok.ensures.0 c.in-Ok.ensures.1
+    (tells_made _ _ _ _ _ _ _ c.tell_made.ensures c.valid_line.ensures)
 
 pub returns-in-Err : goal.returns-in-Err
 returns-in-Err g c =

@@ -1,6 +1,14 @@
+use Rattle.std.proofs.Common.{◌≡◌, Result, Ok, sym, subst, rules}
+use Rattle.rule_model.specs.declared.tables.Tables.{Tables}
+use Rattle.keyman_lines.specs.declared.reason.Reason.{Reason}
+use Rattle.keyman_status.proofs.Printed.{tells_made}
 use Rattle.keyman_run.specs.Inputs.{few_records}
-use Rattle.keyman_run.proofs.ShadowLaws.{tells_unsearched}
+use Rattle.keyman_run.specs.Steps.{TellsDead}
 use Rattle.keyman_run.proofs.shadowing.tell_dead.Goals as goal
 
-pub returns-in-Err : goal.returns-in-Err
-returns-in-Err g c = tells_unsearched (few_records c.args.compiled.now.tables) g.S.Sink c.args.out.now
+pub returns : goal.returns
+returns g c =
+    let tables : Tables = c.args.compiled.now.tables in
+    let few : few_records tables ≡ Ok tables = search rules in
+    subst (λ (read : Result Tables Reason). TellsDead read g.S.Sink c.args.out.now c.tell_made.new.out c.tell_made.result) (sym few)
+    (tells_made _ _ _ _ _ _ _ c.tell_made.ensures c.dead_text.ensures)

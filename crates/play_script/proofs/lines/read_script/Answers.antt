@@ -1,12 +1,8 @@
-use Rattle.std.proofs.Common.{rules, arith, Err, sym, subst}
-use Rattle.std.proofs.lemmas.Bool.Decides.{nat_tests}
-use Rattle.play_script.specs.Answers.{Answers}
-use Rattle.play_script.specs.Entries.{entries}
-use Rattle.play_script.proofs.TextLaws.{script_text, script_other}
+use Rattle.std.proofs.lemmas.Result.{err_from_is_err_and}
+use Rattle.play_script.proofs.TextLaws.{script_refused}
 use Rattle.play_script.proofs.lines.read_script.Goals as goal
 
-pub returns-in-Ok : goal.returns-in-Ok
-returns-in-Ok c = search (rules, script_text)
-
-pub returns-in-Err : goal.returns-in-Err
-returns-in-Err c = subst (λ error. Answers (entries c.args.names.now c.args.bytes.now) (Err error)) (sym c.refused-in-Err.ensures) (script_other c.args.names.now c.args.bytes.now (grind (arith, nat_tests, c.if-bytes-gt-TEXT_BYTES.false)) c.in-Err.ensures.cases.0)
+pub returns-in_err-script_text : goal.returns-in_err-script_text
+returns-in_err-script_text c =
+    let p = err_from_is_err_and c.from_residual.result c.from_residual.ensures.1 in
+    rw (p.1, p.2) (script_refused c.args.names.now c.args.bytes.now c.in_err-script_text.field-0.0 c.in_err-script_text.ensures.is)

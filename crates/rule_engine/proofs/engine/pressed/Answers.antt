@@ -1,4 +1,4 @@
-use Rattle.std.proofs.Common.{◌≡◌, List, sym, ◌∙◌, ap}
+use Rattle.std.proofs.Common.{◌≡◌, ◌≤◌, List, length, sym, ◌∙◌, ap, subst}
 use Rattle.kmn_base.specs.declared.items.Item.{Item}
 use Rattle.kmn_base.specs.Lists.{characters, window, read_again}
 use Rattle.kmn_base.proofs.ReadingAgain.{reading_again_gives_the_text}
@@ -7,7 +7,9 @@ use Rattle.rule_model.specs.declared.tables.Tables.{Tables}
 use Rattle.rule_model.specs.KeyEvent.{after_key, outcome_of, inserted}
 use Rattle.rule_model.specs.ChosenLines.{lines_of_press}
 use Rattle.rule_model.specs.Tab.{tab}
-use Rattle.rule_engine.specs.Event.{EventValue, keyboard_of}
+use Rattle.rule_matching.specs.PlaceMemory.{rooms}
+use Rattle.rule_engine.specs.Event.{CanAct, EventValue, keyboard_of}
+use Rattle.rule_engine.proofs.Windows.{window_is_few}
 use Rattle.rule_engine.proofs.engine.pressed.Goals as goal
 
 pub returns-clause-outcome : goal.returns-clause-outcome
@@ -31,3 +33,20 @@ returns-clause-engine c =
     let inserts = c.finish.ensures.inserted before lent ∙ ap (λ (e : EventValue). inserted before e.state.left) acts in
     let chose = c.finish.ensures.chosen ∙ ap (λ (e : EventValue). e.lines) acts in
     λ i. record { tables = c.args.indexed.now; context = context i; current = current i; saved = saved i; inserted = inserts i; chosen = chose i }
+
+pub returns-clause-work : goal.returns-clause-work
+returns-clause-work c =
+    let acts = c.press.ensures ∙ ap (λ (e : EventValue). record e { state = after_key (keyboard_of e) c.args.key e.state; lines = lines_of_press (keyboard_of e) c.args.key e.state }) c.begin-event.ensures in
+    let tables : c.press.new.event.tables ≡ c.args.indexed.now = ap (λ (e : EventValue). e.tables) acts in
+    let left = c.finish.result.workspace in
+    let can = subst (λ (t : Tables). CanAct t left.options left.truths.items (rooms left.places)) tables c.finish.ensures.can in
+    record {
+      runnable = c.requires.work.runnable;
+      few = subst (λ (items : List Item). length items ≤ 64) (sym c.finish.ensures.cache) (window_is_few c.press.new.event.state.left);
+      stores = can.stores;
+      others = can.others;
+      right = can.right;
+      text = c.finish.ensures.few;
+      room = c.finish.ensures.room;
+      places = can.places;
+    }

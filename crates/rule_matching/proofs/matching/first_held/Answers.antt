@@ -1,4 +1,4 @@
-use Rattle.std.proofs.Common.{◌≡◌, ◌+◌, ◌-◌, ◌<◌, ◌≤◌, Option, Some, None, length, sym, ◌∙◌, ap, arith}
+use Rattle.std.proofs.Common.{◌≡◌, ◌+◌, ◌-◌, ◌<◌, ◌≤◌, Option, Some, None, length, sym, ◌∙◌, ap, subst, arith}
 use Rattle.std.specs.Prelude.{option_map, slice_get}
 use Rattle.kmn_base.specs.declared.keys.KeyPress.{KeyPress}
 use Rattle.rule_index.specs.Classes.{wanted_classes}
@@ -9,8 +9,9 @@ use Rattle.rule_model.specs.Choose.{Chosen}
 use Rattle.rule_model.specs.Match.{Content}
 use Rattle.rule_model.specs.Tab.{tab_rule}
 use Rattle.rule_matching.specs.Matching.{caught_by_all}
-use Rattle.rule_matching.specs.Moment.{content_at, held_record}
+use Rattle.rule_matching.specs.Moment.{content_at, held_record, is_held}
 use Rattle.rule_matching.proofs.Candidates.{classes_of, first_from, walked, candidate_within, candidate_holds, candidate_passed, none_left}
+use Rattle.rule_matching.proofs.FirstHeld.{candidate_found, none_found, passed_all, passed_one, passed_to, ArePassed}
 use Rattle.rule_matching.proofs.matching.first_held.Goals as goal
 use Rattle.rule_matching.proofs.matching.first_held.Goals.{In-Some}
 
@@ -28,6 +29,20 @@ within c =
 -- the walk goes on behind the candidate
 forth : (c : In-Some) → c.next.new.self.from ≡ c.in-Some.number + 1
 forth c = ap (λ (walk : CandidatesValue). walk.from) c.in-Some.ensures.rest
+
+-- no record before the candidate holds
+passed : (c : In-Some) → ArePassed (is_held c.args.moment.now c.args.entered.now.group.now c.args.left.now c.args.entered.now.press) c.args.entered.now.group.now.rules c.in-Some.number
+passed c =
+    passed_to c.args.moment.now c.args.entered.now.group.now c.args.left.now c.args.entered.now.press c.loop-number.candidates.from c.in-Some.number
+    (next c) c.loop-number.invariant.passed
+
+pub returns-in-Some-held_record-clause-first : goal.returns-in-Some-held_record-clause-first
+returns-in-Some-held_record-clause-first c =
+    candidate_found c.args.moment.now c.args.entered.now.group.now c.args.left.now c.args.entered.now.press c.in-Some.number
+    c.in-Some-held_record.rule _ c.in-Some-held_record.ensures.there
+    (sym (c.in-Some-held_record.ensures.held ∙ ap (λ (press : KeyPress). held_record (content_at c.args.moment.now) c.args.left.now press (option_map (tab_rule c.args.moment.now.tables.stores c.args.entered.now.group.now.using_keys)
+    (slice_get c.args.entered.now.group.now.rules c.in-Some.number))) c.of.ensures))
+    (passed (goal.at.returns-in-Some-held_record-clause-first c).In-Some)
 
 pub returns-in-Some-held_record-clause-held : goal.returns-in-Some-held_record-clause-held
 returns-in-Some-held_record-clause-held c =
@@ -60,6 +75,11 @@ loop-number-preserved c =
           c.loop-number.candidates.from c.in-Some.number (next (goal.at.loop-number-preserved c).In-Some) (sym (c.in_default-held_record.ensures.held ∙ ap (λ (press : KeyPress). held_record (content_at c.args.moment.now) c.args.left.now press (option_map (tab_rule c.args.moment.now.tables.stores c.args.entered.now.group.now.using_keys)
           (slice_get c.args.entered.now.group.now.rules c.in-Some.number))) c.of.ensures)))
           ∙ c.loop-number.invariant.same);
+      passed = subst (ArePassed (is_held c.args.moment.now c.args.entered.now.group.now c.args.left.now c.args.entered.now.press) c.args.entered.now.group.now.rules) (sym on)
+          (passed_one c.args.moment.now c.args.entered.now.group.now c.args.left.now c.args.entered.now.press c.in-Some.number here.1
+          (sym (c.in_default-held_record.ensures.held ∙ ap (λ (press : KeyPress). held_record (content_at c.args.moment.now) c.args.left.now press (option_map (tab_rule c.args.moment.now.tables.stores c.args.entered.now.group.now.using_keys)
+          (slice_get c.args.entered.now.group.now.rules c.in-Some.number))) c.of.ensures))
+          (passed (goal.at.loop-number-preserved c).In-Some));
       right = c.in_default-held_record.ensures.right;
       rooms = c.in_default-held_record.ensures.rooms ∙ c.loop-number.invariant.rooms;
       kept = c.loop-number.invariant.kept;
@@ -72,3 +92,10 @@ returns-clause-held c =
     sym (none_left (content_at c.args.moment.now) c.args.left.now c.args.entered.now.press c.args.moment.now.tables.stores c.args.entered.now.group.now.using_keys c.args.entered.now.group.now.rules
     c.loop-number.candidates.from c.loop-number.invariant.within left)
     ∙ c.loop-number.invariant.same
+
+pub returns-clause-first : goal.returns-clause-first
+returns-clause-first c =
+    let left = walked c.loop-number.candidates c.args.entered.now.records.now.rows c.args.entered.now.press c.args.left.now c.args.entered.now.group.now.using_keys c.args.entered.now.group.now.rules None
+    c.loop-number.invariant.rows c.loop-number.invariant.wanted c.requires.index.records c.in_default.ensures.next in
+    none_found (is_held c.args.moment.now c.args.entered.now.group.now c.args.left.now c.args.entered.now.press) c.args.entered.now.group.now.rules
+    (passed_all c.args.moment.now c.args.entered.now.group.now c.args.left.now c.args.entered.now.press c.loop-number.candidates.from left c.loop-number.invariant.passed)

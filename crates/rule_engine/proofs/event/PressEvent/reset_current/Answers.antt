@@ -7,6 +7,7 @@ use Rattle.rule_model.specs.Tab.{tab}
 use Rattle.option_store.specs.Cells.{reset_cell}
 use Rattle.rule_engine.specs.Event.{EventValue}
 use Rattle.rule_engine.proofs.OptionSteps.{event_after_reset}
+use Rattle.rule_matching.specs.PlaceMemory.{rooms}
 use Rattle.rule_matching.proofs.StoreContents.{is_option_within}
 use Rattle.rule_engine.proofs.Stores.{behind_own}
 use Rattle.rule_engine.proofs.Truths.{acts_on}
@@ -33,8 +34,10 @@ returns-then-is_some c =
 
 pub invariant_of-self : goal.invariant_of-self
 invariant_of-self c =
+    let option : is_some (option_number (tab c.self.inside.indexed.now).stores (Numbered c.args.store)) ≡ true
+    = ap is_some (sym c.option_number.ensures) ∙ (sym c.is_some.ensures ∙ c.if-is_some.true) in
     let own = subst (λ (e : EventValue). c.args.store < length e.tables.stores) (sym c.self.view_is) c.requires in (
-      acts_on c.self.inside.indexed.now c.self.inside.options c.reset.new.self c.self.inside.truths.items c.args.store (reset_cell c.args.store) c.self.invariant.0
-          (behind_own c.self.inside.indexed.now c.args.store own) c.reset.ensures,
+      acts_on c.self.inside.indexed.now c.self.inside.options c.reset.new.self c.self.inside.truths.items (rooms c.self.inside.places) c.args.store (reset_cell c.args.store) c.self.invariant.0
+          (behind_own c.self.inside.indexed.now c.args.store own) option c.reset.ensures,
       c.self.invariant.1,
     )

@@ -3,6 +3,7 @@ use Rattle.std.specs.Prelude.{is_some}
 use Rattle.rule_model.specs.Content.{option_number}
 use Rattle.rule_model.specs.Keyboard.{Numbered}
 use Rattle.rule_model.specs.Tab.{tab}
+use Rattle.rule_matching.specs.PlaceMemory.{rooms}
 use Rattle.rule_matching.proofs.StoreContents.{is_option_within}
 use Rattle.rule_engine.proofs.Truths.{acts_on_saved}
 use Rattle.rule_engine.proofs.event.PressEvent.save_current.Goals as goal
@@ -13,6 +14,6 @@ invariant_of-self c =
     = ap is_some (sym c.option_number.ensures) ∙ (sym c.is_some.ensures ∙ c.if-is_some.true) in
     let within = is_option_within c.self.inside.indexed.now c.args.store option in
     let few : c.args.store < length c.self.inside.options = omega (arith, within, c.self.invariant.0.stores) in (
-      acts_on_saved c.self.inside.indexed.now c.self.inside.options c.save.new.self c.self.inside.truths.items c.args.store c.self.invariant.0 few c.save.ensures,
+      acts_on_saved c.self.inside.indexed.now c.self.inside.options c.save.new.self c.self.inside.truths.items (rooms c.self.inside.places) c.args.store c.self.invariant.0 few option c.save.ensures,
       c.self.invariant.1,
     )

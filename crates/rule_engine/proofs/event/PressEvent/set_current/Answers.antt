@@ -7,6 +7,7 @@ use Rattle.rule_model.specs.Tab.{tab}
 use Rattle.option_store.specs.Cells.{set_cell}
 use Rattle.rule_engine.specs.Event.{EventValue, keyboard_of}
 use Rattle.rule_engine.proofs.OptionSteps.{event_after_set}
+use Rattle.rule_matching.specs.PlaceMemory.{rooms}
 use Rattle.rule_matching.proofs.StoreContents.{is_option_within}
 use Rattle.rule_engine.proofs.Truths.{acts_on}
 use Rattle.rule_engine.proofs.event.PressEvent.set_current.Goals as goal
@@ -34,8 +35,10 @@ returns-then-is_some c =
 
 pub invariant_of-self : goal.invariant_of-self
 invariant_of-self c =
+    let option : is_some (option_number (tab c.self.inside.indexed.now).stores (Numbered c.args.store)) ≡ true
+    = ap is_some (sym c.option_number.ensures) ∙ (sym c.is_some.ensures ∙ c.if-is_some.true) in
     let before = subst (λ (e : EventValue). c.args.store + 1 < length (keyboard_of e).stores) (sym c.self.view_is) c.requires.store in (
-      acts_on c.self.inside.indexed.now c.self.inside.options c.set.new.self c.self.inside.truths.items c.args.store (set_cell c.args.value) c.self.invariant.0 before
-          c.set.ensures,
+      acts_on c.self.inside.indexed.now c.self.inside.options c.set.new.self c.self.inside.truths.items (rooms c.self.inside.places) c.args.store (set_cell c.args.value) c.self.invariant.0 before
+          option c.set.ensures,
       c.self.invariant.1,
     )

@@ -2,7 +2,8 @@ use Rattle.std.proofs.Common.{◌≡◌, ◌∙◌, ◌+◌, List, arith, subst,
 use Rattle.rule_index.specs.declared.holding.Holding.{Holding}
 use Rattle.rule_index.specs.Elements.{item_number}
 use Rattle.rule_index.specs.Holdings.{holding_start, content_at, EndsAt, AreHoldings, AreHoldersOf}
-use Rattle.rule_index.proofs.Holders.{ends_in_order, holders_found}
+use Rattle.rule_index.proofs.HolderRows.{holders_found}
+use Rattle.rule_index.proofs.Holders.{ends_in_order}
 use Rattle.rule_index.proofs.holdings.Holdings.holders.Goals as goal
 
 pub between-requires-clause-order : goal.between-requires-clause-order
