@@ -1,5 +1,5 @@
 -- What of a file's tables no source can say. A cause is said of a key, an element, an item, a context or a store.
-use Rattle.std.specs.Prelude.{ℕ, Bool, true, false, not, ◌&&◌, ◌||◌, ◌==◌, nat_eq, nat_lt, bit_and, List, [], ◌∷◌, ◌++◌, length, filter, filter_map, Option, Some, None, position, slice_get}
+use Rattle.std.specs.Prelude.{ℕ, Bool, false, not, ◌&&◌, ◌||◌, ◌==◌, nat_eq, nat_lt, bit_and, List, [], ◌∷◌, ◌++◌, length, filter, filter_map, Option, Some, None, position, slice_get}
 use Rattle.std.specs.List.{list_any, list_all}
 use Rattle.std.specs.Str.{byte, bytes_eq, encode_utf8_all, is_utf8}
 use Rattle.kmn_base.specs.declared.keys.TheConstants.{SHIFT_FLAGS}

@@ -20,12 +20,23 @@ use std::marker::Model;
 use virtual_keys::FIRST_OWN_CODE;
 
 /// Tables with what events look up: the option number of each store, and the names of the key dictionary.
-#[derive(Drop)]
 pub struct IndexedTables<'a> {
     alloc: Global,
     tables: &'a Tables,
     numbers: Vec<Option<usize>>,
     names: Vec<Text>,
+}
+
+/// One call in proofs, where a derived drop is written out in each exit.
+impl Drop for IndexedTables<'_> {
+    fn drop(self) {
+        let IndexedTables {
+            alloc: _,
+            tables: _,
+            numbers: _,
+            names: _,
+        } = self;
+    }
 }
 
 impl<'a> Model for IndexedTables<'a> {

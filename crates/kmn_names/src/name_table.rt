@@ -17,11 +17,21 @@ const HASHED_BYTES: usize = 320;
 
 /// A list of names in which a name is found without ASCII case. Contracts see it as the list of the names as they were
 /// appended, with those that come again.
-#[derive(Drop)]
 pub struct NameTable {
     alloc: Global,
     names: Vec<Vec<u8>>,
     places: IndexMap<Vec<u8>, usize>,
+}
+
+/// One call in proofs, where a derived drop is written out in each exit.
+impl Drop for NameTable {
+    fn drop(self) {
+        let NameTable {
+            alloc: _,
+            names: _,
+            places: _,
+        } = self;
+    }
 }
 
 impl Model for NameTable {

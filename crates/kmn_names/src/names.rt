@@ -14,12 +14,23 @@ use virtual_keys::KeyDictionary;
 
 /// The names of a program, which are found without ASCII case. Contracts see them as lists, each in the order of its
 /// numbers.
-#[derive(Drop)]
 pub struct ProgramNames {
     stores: NameTable,
     groups: NameTable,
     marks: NameTable,
     keys: KeyDictionary,
+}
+
+/// One call in proofs, where a derived drop is written out in each exit.
+impl Drop for ProgramNames {
+    fn drop(self) {
+        let ProgramNames {
+            stores: _,
+            groups: _,
+            marks: _,
+            keys: _,
+        } = self;
+    }
 }
 
 impl Model for ProgramNames {

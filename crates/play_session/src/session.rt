@@ -79,7 +79,6 @@ pub struct Step {
 }
 
 /// A keyboard and the text that is typed with it.
-#[derive(Drop)]
 pub struct Session<'a> {
     engine: Engine<'a>,
     editor: Editor,
@@ -89,6 +88,20 @@ pub struct Session<'a> {
     /// The stores that are options, in order: an event can change no other, so it costs by these alone.
     options: Vec<u32>,
     changes: Vec<Change>,
+}
+
+/// One call in proofs, where a derived drop is written out in each exit.
+impl Drop for Session<'_> {
+    fn drop(self) {
+        let Session {
+            engine: _,
+            editor: _,
+            number: _,
+            typed: _,
+            options: _,
+            changes: _,
+        } = self;
+    }
 }
 
 impl<'a> Model for Session<'a> {

@@ -17,10 +17,19 @@ use std::alloc::Global;
 use std::marker::Model;
 
 /// A program that was read and isn't refused, with its names. Contracts see it as the program.
-#[derive(Drop)]
 pub struct Checked {
     program: Program,
     names: ProgramNames,
+}
+
+/// One call in proofs, where a derived drop is written out in each exit.
+impl Drop for Checked {
+    fn drop(self) {
+        let Checked {
+            program: _,
+            names: _,
+        } = self;
+    }
 }
 
 impl Model for Checked {

@@ -20,7 +20,7 @@ use Rattle.option_store.specs.Meaning.{option_values}
 use Rattle.context_cache.specs.Cached.{CacheValue}
 use Rattle.event_text.specs.Texts.{InsertedValue}
 use Rattle.rule_matching.specs.Moment.{MomentValue, AreShort, truths_at}
-use Rattle.rule_engine.specs.declared.entering.GroupEntry.{GroupEntry}
+use Rattle.rule_engine.specs.declared.entering.Entering.{Entering}
 
 -- an event on tables and on a text that is lent, with its state and the lines of the rules that it chose
 pub record EventValue : Type 0 where
@@ -45,11 +45,11 @@ abbrev pub moment_with : Tables → List Cell → MomentValue
 moment_with tables cells = record { tables = tables; current = option_values (tab tables).stores cells }
 
 -- how an entering enters a group
-abbrev pub enters : EventValue → GroupEntry → Ref → EventState → EventState
+abbrev pub enters : EventValue → Entering → Ref → EventState → EventState
 enters event entering = enter_group entering.depth (keyboard_of event) entering.press
 
 -- which lines an entering adds where it enters a group
-abbrev pub adds : EventValue → GroupEntry → Adding
+abbrev pub adds : EventValue → Entering → Adding
 adds event entering = add_lines entering.depth (keyboard_of event) entering.press
 
 -- an event notes at most one line for each group that it enters, enters no more groups than it may, and has room for their lines

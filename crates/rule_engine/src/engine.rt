@@ -29,10 +29,19 @@ use std::sync::Arc;
 use virtual_keys::KeyDictionary;
 
 /// A keyboard at work: a file with what is looked up in it, which the engines on the file share, and what an event works on.
-#[derive(Drop)]
 pub struct Engine<'a> {
     indexed: Arc<IndexedKeyboard<'a>>,
     workspace: Workspace,
+}
+
+/// One call in proofs, where a derived drop is written out in each exit.
+impl Drop for Engine<'_> {
+    fn drop(self) {
+        let Engine {
+            indexed: _,
+            workspace: _,
+        } = self;
+    }
 }
 
 /// What a press would do: its outcome, and the text that it would insert.

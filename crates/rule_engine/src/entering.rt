@@ -23,14 +23,14 @@ use rule_model::Out;
 
 /// A press that enters groups, with so many entries inside one another that may still come.
 #[derive(Clone, Copy)]
-pub struct GroupEntry {
+pub struct Entering {
     pub press: KeyPress,
     pub depth: u32,
 }
 
 /// What one item of an output does.
 #[cycle(acts)]
-fn act_one(entering: GroupEntry, caught: &MatchedItems, output: Out, event: &mut PressEvent)
+fn act_one(entering: Entering, caught: &MatchedItems, output: Out, event: &mut PressEvent)
     requires { ChangesOwn (length event.old.tables.stores) output }
     ensures { event.new ≡ record event.old {
       state = act_one
@@ -57,7 +57,7 @@ fn act_one(entering: GroupEntry, caught: &MatchedItems, output: Out, event: &mut
 
 /// What the next item of an output does, unless the event is stopped.
 #[cycle(acts)]
-fn act_next(entering: GroupEntry, caught: &MatchedItems, output: Out, event: &mut PressEvent)
+fn act_next(entering: Entering, caught: &MatchedItems, output: Out, event: &mut PressEvent)
     requires { ChangesOwn (length event.old.tables.stores) output }
     ensures { event.new ≡ record event.old {
       state = if event.old.state.stopped then event.old.state else act_one
@@ -73,7 +73,7 @@ fn act_next(entering: GroupEntry, caught: &MatchedItems, output: Out, event: &mu
 
 /// The items of an output act in order; once the event is stopped nothing changes.
 #[cycle(acts)]
-fn act(entering: GroupEntry, caught: &MatchedItems, outputs: Outputs<'_>, event: &mut PressEvent)
+fn act(entering: Entering, caught: &MatchedItems, outputs: Outputs<'_>, event: &mut PressEvent)
     requires { AllChangeOwn (length event.old.tables.stores) outputs }
     ensures { event.new ≡ record event.old {
       state = act
@@ -89,7 +89,7 @@ fn act(entering: GroupEntry, caught: &MatchedItems, outputs: Outputs<'_>, event:
 
 /// Enters a group, or ends the event where no more may be entered.
 #[cycle(acts)]
-fn enter_if_allowed(entering: GroupEntry, group: u32, event: &mut PressEvent)
+fn enter_if_allowed(entering: Entering, group: u32, event: &mut PressEvent)
     ensures { event.new ≡ record event.old {
       state = enter_if_allowed (enters event.old entering) (Numbered group) event.old.state;
       lines = lines_of_one (adds event.old entering) (UseGroup (Numbered group)) event.old.state event.old.lines;
@@ -117,7 +117,7 @@ fn take(caught: &MatchedItems, event: &mut PressEvent)
 /// caught.
 #[cycle(acts)]
 fn do_chosen(
-    entering: GroupEntry,
+    entering: Entering,
     group: &FileGroup<'_>,
     rule: &FileRule<'_>,
     caught: &mut MatchedItems,
@@ -144,7 +144,7 @@ fn do_chosen(
 /// Where no record holds: the nomatch output, for which nothing is caught, else the default of a group with keys.
 #[cycle(acts)]
 fn do_unmatched(
-    entering: GroupEntry,
+    entering: Entering,
     group: &FileGroup<'_>,
     nothing: &MatchedItems,
     event: &mut PressEvent,
@@ -167,12 +167,7 @@ fn do_unmatched(
 
 /// What a group does.
 #[cycle(acts)]
-fn do_group(
-    entering: GroupEntry,
-    group: &FileGroup<'_>,
-    records: &RuleIndex,
-    event: &mut PressEvent,
-)
+fn do_group(entering: Entering, group: &FileGroup<'_>, records: &RuleIndex, event: &mut PressEvent)
     requires short { AreShort group.now.rules }
     requires index { IsRuleIndexOf group.now records.now }
     requires group { GroupChangesOwn (length event.old.tables.stores) group.now }
@@ -194,7 +189,7 @@ fn do_group(
 /// What the group of a number does, if there is one.
 #[cycle(acts)]
 #[tactic(auto, using(crate::proofs::Contexts::short_in_group, crate::proofs::Contexts::own_in_group))]
-fn in_group(entering: GroupEntry, group: u32, event: &mut PressEvent)
+fn in_group(entering: Entering, group: u32, event: &mut PressEvent)
     requires { length event.old.lines < event.old.state.entered }
     ensures { event.new ≡ record event.old {
       state = in_group (keyboard_of event.old) (enters event.old entering) entering.press
@@ -211,7 +206,7 @@ fn in_group(entering: GroupEntry, group: u32, event: &mut PressEvent)
 /// Enters a group.
 #[cycle(acts)]
 #[tactic(auto, using(rule_model::proofs::PlainKeyboard::enter_more, rule_model::proofs::MoreLines::more_lines))]
-fn enter(entering: GroupEntry, group: u32, event: &mut PressEvent)
+fn enter(entering: Entering, group: u32, event: &mut PressEvent)
     requires { event.old.state.entered < EVENT_ENTRIES }
     ensures { event.new ≡ record event.old {
       state = enters event.old entering (Numbered group) event.old.state;
@@ -223,7 +218,7 @@ fn enter(entering: GroupEntry, group: u32, event: &mut PressEvent)
         return;
     }
     event.count_entry();
-    let inside = GroupEntry {
+    let inside = Entering {
         depth: entering.depth - 1,
         ..entering
     };
@@ -240,7 +235,7 @@ pub fn press(press: KeyPress, event: &mut PressEvent)
       lines = lines_of_press (keyboard_of event.old) press event.old.state;
     } }
 {
-    let entering = GroupEntry {
+    let entering = Entering {
         press,
         depth: EVENT_ENTRIES,
     };

@@ -28,7 +28,6 @@ use virtual_keys::KeyDictionary;
 /// the stores with the same elements have, an index of each group's records, and the names of own keys. Elements, contexts
 /// and these names are copied, and nothing else of the file. Behind the stores of the file stand the two system options, in all
 /// that is looked up by store. Contracts see the file's tables.
-#[derive(Drop)]
 pub struct IndexedKeyboard<'a> {
     alloc: Global,
     file: FileTables<'a>,
@@ -38,6 +37,22 @@ pub struct IndexedKeyboard<'a> {
     numbers: Vec<Option<usize>>,
     indexes: Vec<RuleIndex>,
     names: KeyDictionary,
+}
+
+/// One call in proofs, where a derived drop is written out in each exit.
+impl Drop for IndexedKeyboard<'_> {
+    fn drop(self) {
+        let IndexedKeyboard {
+            alloc: _,
+            file: _,
+            stores: _,
+            holdings: _,
+            values: _,
+            numbers: _,
+            indexes: _,
+            names: _,
+        } = self;
+    }
 }
 
 impl<'a> Model for IndexedKeyboard<'a> {

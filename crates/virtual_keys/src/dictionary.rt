@@ -18,10 +18,16 @@ const HASHED_BYTES: usize = 320;
 
 /// The names of a keyboard's own keys, distinct without ASCII case. Contracts see it as the list of the names, each as
 /// it was first added.
-#[derive(Drop)]
 pub struct KeyDictionary {
     alloc: Global,
     names: IndexMap<Vec<u8>, Vec<u8>>,
+}
+
+/// One call in proofs, where a derived drop is written out in each exit.
+impl Drop for KeyDictionary {
+    fn drop(self) {
+        let KeyDictionary { alloc: _, names: _ } = self;
+    }
 }
 
 impl Model for KeyDictionary {

@@ -1,8 +1,9 @@
-use Rattle.std.proofs.Common.{◌∷◌, ◌+◌, List, ℕ, drop, sym, ap, ◌∙◌}
+use Rattle.std.proofs.Common.{◌∷◌, ◌+◌, List, ℕ, drop, sym, ap, ◌∙◌, arith}
 use Rattle.std.proofs.lemmas.List.{drop_more}
 use Rattle.rule_model.specs.declared.tables.Store.{Store}
 use Rattle.decompile_laws.specs.Names.{named_stores}
 use Rattle.decompile_names.proofs.Calls.{next_names}
+use Rattle.std.proofs.lemmas.Grind.{common_steps}
 use Rattle.decompile_names.proofs.naming.store_names.Goals as goal
 
 pub loop-number-preserved : goal.loop-number-preserved
@@ -14,3 +15,6 @@ loop-number-preserved c =
     c.loop-number.names.items c.push.new.self.items c.in_ok-name.name c.is_written-written.result
     c.is_written-written.ensures c.in_ok-name.ensures.name c.in_ok-name.ensures.left c.in_ok-name.ensures.met c.in_ok-push.ensures.items
     (drop_more xs n store c.loop-number-test.true ∙ ap (λ (s : Store). s ∷ drop (n + 1) xs) (sym c.index-stores-number.is)) c.loop-number.invariant
+
+pub returns : goal.returns
+returns c = grind (arith, common_steps)

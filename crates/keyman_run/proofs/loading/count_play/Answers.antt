@@ -7,6 +7,7 @@ use Rattle.rule_model.specs.Transcript.{events_of}
 use Rattle.keyman_run.specs.Loads.{sums_left, sums_of}
 use Rattle.keyman_run.specs.Steps.{itself}
 use Rattle.keyman_run.proofs.LoadLaws.{sums_begin, goes_on, states_handed, stops}
+use Rattle.std.proofs.lemmas.Grind.{common_steps}
 use Rattle.keyman_run.proofs.loading.count_play.Goals as goal
 
 pub loop-entry-init : goal.loop-entry-init
@@ -34,3 +35,6 @@ loop-entry-preserved c =
       left = goes_on c.loop-entry.session c.loop-entry.progress c.args.entries.now _ c.loop-entry.entry-index c.loop-entry.invariant.left c.entry-item.result c.entry-item.result (omega arith) c.entry-item.is c.count_entry.new.session c.in_ok-progress.progress
           (c.in_ok-progress.ensures.leads _);
     }
+
+pub returns : goal.returns
+returns c = grind (arith, common_steps)

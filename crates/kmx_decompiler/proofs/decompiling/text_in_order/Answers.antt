@@ -1,4 +1,5 @@
-use Rattle.kmx_decompiler.proofs.Refusing.{keys, unspelled_cause, written}
+use Rattle.kmx_decompiler.proofs.Refusing.{keys, unspelled_cause, written, few_stores, few_groups, few_keys, unspelled_excess}
+use Rattle.std.proofs.Common.{arith}
 use Rattle.kmx_decompiler.proofs.decompiling.text_in_order.Goals as goal
 
 pub returns-in-Some-clause-refused : goal.returns-in-Some-clause-refused
@@ -12,3 +13,18 @@ text_within-requires-clause-written c =
 pub text_within-requires-clause-keys : goal.text_within-requires-clause-keys
 text_within-requires-clause-keys c =
     keys c.args.bytes.now c.args.tables.now c.in_ok-at.field-0 c.requires.tables c.requires.order c.in_ok-at.ensures c.in-None.is
+
+pub returns-in-Some-clause-text : goal.returns-in-Some-clause-text
+returns-in-Some-clause-text c = grind (arith, few_stores, few_groups, few_keys, unspelled_excess)
+
+pub returns-in-Some-clause-spelled : goal.returns-in-Some-clause-spelled
+returns-in-Some-clause-spelled c = grind (arith, few_stores, few_groups, few_keys, unspelled_excess)
+
+pub returns-clause-text : goal.returns-clause-text
+returns-clause-text c = grind (arith, few_stores, few_groups, few_keys, unspelled_excess)
+
+pub returns-clause-spelled : goal.returns-clause-spelled
+returns-clause-spelled c = grind (arith, few_stores, few_groups, few_keys, unspelled_excess)
+
+pub returns-clause-refused : goal.returns-clause-refused
+returns-clause-refused c = grind (arith, few_stores, few_groups, few_keys, unspelled_excess)

@@ -2,6 +2,7 @@ use Rattle.std.proofs.Common.{◌≡◌, ℕ, List, length, ◌≤◌, ◌++◌,
 use Rattle.std.proofs.lemmas.List.{at_drop_all}
 use Rattle.option_store.specs.Cells.{cell_at}
 use Rattle.play_session.proofs.OptionStores.{values_of_cells}
+use Rattle.std.proofs.lemmas.Grind.{common_steps}
 use Rattle.play_session.proofs.options.cells_now.Goals as goal
 
 pub returns-clause-values : goal.returns-clause-values
@@ -13,3 +14,9 @@ returns-clause-values c =
     ∙ c.loop-option.invariant in
     values_of_cells c.args.engine.now c.options-held.result.now c.loop-option.cells.items c.args.options.now c.requires each
     c.options-held.ensures.stores c.options-held.ensures.current c.options-held.ensures.saved
+
+pub loop-option-preserved : goal.loop-option-preserved
+loop-option-preserved c = grind (arith, common_steps)
+
+pub returns-clause-count : goal.returns-clause-count
+returns-clause-count c = grind (arith, common_steps)

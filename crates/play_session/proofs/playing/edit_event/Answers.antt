@@ -1,7 +1,7 @@
 use Rattle.std.proofs.Common.{◌≡◌, ℕ, ◌+◌, ◌≤◌, List, length, sym, ◌∙◌, ap, subst, arith, length-append}
 use Rattle.rule_engine.specs.Engine.{EngineState, synced}
 use Rattle.play_session.specs.Session.{AreTogether, stands_for}
-use Rattle.play_session.proofs.Moves.{edit_done}
+use Rattle.play_session.proofs.Moves.{edit_done, edit_steps}
 use Rattle.play_session.proofs.Readings.{is_read}
 use Rattle.play_session.proofs.playing.edit_event.Goals as goal
 
@@ -24,3 +24,21 @@ returns-clause-state c =
     = omega (arith, done.few, length-append c.edit.new.self.left c.edit.new.self.right) in
     let is = is_read 1_000_000 1_000_000 c.args.engine.now c.args.editor.now c.edit.new.self c.requires.together few in
     ap (λ (e : EngineState). stands_for e c.edit.new.self) read ∙ (is.state ∙ done.state)
+
+pub returns-clause-tables : goal.returns-clause-tables
+returns-clause-tables c = grind (arith, edit_steps)
+
+pub returns-clause-happens : goal.returns-clause-happens
+returns-clause-happens c = grind (arith, edit_steps)
+
+pub returns-clause-refused : goal.returns-clause-refused
+returns-clause-refused c = grind (arith, edit_steps)
+
+pub returns-clause-unchanged : goal.returns-clause-unchanged
+returns-clause-unchanged c = grind (arith, edit_steps)
+
+pub returns-clause-inserted : goal.returns-clause-inserted
+returns-clause-inserted c = grind (arith, edit_steps)
+
+pub returns-clause-chosen : goal.returns-clause-chosen
+returns-clause-chosen c = grind (arith, edit_steps)

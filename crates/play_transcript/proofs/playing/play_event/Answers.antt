@@ -1,8 +1,8 @@
-use Rattle.std.proofs.Common.{[], ◌++◌, ◌∙◌, List, ℕ, ap, subst}
+use Rattle.std.proofs.Common.{[], ◌++◌, ◌∙◌, List, ℕ, ap, subst, arith}
 use Rattle.play_session.proofs.Printing.{changes_are_printed}
 use Rattle.play_transcript.specs.Printing.{IsBegun}
-use Rattle.play_transcript.proofs.PrintingLaws.{fault_prints}
-use Rattle.play_transcript.proofs.PlayingLaws.{happened_prints}
+use Rattle.play_transcript.proofs.PrintingLaws.{fault_prints, faults}
+use Rattle.play_transcript.proofs.PlayingLaws.{happened_prints, step_of_stores}
 use Rattle.play_transcript.proofs.playing.play_event.Goals as goal
 
 pub returns-in_ok-put_step-in-Ok-clause-prints : goal.returns-in_ok-put_step-in-Ok-clause-prints
@@ -16,3 +16,24 @@ returns-in_err-put_step-in-Ok-clause-prints g c = λ told.
     fault_prints _ _ _ _ _ c.from_residual.ensures.1 (subst (λ (lines : List ℕ). IsBegun (g.S.Sink.written c.args.out.now) (g.S.Sink.written c.put_step.new.out) lines)
     (happened_prints changes_are_printed [] c.args.session.now c.step.new.self c.args.event.now c.in-Ok.step c.requires.options c.in-Ok.ensures.happens c.in-Ok.ensures.answer c.in-Ok.ensures.leaves)
     (c.in_err-put_step-in-Ok.ensures.prints told))
+
+pub returns-in_ok-put_step-in-Ok-clause-counts : goal.returns-in_ok-put_step-in-Ok-clause-counts
+returns-in_ok-put_step-in-Ok-clause-counts g c = grind (arith, faults, step_of_stores)
+
+pub returns-in_ok-put_step-in-Ok-clause-told : goal.returns-in_ok-put_step-in-Ok-clause-told
+returns-in_ok-put_step-in-Ok-clause-told g c = grind (arith, faults, step_of_stores)
+
+pub returns-in_ok-put_step-in-Ok-clause-plays : goal.returns-in_ok-put_step-in-Ok-clause-plays
+returns-in_ok-put_step-in-Ok-clause-plays g c = grind (arith, faults, step_of_stores)
+
+pub returns-in_ok-code-in-Err-clause-counts : goal.returns-in_ok-code-in-Err-clause-counts
+returns-in_ok-code-in-Err-clause-counts g c = grind (arith, faults, step_of_stores)
+
+pub returns-in_ok-code-in-Err-clause-told : goal.returns-in_ok-code-in-Err-clause-told
+returns-in_ok-code-in-Err-clause-told g c = grind (arith, faults, step_of_stores)
+
+pub returns-in_ok-code-in-Err-clause-plays : goal.returns-in_ok-code-in-Err-clause-plays
+returns-in_ok-code-in-Err-clause-plays g c = grind (arith, faults, step_of_stores)
+
+pub returns-in_ok-code-in-Err-clause-prints : goal.returns-in_ok-code-in-Err-clause-prints
+returns-in_ok-code-in-Err-clause-prints g c = grind (arith, faults, step_of_stores)

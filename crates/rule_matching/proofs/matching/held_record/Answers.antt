@@ -1,4 +1,4 @@
-use Rattle.std.proofs.Common.{◌≤◌, Bool, List, length, map, Some, None, refl, sym, ◌∙◌, ap, arith}
+use Rattle.std.proofs.Common.{◌≤◌, Bool, List, length, map, Some, None, refl, sym, ◌∙◌, ap, arith, rules}
 use Rattle.std.specs.Prelude.{if◌then◌else◌}
 use Rattle.kmn_base.specs.declared.keys.RuleKey.{RuleKey}
 use Rattle.kmn_base.specs.declared.keys.RuleKey.TheVariants as key
@@ -42,3 +42,48 @@ returns-else-fits-clause-held c =
     unfitting_not_held (content_at c.args.choice.now.moment.now) c.args.choice.now.pressed c.args.choice.now.moment.now.tables.stores c.args.entered.now.group.now c.args.entered.now.records.now c.args.number
     c.requires.index c.requires.short c.args.choice.now.left.now c.pattern_count-count.result c.pattern_count-count.ensures
     c.in_ok-rule.rule (sym c.in_ok-rule.ensures) (fit ∙ sym c.if-fits.ensures)
+
+pub returns-then-choice-count-clause-there : goal.returns-then-choice-count-clause-there
+returns-then-choice-count-clause-there c = search rules
+
+pub returns-then-choice-count-clause-among : goal.returns-then-choice-count-clause-among
+returns-then-choice-count-clause-among c = search rules
+
+pub returns-then-choice-count-clause-right : goal.returns-then-choice-count-clause-right
+returns-then-choice-count-clause-right c = search rules
+
+pub returns-then-choice-count-clause-rooms : goal.returns-then-choice-count-clause-rooms
+returns-then-choice-count-clause-rooms c = search rules
+
+pub returns-then-not-takes_context-clause-there : goal.returns-then-not-takes_context-clause-there
+returns-then-not-takes_context-clause-there c = search rules
+
+pub returns-then-not-takes_context-clause-among : goal.returns-then-not-takes_context-clause-among
+returns-then-not-takes_context-clause-among c = search rules
+
+pub returns-then-not-takes_context-clause-right : goal.returns-then-not-takes_context-clause-right
+returns-then-not-takes_context-clause-right c = search rules
+
+pub returns-then-not-takes_context-clause-rooms : goal.returns-then-not-takes_context-clause-rooms
+returns-then-not-takes_context-clause-rooms c = search rules
+
+pub returns-then-fits-clause-there : goal.returns-then-fits-clause-there
+returns-then-fits-clause-there c = search rules
+
+pub returns-then-fits-clause-right : goal.returns-then-fits-clause-right
+returns-then-fits-clause-right c = search rules
+
+pub returns-then-fits-clause-rooms : goal.returns-then-fits-clause-rooms
+returns-then-fits-clause-rooms c = search rules
+
+pub returns-else-fits-clause-there : goal.returns-else-fits-clause-there
+returns-else-fits-clause-there c = search rules
+
+pub returns-else-fits-clause-among : goal.returns-else-fits-clause-among
+returns-else-fits-clause-among c = search rules
+
+pub returns-else-fits-clause-right : goal.returns-else-fits-clause-right
+returns-else-fits-clause-right c = search rules
+
+pub returns-else-fits-clause-rooms : goal.returns-else-fits-clause-rooms
+returns-else-fits-clause-rooms c = search rules

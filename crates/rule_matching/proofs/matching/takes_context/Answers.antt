@@ -10,6 +10,7 @@ use Rattle.rule_matching.specs.declared.taken.TakenItem.{TakenItem}
 use Rattle.rule_matching.specs.Matching.{catch_of, caught_by_taken, item_before, item_meaning}
 use Rattle.rule_matching.specs.Moment.{content_at}
 use Rattle.rule_matching.proofs.TakenItems.{one_is_taken, none_is_taken, all_is_taken}
+use Rattle.std.proofs.lemmas.Grind.{common_steps}
 use Rattle.rule_matching.proofs.matching.takes_context.Goals as goal
 
 pub loop-item-preserved : goal.loop-item-preserved
@@ -59,3 +60,18 @@ pub returns-clause-taken : goal.returns-clause-taken
 returns-clause-taken c =
     all_is_taken (content_at c.args.choice.now.moment.now) c.args.choice.now.left.now (nat_eq (length c.args.choice.now.left.now) c.args.count) c.args.choice.now.moment.now.tables.stores c.args.context.now
     c.loop-item.item-index c.loop-item.ahead c.loop-item.taken.items _ c.loop-item.invariant.within c.loop-item.invariant.same c.loop-item-test.false
+
+pub returns-then-not-stands-clause-taken : goal.returns-then-not-stands-clause-taken
+returns-then-not-stands-clause-taken c = grind (arith, common_steps)
+
+pub push-requires : goal.push-requires
+push-requires c = grind (arith, common_steps)
+
+pub loop-item-preserved-then-not-takes_item : goal.loop-item-preserved-then-not-takes_item
+loop-item-preserved-then-not-takes_item c = grind (arith, common_steps)
+
+pub returns-then-ahead-eq0-clause-taken : goal.returns-then-ahead-eq0-clause-taken
+returns-then-ahead-eq0-clause-taken c = grind (arith, common_steps)
+
+pub push-requires-in-Some : goal.push-requires-in-Some
+push-requires-in-Some c = grind (arith, common_steps)

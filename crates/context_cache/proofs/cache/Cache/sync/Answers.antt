@@ -4,7 +4,7 @@ use Rattle.kmn_base.specs.declared.items.Item.{Item}
 use Rattle.kmn_base.specs.declared.items.Item.TheVariants.{Char}
 use Rattle.kmn_base.specs.Lists.{window, still_stands, read_again}
 use Rattle.context_cache.specs.Cached.{CacheValue}
-use Rattle.context_cache.proofs.Windows.{read_anew}
+use Rattle.context_cache.proofs.Windows.{read_anew, still_the_same}
 use Rattle.context_cache.proofs.cache.Cache.sync.Goals as goal
 
 pub returns : goal.returns
@@ -17,3 +17,12 @@ returns c =
     let anew : items ≡ window (read_again old text) = read_anew old items text c.self.invariant lost last in
     let same : old ≡ c.args.self.now.items = ap (λ (v : CacheValue). v.items) c.self.view_is in
     λ i. record { items = (anew ∙ ap (λ (xs : List Item). window (read_again xs text)) same) i; room = (c.loop-c.invariant.room ∙ sym c.requires) i }
+
+pub returns-then-still_stands : goal.returns-then-still_stands
+returns-then-still_stands c = grind (arith, still_the_same, read_anew)
+
+pub invariant_of-self : goal.invariant_of-self
+invariant_of-self c = grind (arith, still_the_same, read_anew)
+
+pub loop-c-preserved : goal.loop-c-preserved
+loop-c-preserved c = grind (arith, common_steps)

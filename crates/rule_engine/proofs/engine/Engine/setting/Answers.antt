@@ -8,6 +8,7 @@ use Rattle.rule_model.specs.Plain.{option_names}
 use Rattle.rule_model.specs.Tab.{tab}
 use Rattle.rule_engine.specs.Engine.{EngineState, engine_with, option_named}
 use Rattle.rule_engine.proofs.Engines.{host_sets_engine}
+use Rattle.std.proofs.lemmas.Grind.{common_steps}
 use Rattle.rule_engine.proofs.engine.Engine.setting.Goals as goal
 
 pub host_set-requires-clause-store : goal.host_set-requires-clause-store
@@ -31,3 +32,12 @@ returns-clause-engine c =
     (λ i. engine_with c.self.inside.indexed.value (c.in_ok-host_set.ensures.cache i).items after.options (c.in_ok-host_set.ensures.inserted i).text (c.in_ok-host_set.ensures.chosen i).items)
     ∙ host_sets_engine c.self.inside.indexed.value c.self.inside.workspace.cache.items c.self.inside.workspace.options after.options c.self.inside.workspace.inserted.text c.self.inside.workspace.chosen.items c.in-Some.store
     c.args.name.now c.args.value.now c.args.self.now few c.in_ok-host_set.ensures.options c.self.view_is option
+
+pub returns-in_default-clause-found : goal.returns-in_default-clause-found
+returns-in_default-clause-found c = grind (arith, common_steps)
+
+pub returns-in_default-clause-engine : goal.returns-in_default-clause-engine
+returns-in_default-clause-engine c = grind (arith, common_steps)
+
+pub returns-clause-found : goal.returns-clause-found
+returns-clause-found c = grind (arith, common_steps)

@@ -1,4 +1,4 @@
-use Rattle.std.proofs.Common.{◌≡◌, sym, ◌∙◌, ap, subst}
+use Rattle.std.proofs.Common.{◌≡◌, sym, ◌∙◌, ap, subst, arith}
 use Rattle.std.specs.Prelude.{vec_capacity}
 use Rattle.std.specs.Arc.{arc_value}
 use Rattle.rule_model.specs.declared.tables.Tables.{Tables}
@@ -7,7 +7,7 @@ use Rattle.rule_matching.specs.Moment.{truths_at}
 use Rattle.rule_matching.specs.PlaceMemory.{rooms}
 use Rattle.rule_engine.specs.Event.{moment_with}
 use Rattle.rule_engine.specs.Engine.{IsAtWork}
-use Rattle.rule_engine.proofs.Engines.{first_is_at_work}
+use Rattle.rule_engine.proofs.Engines.{first_is_at_work, first_values}
 use Rattle.rule_engine.proofs.engine.Engine.with_parts.Goals as goal
 
 pub invariant_of-result : goal.invariant_of-result
@@ -21,3 +21,6 @@ invariant_of-result c =
     cells right (c.begin.ensures.inserted ∙ c.in_ok-workspace.ensures.inserted)
     (ap vec_capacity c.begin.ensures.chosen ∙ c.in_ok-workspace.ensures.lines)
     (ap rooms c.begin.ensures.places ∙ (c.in_ok-workspace.ensures.places ∙ (λ i. (c.keyboard_stores.ensures.value i, c.keyboard_stores.ensures.value i)))))
+
+pub returns : goal.returns
+returns c = grind (arith, first_is_at_work, first_values)

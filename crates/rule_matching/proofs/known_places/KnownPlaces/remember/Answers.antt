@@ -1,4 +1,4 @@
-use Rattle.std.proofs.Common.{◌≡◌, ◌∙◌, ◌⊎◌, ◌<◌, List, length, set, slice_get, sym, ap, subst, arith}
+use Rattle.std.proofs.Common.{◌≡◌, ◌∙◌, ◌⊎◌, ◌<◌, List, length, set, slice_get, sym, ap, subst, arith, rules}
 use Rattle.std.specs.Prelude.{Some}
 use Rattle.std.proofs.lemmas.Option.{slice_get-get_or}
 use Rattle.rule_matching.specs.declared.known_places.StorePlaces.{StorePlaces}
@@ -29,3 +29,18 @@ pub returns-then-distance-lt-WINDOW_ITEMS-clause-known : goal.returns-then-dista
 returns-then-distance-lt-WINDOW_ITEMS-clause-known c = λ room near.
     let within : c.args.store < length c.self.inside.stores.items = omega arith in
     this_is_known c.self.inside.choice c.args.store c.args.distance c.self.inside.stores.items c.write.new.self within ∙ c.write.ensures.written ∙ c.cell_of.ensures
+
+pub returns-then-distance-lt-WINDOW_ITEMS-clause-room : goal.returns-then-distance-lt-WINDOW_ITEMS-clause-room
+returns-then-distance-lt-WINDOW_ITEMS-clause-room c = search rules
+
+pub returns-else-store-len-clause-only : goal.returns-else-store-len-clause-only
+returns-else-store-len-clause-only c = search rules
+
+pub returns-else-store-len-clause-known : goal.returns-else-store-len-clause-known
+returns-else-store-len-clause-known c = search rules
+
+pub returns-else-store-len-clause-others : goal.returns-else-store-len-clause-others
+returns-else-store-len-clause-others c = search rules
+
+pub returns-else-store-len-clause-room : goal.returns-else-store-len-clause-room
+returns-else-store-len-clause-room c = search rules
