@@ -1,7 +1,7 @@
 use kmn_base::Seq;
 
 /// What a record has that Keyman's own engine does otherwise.
-#[derive(Clone, Copy, Debug, PartialEq, Eq)]
+#[derive(Clone, Copy)]
 pub enum Construct {
     /// An item stands behind a `use` in its output.
     Use,

@@ -3,7 +3,7 @@
 use std::fmt;
 
 /// Why a file has no text. Groups and records count from 0, places are bytes of the file.
-#[derive(Clone, Copy, Debug, PartialEq, Eq)]
+#[derive(Clone, Copy, Debug)]
 pub enum NoSpelling {
     /// X1: the record of this number in this group has a longer context than the record before it.
     Order { group: u32, rule: u32 },

@@ -14,7 +14,7 @@ use kmx_verifier::{Fault, Verified, VerifyError, verify};
 use std::alloc::Global;
 
 /// Why a file isn't exported.
-#[derive(Clone, Copy, Debug, PartialEq, Eq)]
+#[derive(Clone, Copy)]
 pub enum ExportReason {
     /// It isn't valid.
     File(Fault),
@@ -34,7 +34,7 @@ pub struct Export {
 }
 
 /// Why a run stops before it writes.
-#[derive(Clone, Copy, Debug, PartialEq, Eq)]
+#[derive(Clone, Copy)]
 pub enum ExportStop {
     Refused(ExportReason),
     ReadFault,

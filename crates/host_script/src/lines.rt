@@ -17,7 +17,7 @@ use std::alloc::Global;
 use virtual_keys::KeyDictionary;
 
 /// What a line is that a script for one field hasn't.
-#[derive(Clone, Copy, Debug, PartialEq, Eq)]
+#[derive(Clone, Copy)]
 pub enum HostLineKind {
     Open,
     Field,

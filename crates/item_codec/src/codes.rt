@@ -10,7 +10,7 @@ use crate::units::{KEY_END, first_two_units, first_unit};
 use kmn_base::{BadKind, SENTINEL, UnitItem};
 
 /// Why the bytes begin with no item, with the unlisted code of `U2`, else 0.
-#[derive(Clone, Copy, Debug, PartialEq, Eq)]
+#[derive(Clone, Copy)]
 pub(crate) struct BadItem {
     pub(crate) kind: BadKind,
     pub(crate) code: u16,

@@ -11,7 +11,7 @@ pub const LONG_FILE: Fault = Fault {
 };
 
 /// Why a source, a script, a file or a layout is refused before anything is written.
-#[derive(Clone, Copy, Debug, PartialEq, Eq)]
+#[derive(Clone, Copy)]
 pub enum Reason {
     /// A rule is broken in a line.
     Line(Refusal),

@@ -30,7 +30,7 @@ use std::alloc::{AllocError, Global};
 use virtual_keys::KeyDictionary;
 
 /// What a play comes to: the events that were done, the items that they put, and the length of the text in the end.
-#[derive(Clone, Copy, Debug, PartialEq, Eq)]
+#[derive(Clone, Copy)]
 pub struct Sums {
     pub events: usize,
     pub put: u128,
@@ -39,7 +39,7 @@ pub struct Sums {
 }
 
 /// What was counted of a play so far: the number of its last step, the events that were done, and the items that they put.
-#[derive(Clone, Copy, Debug, PartialEq, Eq)]
+#[derive(Clone, Copy)]
 pub struct Progress {
     /// Stays at the end of its type.
     pub number: u32,

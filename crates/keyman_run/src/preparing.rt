@@ -21,7 +21,7 @@ use std::alloc::Global;
 use virtual_keys::KeyDictionary;
 
 /// Why a run stops before it writes.
-#[derive(Clone, Copy, Debug, PartialEq, Eq)]
+#[derive(Clone, Copy)]
 pub enum Stop {
     Refused(Reason),
     ReadFault,

@@ -6,7 +6,7 @@ use std::fmt;
 /// The named rules. L and S are faults of a source's form, C of its meaning, V of a compiled file, P of a script, X of
 /// a file that can't be decompiled, T of a touch layout, G of what a made load and a search for dead rules take, H of a script
 /// for many fields, E of an event.
-#[derive(Clone, Copy, Debug, PartialEq, Eq)]
+#[derive(Clone, Copy, PartialEq, Eq)]
 pub enum Code {
     L01,
     L02,
@@ -126,6 +126,17 @@ impl fmt::Display for Code {
     ghost use Rattle.std.specs.Prelude.{Some};
 
     ghost output = { λ code. Some (code_text code) };
+
+    fn fmt<W: fmt::Write>(&self, f: &mut fmt::Formatter<W>) -> fmt::Result {
+        f.write_str(self.name())
+    }
+}
+
+/// The name, as a derived one gives it, by way of `name`, which is proved once for both.
+impl fmt::Debug for Code {
+    ghost use Rattle.std.specs.Prelude.{Some};
+
+    ghost debug_output = { λ code. Some (code_text code) };
 
     fn fmt<W: fmt::Write>(&self, f: &mut fmt::Formatter<W>) -> fmt::Result {
         f.write_str(self.name())

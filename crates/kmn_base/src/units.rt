@@ -2,7 +2,7 @@
 pub const SENTINEL: u16 = 0xFFFF;
 
 /// One item of a compiled string. Store and group numbers count from 1 here, as they are spelled; so do offsets.
-#[derive(Clone, Copy, Debug, PartialEq, Eq)]
+#[derive(Clone, Copy, Debug)]
 pub enum UnitItem {
     Char(char),
     Any(u16),
@@ -31,7 +31,7 @@ pub enum UnitItem {
 }
 
 /// Why no item is spelled at a place.
-#[derive(Clone, Copy, Debug, PartialEq, Eq)]
+#[derive(Clone, Copy, Debug)]
 pub enum BadKind {
     /// An unpaired surrogate.
     U1,
@@ -49,7 +49,7 @@ pub enum BadKind {
 }
 
 /// The first place, in bytes, at which no item is spelled. `code` is the unlisted code of `U2`, else 0.
-#[derive(Clone, Copy, Debug, PartialEq, Eq)]
+#[derive(Clone, Copy)]
 pub struct BadUnits {
     pub kind: BadKind,
     pub at: u32,

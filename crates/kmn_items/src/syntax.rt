@@ -5,14 +5,14 @@ use rule_model::SrcItem;
 
 /// The first token of a line that breaks the grammar, and the rule that it breaks. `at` counts the line's tokens
 /// before it.
-#[derive(Clone, Copy, Debug, PartialEq, Eq)]
+#[derive(Clone, Copy, PartialEq, Eq)]
 pub struct TokenRefusal {
     pub at: usize,
     pub code: Code,
 }
 
 /// Why a line could not be read.
-#[derive(Clone, Copy, Debug, PartialEq, Eq)]
+#[derive(Clone, Copy)]
 pub enum LineError {
     Refused(TokenRefusal),
     Memory,
@@ -29,7 +29,7 @@ impl From<Memory> for LineError {
 }
 
 /// A section of a statement in which items stand.
-#[derive(Clone, Copy, Debug, PartialEq, Eq)]
+#[derive(Clone, Copy)]
 pub enum Where {
     Store,
     Context,
@@ -38,14 +38,14 @@ pub enum Where {
 }
 
 /// What the items before have in a section: a pattern (in a key: an item), and a `nul`.
-#[derive(Clone, Copy, Debug, PartialEq, Eq)]
+#[derive(Clone, Copy)]
 pub struct Seen {
     pub pattern: bool,
     pub nul: bool,
 }
 
 /// A word that begins an item.
-#[derive(Clone, Copy, Debug, PartialEq, Eq)]
+#[derive(Clone, Copy)]
 pub enum ItemWord {
     Dead,
     Any,
@@ -75,7 +75,7 @@ pub enum ItemWord {
 }
 
 /// What the first token of an item says of it.
-#[derive(Clone, Copy, Debug, PartialEq, Eq)]
+#[derive(Clone, Copy)]
 pub enum Lead {
     /// A quoted token: its characters.
     Characters,
@@ -91,7 +91,7 @@ pub enum Lead {
 }
 
 /// What is wanted at one place of a form.
-#[derive(Clone, Copy, Debug, PartialEq, Eq)]
+#[derive(Clone, Copy)]
 pub enum Slot {
     /// The word that begins the form.
     Lead,

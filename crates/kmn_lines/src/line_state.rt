@@ -1,7 +1,7 @@
 //! A physical line, and what is known of it while its bytes are read.
 
 /// What is known of a physical line after its bytes so far.
-#[derive(Clone, Copy, Debug, PartialEq, Eq)]
+#[derive(Clone, Copy)]
 pub struct LineState {
     /// The quote that is open.
     pub quote: Option<u8>,
@@ -14,7 +14,7 @@ pub struct LineState {
 }
 
 /// A physical line. `from`, `to` and `next` are byte places of the source.
-#[derive(Clone, Copy, Debug, PartialEq, Eq)]
+#[derive(Clone, Copy)]
 pub struct PhysicalLine {
     /// Its number, from 1.
     pub line: u32,

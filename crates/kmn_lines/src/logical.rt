@@ -1,5 +1,5 @@
 /// A logical line: one physical line, or several that backslashes join. `from` and `to` are byte places of the source.
-#[derive(Clone, Copy, Debug, PartialEq, Eq)]
+#[derive(Clone, Copy)]
 pub struct Logical {
     /// The number of its first physical line, from 1.
     pub first_line: u32,
@@ -8,7 +8,7 @@ pub struct Logical {
 }
 
 /// What of a physical line of a logical line is tokenised. `from` and `to` are byte places of the source.
-#[derive(Clone, Copy, Debug, PartialEq, Eq)]
+#[derive(Clone, Copy)]
 pub struct Part {
     /// The number of the physical line in which it lies, from 1.
     pub line: u32,

@@ -15,7 +15,7 @@ pub enum Statement {
 }
 
 /// The last group before a line, in which a rule of the line stands.
-#[derive(Clone, Copy, Debug, PartialEq, Eq)]
+#[derive(Clone, Copy)]
 pub enum LastGroup {
     /// No group stands before the line.
     Missing,
@@ -36,7 +36,7 @@ pub(crate) struct Line<'a> {
 }
 
 /// A sign that parts a statement.
-#[derive(Clone, Copy, Debug, PartialEq, Eq)]
+#[derive(Clone, Copy)]
 pub enum Sign {
     /// `>`
     Arrow,

@@ -1,7 +1,7 @@
 use kmn_base::{Code, CompileError, Memory, Refusal};
 
 /// Why a line has no tokens: what is wrong with one of them, or want of memory.
-#[derive(Clone, Copy, Debug, PartialEq, Eq)]
+#[derive(Clone, Copy)]
 pub(crate) enum TokenError {
     Fault(Code),
     NoMemory,

@@ -23,7 +23,7 @@ use rule_model::{Store, Tables};
 use std::alloc::Global;
 
 /// So many stores, and so many elements of all of them.
-#[derive(Clone, Copy, Debug, PartialEq, Eq)]
+#[derive(Clone, Copy)]
 pub(crate) struct WrittenCounts {
     pub(crate) stores: u32,
     pub(crate) elements: u32,

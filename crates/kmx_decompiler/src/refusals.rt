@@ -3,7 +3,7 @@ use kmn_base::Memory;
 use thiserror::Error;
 
 /// Why a file was not decompiled.
-#[derive(Clone, Copy, Debug, PartialEq, Eq, Error)]
+#[derive(Clone, Copy, Debug, Error)]
 pub enum DecompileError {
     /// It has no text that a source could be.
     #[error("refused {0}")]

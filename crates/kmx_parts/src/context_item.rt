@@ -7,7 +7,7 @@ use rule_model::Pat;
 
 /// An item of a compiled context in the numbers of sixteen bits that a file has, so that it takes eight bytes. Stores count
 /// from 0, offsets from 1.
-#[derive(Clone, Copy, Debug, PartialEq, Eq)]
+#[derive(Clone, Copy, PartialEq, Eq)]
 pub enum ContextItem {
     Char(char),
     Mark(u16),

@@ -10,7 +10,7 @@ use kmx_format::places::{
 };
 
 /// The record of a store: its system id, and the offsets of its name and its elements.
-#[derive(Clone, Copy, Debug, PartialEq, Eq)]
+#[derive(Clone, Copy, PartialEq, Eq)]
 pub struct StoreRef {
     pub system: u32,
     pub name: u32,
@@ -19,7 +19,7 @@ pub struct StoreRef {
 
 /// The record of a group: the offsets of its name, its match and its nomatch output, the place and the count of its key
 /// records, and 0 for a group without keys.
-#[derive(Clone, Copy, Debug, PartialEq, Eq)]
+#[derive(Clone, Copy, PartialEq, Eq)]
 pub struct GroupRef {
     pub name: u32,
     pub keys: u32,
@@ -30,7 +30,7 @@ pub struct GroupRef {
 }
 
 /// A key record: its key, its line, its shift flags, and the offsets of its output and its context.
-#[derive(Clone, Copy, Debug, PartialEq, Eq)]
+#[derive(Clone, Copy, PartialEq, Eq)]
 pub struct RuleRef {
     pub key: u16,
     pub line: u32,

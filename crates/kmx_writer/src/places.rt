@@ -7,7 +7,7 @@ use kmx_format::sizes::{GROUP_BYTES, HEADER_BYTES, RULE_BYTES, STORE_BYTES};
 use rule_model::Tables;
 
 /// Where the parts of a file begin behind its header and its store array, in bytes.
-#[derive(Clone, Copy, Debug, PartialEq, Eq)]
+#[derive(Clone, Copy)]
 pub(crate) struct Places {
     pub(crate) groups: u64,
     pub(crate) rules: u64,

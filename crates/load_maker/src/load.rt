@@ -20,7 +20,7 @@ pub struct Load {
 }
 
 /// Why no load was made.
-#[derive(Clone, Copy, Debug, PartialEq, Eq, Error)]
+#[derive(Clone, Copy, Debug, Error)]
 pub enum LoadError {
     /// The number is not 1 to 2,000.
     #[error("refused G1")]

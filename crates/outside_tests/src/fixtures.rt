@@ -1,7 +1,8 @@
-//! What the tests of full sizes take: equal bytes.
+//! What several tests take: equal bytes, and a file of one rule.
 
 ghost use Rattle.std.specs.Prelude.{◌≡◌, IfOk, replicate};
 
+use compile_tests::fixtures::ONE_RULE;
 use kmn_base::{Memory, Seq};
 use std::alloc::Global;
 
@@ -10,4 +11,11 @@ pub fn equal_bytes(alloc: Global, byte: u8, size: usize) -> Result<Seq<u8>, Memo
     ensures { IfOk result (λ bytes. bytes ≡ replicate size byte) }
 {
     Ok(Seq::from_vec(vec![in alloc; byte; size]?))
+}
+
+/// The file of one rule, of version 17.0.
+pub fn one_rule() -> [u8; 122] {
+    let mut file = ONE_RULE;
+    file[5] = 0x11;
+    file
 }

@@ -33,7 +33,7 @@ pub(crate) struct Play<'a> {
 }
 
 /// What an entry makes of a play: it goes on, or an event or a preview was refused.
-#[derive(Clone, Copy, Debug, PartialEq, Eq)]
+#[derive(Clone, Copy)]
 pub(crate) enum Played {
     On,
     Refused,

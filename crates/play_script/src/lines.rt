@@ -20,7 +20,7 @@ use std::alloc::Global;
 use virtual_keys::KeyDictionary;
 
 /// What a line is that begins with a word.
-#[derive(Clone, Copy, Debug, PartialEq, Eq)]
+#[derive(Clone, Copy)]
 pub enum LineKind {
     Caret,
     Edit,

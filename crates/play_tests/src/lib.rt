@@ -1,17 +1,19 @@
-//! The tests of `play_session`: `sessions` has sessions event by event, and `choices` the lines of the rules that they choose;
-//! and of `curlew_calls`: `calls` has what its errors print.
+//! The tests of what a play is told and what it changes: `scripts` of `play_script`, and `editing` of `editor_model`; and of many
+//! fields over one keyboard: `host_scripts` of `host_script`, `hosts` of `text_host`, and `plays` of `play_host`.
 //!
-//! They stand here because a crate with tests is proved twice, once with them and once without: so both crates are proved
-//! once, and the tests are proved over them, beside those of `meaning_tests`, whose words of events, signs and files they take.
-//! `files` has the files that look at system options, and `fixtures` the event of a key. No layer stands above.
+//! They stand here because a crate with tests is proved twice, once with them and once without: so each of those crates is
+//! proved once, and the tests are proved over them, beside those of `source_tests`, which parts their rows. `fixtures` has what
+//! several of them take. No layer stands above.
 #![tactic(auto)]
 
 #[cfg(test)]
-mod calls;
-#[cfg(test)]
-mod choices;
-#[cfg(test)]
-mod files;
+mod editing;
 pub mod fixtures;
 #[cfg(test)]
-mod sessions;
+mod host_scripts;
+#[cfg(test)]
+mod hosts;
+#[cfg(test)]
+mod plays;
+#[cfg(test)]
+mod scripts;

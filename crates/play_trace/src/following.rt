@@ -23,7 +23,7 @@ use rule_trace::{Coverage, Hit};
 use std::alloc::Global;
 
 /// What was counted of a script: the number of its last step, and events that were done.
-#[derive(Clone, Copy, Debug, PartialEq, Eq)]
+#[derive(Clone, Copy)]
 pub(crate) struct TraceCounts {
     /// Stays at the end of its type.
     pub number: u32,
@@ -31,14 +31,14 @@ pub(crate) struct TraceCounts {
 }
 
 /// What an entry makes of a script: it goes on, or an event was refused.
-#[derive(Clone, Copy, Debug, PartialEq, Eq)]
+#[derive(Clone, Copy)]
 pub(crate) enum Followed {
     On(TraceCounts),
     Refused,
 }
 
 /// How a script that is traced ends.
-#[derive(Clone, Copy, Debug, PartialEq, Eq)]
+#[derive(Clone, Copy)]
 pub enum TraceEnd {
     Done,
     /// An event was refused.

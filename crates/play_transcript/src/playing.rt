@@ -22,7 +22,7 @@ use rule_model::Entry;
 use std::alloc::Global;
 
 /// What was counted of a play: the number of its last step, events that were done, and expected texts that differed.
-#[derive(Clone, Copy, Debug, PartialEq, Eq)]
+#[derive(Clone, Copy)]
 pub struct Counts {
     /// Stays at the end of its type.
     pub number: u32,
@@ -31,14 +31,14 @@ pub struct Counts {
 }
 
 /// What an entry makes of a play: it goes on, or an event was refused.
-#[derive(Clone, Copy, Debug, PartialEq, Eq)]
+#[derive(Clone, Copy)]
 pub enum Played {
     On(Counts),
     Refused,
 }
 
 /// How a play ends.
-#[derive(Clone, Copy, Debug, PartialEq, Eq)]
+#[derive(Clone, Copy)]
 pub enum PlayEnd {
     Done,
     /// An event was refused.

@@ -2,7 +2,7 @@ use kmn_base::{Element, Item, Seq};
 
 /// What an item of a context caught: an item of the text where it is a pattern, and of an `any` the first place of
 /// that item in its store.
-#[derive(Clone, Copy, Debug, PartialEq, Eq)]
+#[derive(Clone, Copy)]
 pub struct Catch {
     pub item: Option<Item>,
     pub place: Option<usize>,

@@ -2,7 +2,7 @@
 //!
 //! They stand here because a crate with tests is proved twice, once with them and once without: so `keyman_run` is proved once,
 //! and the tests are proved over it. `commands` has what they take: `outside_tests`, which has the runs in which something
-//! outside fails, takes the same, and `export_tests` the words of a line.
+//! outside fails, takes the same.
 #![tactic(auto)]
 
 pub mod commands;

@@ -4,7 +4,7 @@
 //! They stand here because a crate with tests is proved twice, once with them and once without: so each of those crates is
 //! proved once, and the tests are proved over them. `fixtures` has what several of them take: the tests of all crates take of
 //! it what parts a row of text from its answer, `statement_tests` what reads the signs of its rows, and `compile_tests` and
-//! `script_tests` what reads the refusals of theirs.
+//! `play_tests` what reads the refusals of theirs.
 #![tactic(auto)]
 
 pub mod fixtures;

@@ -1,7 +1,8 @@
 use Rattle.std.proofs.Common.{◌++◌, List, ℕ, ap, ◌∙◌, arith}
 use Rattle.std.proofs.lemmas.Grind.{common_steps}
 use Rattle.decompile_names.specs.Free.{one_if_free}
-use Rattle.decompile_names.proofs.FreeNames.{next_step}
+use Rattle.decompile_names.proofs.FreeNames.{next_step, none_free, enough_free, all_taken}
+use Rattle.decompile_laws.specs.Names.{free_names}
 use Rattle.decompile_names.proofs.free_names.free_names.Goals as goal
 
 pub loop-before-preserved : goal.loop-before-preserved
@@ -11,3 +12,11 @@ loop-before-preserved c = (
       (c.in_ok-add_free.ensures.names ∙ ap (λ (name : List ℕ). c.loop-before.free.items ++ one_if_free c.args.taken.now name) c.in_ok-name.ensures)
       c.loop-before.invariant.1,
 )
+
+pub overflow_add-before : goal.overflow_add-before
+unfolding free_names
+overflow_add-before c = grind (arith, none_free, enough_free, all_taken)
+
+pub returns : goal.returns
+unfolding free_names
+returns c = grind (arith, none_free, enough_free, all_taken)

@@ -29,3 +29,6 @@ returns-in_err-taken c =
     let stops = items_stop c.args.place c.items.seen c.args.last c.items.next c.items.items rest error many c.in_err-taken.ensures.read in
     let says = subst (λ (read : Result (List SrcItem) TokenRefusal). Reads read (Err error)) c.items.invariant.read stops in
     passed_on _ error c.from_residual.result c.from_residual.ensures.1 says
+
+pub returns : goal.returns
+returns c = grind (arith, common_steps)

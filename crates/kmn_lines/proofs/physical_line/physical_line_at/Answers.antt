@@ -1,4 +1,5 @@
 use Rattle.std.proofs.Common.{◌≡◌, ◌+◌, drop, get_or, false, arith, subst, sym, ◌∙◌}
+use Rattle.std.proofs.lemmas.Grind.{common_steps}
 use Rattle.kmn_lines.specs.declared.line_state.LineState.{LineState}
 use Rattle.kmn_lines.specs.Lines.{ends_line, after_byte, physical_lines}
 use Rattle.kmn_lines.specs.Places.{IsBetween}
@@ -18,3 +19,27 @@ loop-at-preserved c =
       subst (IsBetween c.args.from (at + 1)) (sym read) between,
       subst (λ (s : LineState). physical_lines c.args.line c.args.from s (at + 1) (drop (at + 1) c.args.bytes.now) ≡ physical_lines c.args.line c.args.from r at (drop at c.args.bytes.now)) (sym read) step ∙ c.loop-at.invariant.3,
     )
+
+pub returns-then-ends_line-clause-is : goal.returns-then-ends_line-clause-is
+returns-then-ends_line-clause-is c = grind (arith, common_steps)
+
+pub returns-then-ends_line-clause-line : goal.returns-then-ends_line-clause-line
+returns-then-ends_line-clause-line c = grind (arith, common_steps)
+
+pub returns-then-ends_line-clause-from : goal.returns-then-ends_line-clause-from
+returns-then-ends_line-clause-from c = grind (arith, common_steps)
+
+pub returns-then-ends_line-clause-within : goal.returns-then-ends_line-clause-within
+returns-then-ends_line-clause-within c = grind (arith, common_steps)
+
+pub returns-clause-is : goal.returns-clause-is
+returns-clause-is c = grind (arith, common_steps)
+
+pub returns-clause-line : goal.returns-clause-line
+returns-clause-line c = grind (arith, common_steps)
+
+pub returns-clause-from : goal.returns-clause-from
+returns-clause-from c = grind (arith, common_steps)
+
+pub returns-clause-within : goal.returns-clause-within
+returns-clause-within c = grind (arith, common_steps)

@@ -1,4 +1,4 @@
-use Rattle.std.proofs.Common.{arith}
+use Rattle.std.proofs.Common.{arith, rules}
 use Rattle.std.proofs.lemmas.Grind.{common_steps}
 use Rattle.rule_model.specs.Event.{happening}
 use Rattle.plain_event.proofs.events.traced_event.Goals as goal
@@ -26,3 +26,11 @@ returns-in-Caret-clause-lines c = grind (arith, common_steps)
 pub returns-clause-lines : goal.returns-clause-lines
 unfolding happening
 returns-clause-lines c = grind (arith, common_steps)
+
+pub returns-in-Caret-clause-step : goal.returns-in-Caret-clause-step
+unfolding happening
+returns-in-Caret-clause-step c = search rules
+
+pub returns-clause-step : goal.returns-clause-step
+unfolding happening
+returns-clause-step c = search rules

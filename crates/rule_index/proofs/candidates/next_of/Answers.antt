@@ -1,5 +1,6 @@
 use Rattle.std.proofs.Common.{◌≡◌, ℕ, List, refl, length, subst, arith, rules}
 use Rattle.std.proofs.lemmas.Bool.Decides.{nat_tests}
+use Rattle.std.proofs.lemmas.Grind.{common_steps}
 use Rattle.rule_index.specs.declared.head.Head.{Head}
 use Rattle.rule_index.specs.declared.row.Row.{Row}
 use Rattle.rule_index.proofs.Walk.{GoesOn, IsFirst, no_first, wanted_after, stand_after, first_is_moved, moved_limits, moved_behind, first_is_next, first_is_none, lead_stands}
@@ -71,3 +72,21 @@ returns-clause-lead c = λ stand stands.
 
 pub returns-clause-small : goal.returns-clause-small
 returns-clause-small c = let few = c.loop-k.invariant.first.few.0 in omega arith
+
+pub returns-then-least-eq-NO_ROW-clause-wanted : goal.returns-then-least-eq-NO_ROW-clause-wanted
+returns-then-least-eq-NO_ROW-clause-wanted c = grind (arith, common_steps)
+
+pub returns-then-least-eq-NO_ROW-clause-stand : goal.returns-then-least-eq-NO_ROW-clause-stand
+returns-then-least-eq-NO_ROW-clause-stand c = grind (arith, common_steps)
+
+pub returns-then-least-eq-NO_ROW-clause-lead : goal.returns-then-least-eq-NO_ROW-clause-lead
+returns-then-least-eq-NO_ROW-clause-lead c = grind (arith, common_steps)
+
+pub returns-then-least-eq-NO_ROW-clause-small : goal.returns-then-least-eq-NO_ROW-clause-small
+returns-then-least-eq-NO_ROW-clause-small c = grind (arith, common_steps)
+
+pub returns-clause-wanted : goal.returns-clause-wanted
+returns-clause-wanted c = grind (arith, common_steps)
+
+pub returns-clause-stand : goal.returns-clause-stand
+returns-clause-stand c = grind (arith, common_steps)

@@ -1,6 +1,7 @@
 use Rattle.std.proofs.Common.{◌≤◌, ◌∙◌, List, length, refl, ap, sym, arith}
 use Rattle.std.specs.Prelude.{find, filter_map}
 use Rattle.std.specs.String.{string_bytes}
+use Rattle.std.proofs.lemmas.Grind.{common_steps}
 use Rattle.kmn_base.specs.declared.items.Element.{Element}
 use Rattle.kmn_base.specs.declared.limits.TheConstants.{STORE_ELEMENTS}
 use Rattle.rule_model.specs.Tab.{element_char, is_dictionary, store_elements, tab_dictionary}
@@ -23,3 +24,6 @@ returns c =
     ∙ ap (λ (left : List Element). names_read c.loop-element.names (string_bytes c.loop-element.word) (filter_map element_char left)) (sym c.in-None.ensures.steps.0)
     ∙ c.loop-element.invariant.names
     ∙ names_are_read (filter_map element_char (store_elements (find is_dictionary c.args.file.now.stores)))
+
+pub loop-element-preserved : goal.loop-element-preserved
+loop-element-preserved c = grind (arith, common_steps)

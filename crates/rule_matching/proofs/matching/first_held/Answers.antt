@@ -1,5 +1,6 @@
 use Rattle.std.proofs.Common.{◌≡◌, ◌+◌, ◌-◌, ◌<◌, ◌≤◌, Option, Some, None, length, sym, ◌∙◌, ap, subst, arith}
 use Rattle.std.specs.Prelude.{option_map, slice_get}
+use Rattle.std.proofs.lemmas.Grind.{common_steps}
 use Rattle.kmn_base.specs.declared.keys.KeyPress.{KeyPress}
 use Rattle.rule_index.specs.Classes.{wanted_classes}
 use Rattle.rule_index.specs.Next.{IsNext}
@@ -99,3 +100,27 @@ returns-clause-first c =
     c.loop-number.invariant.rows c.loop-number.invariant.wanted c.requires.index.records c.in_default.ensures.next in
     none_found (is_held c.args.moment.now c.args.entered.now.group.now c.args.left.now c.args.entered.now.press) c.args.entered.now.group.now.rules
     (passed_all c.args.moment.now c.args.entered.now.group.now c.args.left.now c.args.entered.now.press c.loop-number.candidates.from left c.loop-number.invariant.passed)
+
+pub returns-in-Some-held_record-clause-none : goal.returns-in-Some-held_record-clause-none
+returns-in-Some-held_record-clause-none c = grind (arith, common_steps)
+
+pub returns-in-Some-held_record-clause-among : goal.returns-in-Some-held_record-clause-among
+returns-in-Some-held_record-clause-among c = grind (arith, common_steps)
+
+pub returns-in-Some-held_record-clause-right : goal.returns-in-Some-held_record-clause-right
+returns-in-Some-held_record-clause-right c = grind (arith, common_steps)
+
+pub returns-in-Some-held_record-clause-rooms : goal.returns-in-Some-held_record-clause-rooms
+returns-in-Some-held_record-clause-rooms c = grind (arith, common_steps)
+
+pub returns-clause-none : goal.returns-clause-none
+returns-clause-none c = grind (arith, common_steps)
+
+pub returns-clause-among : goal.returns-clause-among
+returns-clause-among c = grind (arith, common_steps)
+
+pub returns-clause-right : goal.returns-clause-right
+returns-clause-right c = grind (arith, common_steps)
+
+pub returns-clause-rooms : goal.returns-clause-rooms
+returns-clause-rooms c = grind (arith, common_steps)

@@ -1,5 +1,6 @@
 use Rattle.std.proofs.Common.{◌-◌, ◌+◌, ◌<◌, List, length, map, get_or, Option, ◌∙◌, ap, arith, length-drop}
 use Rattle.std.specs.Prelude.{nat_eq, option_and_then}
+use Rattle.std.proofs.lemmas.Grind.{common_steps}
 use Rattle.kmn_base.specs.declared.items.Item.{Item}
 use Rattle.rule_model.specs.declared.event_state.Catch.{Catch}
 use Rattle.kmx_parts.specs.declared.context_item.ContextItem.{ContextItem}
@@ -10,7 +11,6 @@ use Rattle.rule_matching.specs.declared.taken.TakenItem.{TakenItem}
 use Rattle.rule_matching.specs.Matching.{catch_of, caught_by_taken, item_before, item_meaning}
 use Rattle.rule_matching.specs.Moment.{content_at}
 use Rattle.rule_matching.proofs.TakenItems.{one_is_taken, none_is_taken, all_is_taken}
-use Rattle.std.proofs.lemmas.Grind.{common_steps}
 use Rattle.rule_matching.proofs.matching.takes_context.Goals as goal
 
 pub loop-item-preserved : goal.loop-item-preserved
@@ -75,3 +75,27 @@ returns-then-ahead-eq0-clause-taken c = grind (arith, common_steps)
 
 pub push-requires-in-Some : goal.push-requires-in-Some
 push-requires-in-Some c = grind (arith, common_steps)
+
+pub returns-then-not-stands-clause-right : goal.returns-then-not-stands-clause-right
+returns-then-not-stands-clause-right c = grind (arith, common_steps)
+
+pub returns-then-not-stands-clause-rooms : goal.returns-then-not-stands-clause-rooms
+returns-then-not-stands-clause-rooms c = grind (arith, common_steps)
+
+pub returns-then-ahead-eq0-clause-right : goal.returns-then-ahead-eq0-clause-right
+returns-then-ahead-eq0-clause-right c = grind (arith, common_steps)
+
+pub returns-then-ahead-eq0-clause-rooms : goal.returns-then-ahead-eq0-clause-rooms
+returns-then-ahead-eq0-clause-rooms c = grind (arith, common_steps)
+
+pub returns-in-None-clause-right : goal.returns-in-None-clause-right
+returns-in-None-clause-right c = grind (arith, common_steps)
+
+pub returns-in-None-clause-rooms : goal.returns-in-None-clause-rooms
+returns-in-None-clause-rooms c = grind (arith, common_steps)
+
+pub returns-clause-right : goal.returns-clause-right
+returns-clause-right c = grind (arith, common_steps)
+
+pub returns-clause-rooms : goal.returns-clause-rooms
+returns-clause-rooms c = grind (arith, common_steps)

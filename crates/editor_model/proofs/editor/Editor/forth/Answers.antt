@@ -11,3 +11,9 @@ invariant_of-self c = grind (arith, common_steps)
 
 pub returns-clause-left : goal.returns-clause-left
 returns-clause-left c = grind (arith, common_steps)
+
+pub overflow_add-end : goal.overflow_add-end
+overflow_add-end c = grind (arith, common_steps)
+
+pub overflow_add-self : goal.overflow_add-self
+overflow_add-self c = grind (arith, common_steps)

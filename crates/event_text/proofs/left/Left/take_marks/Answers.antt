@@ -1,4 +1,4 @@
-use Rattle.std.proofs.Common.{◌≡◌, ◌∙◌, ap, sym, ℕ, List}
+use Rattle.std.proofs.Common.{◌≡◌, ◌∙◌, ap, sym, ℕ, List, arith}
 use Rattle.std.specs.List.{suffix_len}
 use Rattle.kmn_base.specs.declared.items.Item.{Item}
 use Rattle.kmn_base.specs.Lists.{is_mark, without_last}
@@ -14,3 +14,12 @@ returns-clause-items c =
     let count : c.end_marks-count.result ≡ suffix_len is_mark items
     = c.end_marks-count.ensures.value ∙ (marks_at_hand _ _ c.self.invariant.2 ∙ ap (suffix_len is_mark) (sym same)) in
     ap (λ (v : LeftValue). v.items) c.take.ensures ∙ ap (λ (n : ℕ). without_last n items) count
+
+pub returns-clause-cache : goal.returns-clause-cache
+returns-clause-cache c = grind (arith, marks_at_hand)
+
+pub returns-clause-lent : goal.returns-clause-lent
+returns-clause-lent c = grind (arith, marks_at_hand)
+
+pub returns-clause-put : goal.returns-clause-put
+returns-clause-put c = grind (arith, marks_at_hand)

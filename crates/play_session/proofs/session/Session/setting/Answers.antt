@@ -1,4 +1,5 @@
-use Rattle.std.proofs.Common.{false, refl, ◌∙◌, ap}
+use Rattle.std.proofs.Common.{false, refl, ◌∙◌, ap, arith}
+use Rattle.std.proofs.lemmas.Grind.{common_steps}
 use Rattle.kmn_base.specs.declared.events.Event.TheVariants as event
 use Rattle.rule_model.specs.Event.{happening}
 use Rattle.play_session.specs.Session.{SessionState, session_of, after_step}
@@ -13,3 +14,27 @@ returns-clause-leaves c =
     session_after session (event.Setting c.args.name.now c.args.value.now) c.setting_event.new.engine c.self.inside.editor c.next_step.new.number false c.put_changes.new.changes.items _
     c.in_ok-setting_event.ensures.tables c.in_ok-setting_event.ensures.state refl refl c.next_step.ensures.number was c.put_changes.ensures.changes
     ∙ ap (λ (s : SessionState). after_step s (event.Setting c.args.name.now c.args.value.now)) c.self.view_is
+
+pub invariant_of-self : goal.invariant_of-self
+unfolding happening
+invariant_of-self c = grind (arith, common_steps)
+
+pub invariant_of-self-2 : goal.invariant_of-self-2
+unfolding happening
+invariant_of-self-2 c = grind (arith, common_steps)
+
+pub returns-clause-happens : goal.returns-clause-happens
+unfolding happening
+returns-clause-happens c = grind (arith, common_steps)
+
+pub returns-clause-answer : goal.returns-clause-answer
+unfolding happening
+returns-clause-answer c = grind (arith, common_steps)
+
+pub returns-clause-refused : goal.returns-clause-refused
+unfolding happening
+returns-clause-refused c = grind (arith, common_steps)
+
+pub returns-clause-unchanged : goal.returns-clause-unchanged
+unfolding happening
+returns-clause-unchanged c = grind (arith, common_steps)

@@ -4,8 +4,9 @@ use Rattle.rule_model.specs.Content.{option_number}
 use Rattle.rule_model.specs.Keyboard.{Numbered}
 use Rattle.rule_model.specs.Tab.{tab}
 use Rattle.rule_matching.specs.PlaceMemory.{rooms}
-use Rattle.rule_matching.proofs.StoreContents.{is_option_within}
+use Rattle.rule_matching.proofs.StoreContents.{is_option_within, option_within}
 use Rattle.rule_engine.proofs.Truths.{acts_on_saved}
+use Rattle.rule_engine.proofs.OptionSteps.{save_follows, nothing_saved}
 use Rattle.rule_engine.proofs.event.PressEvent.save_current.Goals as goal
 
 pub invariant_of-self : goal.invariant_of-self
@@ -17,3 +18,9 @@ invariant_of-self c =
       acts_on_saved c.self.inside.indexed.now c.self.inside.options c.save.new.self c.self.inside.truths.items (rooms c.self.inside.places) c.args.store c.self.invariant.0 few option c.save.ensures,
       c.self.invariant.1,
     )
+
+pub returns-then-is_some : goal.returns-then-is_some
+returns-then-is_some c = grind (arith, option_within, save_follows, nothing_saved)
+
+pub returns-else-is_some : goal.returns-else-is_some
+returns-else-is_some c = grind (arith, option_within, save_follows, nothing_saved)

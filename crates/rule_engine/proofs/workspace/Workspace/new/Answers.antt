@@ -22,3 +22,6 @@ returns-clause-lines c = grind (arith, common_steps)
 
 pub returns-clause-places : goal.returns-clause-places
 returns-clause-places c = grind (arith, common_steps)
+
+pub overflow_cast-with_capacity : goal.overflow_cast-with_capacity
+overflow_cast-with_capacity c = grind (arith, common_steps)

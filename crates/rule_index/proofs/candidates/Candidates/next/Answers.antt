@@ -1,4 +1,5 @@
 use Rattle.std.proofs.Common.{◌+◌, Some, length, map, sym, subst, arith}
+use Rattle.std.proofs.lemmas.Grind.{common_steps}
 use Rattle.rule_index.specs.Next.{IsNext}
 use Rattle.rule_index.specs.Rows.{IsIndexOf}
 use Rattle.rule_index.specs.Walk.{CandidatesValue, LeadStands}
@@ -20,3 +21,18 @@ invariant_of-self-2 c =
       subst (λ wanted. LeadStands c.self.inside.rows.now wanted (c.in_ok-number.number + 1) c.next_of.new.lead) (sym c.next_of.ensures.wanted)
           (c.in_ok-number.ensures.lead c.self.invariant.1 c.self.invariant.2),
     )
+
+pub invariant_of-self-inside : goal.invariant_of-self-inside
+invariant_of-self-inside c = grind (arith, common_steps)
+
+pub returns-then-number-self-clause-rest : goal.returns-then-number-self-clause-rest
+returns-then-number-self-clause-rest c = grind (arith, common_steps)
+
+pub invariant_of-self-in_err-number : goal.invariant_of-self-in_err-number
+invariant_of-self-in_err-number c = grind (arith, common_steps)
+
+pub returns-clause-next : goal.returns-clause-next
+returns-clause-next c = grind (arith, common_steps)
+
+pub returns-clause-rest : goal.returns-clause-rest
+returns-clause-rest c = grind (arith, common_steps)

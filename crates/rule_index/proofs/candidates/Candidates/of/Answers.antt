@@ -14,3 +14,9 @@ invariant_of-result-2 c = (
     alone = λ classes index n j behind before. absurd (omega arith);
   },
 )
+
+pub invariant_of-result : goal.invariant_of-result
+invariant_of-result c = grind (arith, common_steps)
+
+pub returns : goal.returns
+returns c = grind (arith, common_steps)

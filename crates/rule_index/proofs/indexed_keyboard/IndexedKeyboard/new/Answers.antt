@@ -1,7 +1,9 @@
-use Rattle.std.proofs.Common.{◌≤◌, ◌∙◌, All, List, length, subst, sym}
+use Rattle.std.proofs.Common.{◌≤◌, ◌∙◌, All, List, length, subst, sym, arith}
+use Rattle.std.proofs.lemmas.Grind.{common_steps}
 use Rattle.kmn_base.specs.declared.items.Element.{Element}
 use Rattle.kmn_base.specs.declared.limits.TheConstants.{STORE_ELEMENTS}
 use Rattle.rule_index.proofs.StoreIndexes.{few_in_all, few_of_all}
+use Rattle.rule_model.specs.Tab.{tab}
 use Rattle.rule_index.proofs.indexed_keyboard.IndexedKeyboard.new.Goals as goal
 
 pub of-requires-clause-few : goal.of-requires-clause-few
@@ -11,3 +13,11 @@ of-requires-clause-few c =
 
 pub of-requires-clause-count : goal.of-requires-clause-count
 of-requires-clause-count c = few_in_all c.args.file c.as_slice-2.result.now (c.as_slice-2.ensures.value ∙ c.in_ok-stores.ensures) c.requires.stores
+
+pub invariant_of-result : goal.invariant_of-result
+unfolding tab
+invariant_of-result c = grind (arith, common_steps)
+
+pub returns : goal.returns
+unfolding tab
+returns c = grind (arith, common_steps)
