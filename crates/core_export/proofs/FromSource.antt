@@ -16,7 +16,7 @@ use Rattle.compile_laws.specs.Compiles.{file_group}
 use Rattle.compile_laws.specs.Numbers.{numbers_of}
 use Rattle.compile_laws.specs.Ordered.{ordered_group, compiled_tables}
 use Rattle.kmn_compiler.specs.Source.{IsCompiledFrom}
-use Rattle.checker_laws.proofs.Sources.{accepted_parts}
+use Rattle.rule_checker.proofs.Sources.{accepted_parts}
 use Rattle.core_export.specs.Export.{zero_unit}
 use Rattle.core_export.specs.ExportLaws.{IsFirstNamed, CompiledFilesAreExported}
 use Rattle.core_export.proofs.Filed.{written_files_are_exported}

@@ -10,7 +10,7 @@ use Rattle.kmn_base.specs.declared.codes.Code.TheVariants.{V09, V10, V15}
 use Rattle.kmn_base.specs.declared.keys.TheConstants.{SHIFT_FLAGS}
 use Rattle.kmn_base.specs.declared.limits.TheConstants.{FILE_NAME_UNITS, CONTEXT_ITEMS, OUTPUT_ITEMS, RECORDS}
 use Rattle.kmn_base.specs.declared.units.UnitItem.{UnitItem}
-use Rattle.item_codec.specs.Walk.{results_of}
+use Rattle.kmx_format.specs.Walk.{results_of}
 use Rattle.rule_model.specs.declared.tables.Store.{Store}
 use Rattle.rule_model.specs.declared.tables.Rule.{Rule}
 use Rattle.rule_model.specs.declared.tables.Group.{Group}

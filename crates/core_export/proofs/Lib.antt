@@ -12,3 +12,6 @@ pub mod Outside
 pub mod Replaced
 pub mod Steps
 pub mod Units
+pub mod Counts
+pub mod SavedOnce
+pub mod Sets

@@ -7,7 +7,7 @@ use Rattle.kmx_format.specs.declared.sizes.TheConstants.{STORE_BYTES, GROUP_BYTE
 use Rattle.kmx_format.specs.TablesOf.{word_at, string_at, tables_of}
 use Rattle.kmx_parts.specs.View.{store_count, group_count}
 use Rattle.kmx_verifier.specs.FaultOf.{IsValid}
-use Rattle.core_differences.specs.Saves.{saving_line}
+use Rattle.core_export.specs.Saves.{saving_line}
 use Rattle.core_export.specs.Checksum.{checksum}
 use Rattle.core_export.specs.Words.{with_word}
 use Rattle.core_export.specs.declared.errors.ExportError.{ExportError}

@@ -1,6 +1,7 @@
 //! Laws of `specs/ExportLaws`, each the contract of a function with an empty body.
 
 ghost use Rattle.core_export.specs.ExportLaws.{WrittenFilesAreExported, NamedFilesHaveZeroUnits, CompiledFilesAreExported, ExportingKeepsMeaning, ExportedFilesStay};
+ghost use Rattle.core_export.specs.Laws.{NoEventSavesTwice};
 
 /// A file that is written of tables says the same with its words replaced: `export` never answers `Entangled` of it.
 pub fn written_files_are_exported()
@@ -25,4 +26,10 @@ pub fn exporting_keeps_meaning()
 /// What was exported is exported to itself.
 pub fn exported_files_stay()
     ensures { ExportedFilesStay }
+{}
+
+/// Where `saving_line` tells no line, no event of the keyboard saves twice, for every list of events.
+#[tactic(auto, using(crate::proofs::SavedOnce::no_event_saves_twice))]
+pub fn no_event_saves_twice()
+    ensures { NoEventSavesTwice }
 {}

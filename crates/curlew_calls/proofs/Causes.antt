@@ -11,7 +11,7 @@ use Rattle.rule_model.specs.declared.tables.Tables.{Tables}
 use Rattle.rule_model.specs.Event.{State, Happening, event_of, event_refusal, happening, unless_refused, whole_text}
 use Rattle.rule_model.specs.Tab.{tab}
 use Rattle.std.proofs.lemmas.Option.{none-some}
-use Rattle.call_numbers.specs.Numbers.{text_of}
+use Rattle.curlew_calls.specs.Numbers.{text_of}
 use Rattle.kmn_base.specs.declared.codes.Code.{Code}
 use Rattle.play_session.specs.declared.session.StepError.{StepError}
 use Rattle.play_session.specs.declared.session.StepError.TheVariants as step

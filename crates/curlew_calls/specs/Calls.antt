@@ -14,7 +14,7 @@ use Rattle.rule_engine.specs.Engine.{name_of}
 use Rattle.play_session.specs.Changes.{option_stores}
 use Rattle.play_session.specs.Session.{SessionState, after_step}
 use Rattle.curlew_calls.specs.declared.field.Edit.{Edit}
-use Rattle.call_numbers.specs.Numbers.{bit}
+use Rattle.curlew_calls.specs.Numbers.{bit}
 
 -- a key that goes down
 abbrev pub key : ℕ → ℕ → Event

@@ -15,10 +15,10 @@ ghost use Rattle.play_session.specs.Printed.{value_of};
 ghost use Rattle.play_session.specs.Session.{first_session, happened, after_step};
 ghost use Rattle.curlew_calls.specs.Answers.{IsCause, IsCaretCause, IsSettingCause};
 ghost use Rattle.curlew_calls.specs.Calls.{key, Happens, edit_of, text_at, edit_before, told_before, knows_option, is_option_named, own_key_code};
-ghost use Rattle.call_numbers.specs.Numbers.{written, item_numbers, element_numbers};
+ghost use Rattle.curlew_calls.specs.Numbers.{written, item_numbers, element_numbers};
 
 use crate::errors::CallError;
-use call_numbers::{characters, put_bytes, put_characters, put_elements, put_items, put_utf8};
+use crate::{characters, put_bytes, put_characters, put_elements, put_items, put_utf8};
 use kmn_base::names::same_name;
 use kmn_base::{Event, KeyPress, Memory, Seq};
 use kmx_verifier::{VerifyError, verify};

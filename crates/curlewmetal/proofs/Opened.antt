@@ -3,7 +3,7 @@ use Rattle.std.proofs.Common.{◌≡◌, ℕ, List, [], length, Option, Some, No
 use Rattle.std.proofs.lemmas.Option.{none-some, same_Some}
 use Rattle.std.specs.Prelude.{MatchOption, option_map, unwrap_or}
 use Rattle.kmn_base.specs.declared.items.Element.{Element}
-use Rattle.call_numbers.specs.Numbers.{written, element_numbers}
+use Rattle.curlew_calls.specs.Numbers.{written, element_numbers}
 use Rattle.play_session.specs.Session.{SessionState}
 use Rattle.curlew_calls.specs.declared.errors.CallError.{CallError}
 use Rattle.curlew_calls.specs.declared.errors.CallError.TheVariants.{Memory, Place, Length, Character, NoOption}

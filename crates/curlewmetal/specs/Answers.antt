@@ -2,7 +2,7 @@
 use Rattle.std.specs.Prelude.{◌≡◌, ℕ, Bool, not, nat_eq, Option, Some, None, MatchBool}
 use Rattle.play_session.specs.Session.{SessionState}
 use Rattle.kmx_verifier.specs.declared.faults.Fault.{Fault}
-use Rattle.call_numbers.specs.Numbers.{rule_number}
+use Rattle.curlew_calls.specs.Numbers.{rule_number}
 use Rattle.curlew_calls.specs.declared.errors.CallError.{CallError}
 use Rattle.curlew_calls.specs.declared.errors.CallError.TheVariants.{Memory, Place, Length, Character, NoOption}
 use Rattle.curlewmetal.specs.declared.answers.FaultNumbers.{FaultNumbers}

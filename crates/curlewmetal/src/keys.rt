@@ -4,7 +4,7 @@ ghost use Rattle.std.specs.Prelude.{◌≡◌, length, [], None, Some, unwrap_or
 ghost use Rattle.virtual_keys.specs.Keys.{key_code};
 ghost use Rattle.rule_model.specs.Event.{event_refusal};
 ghost use Rattle.play_session.specs.Session.{happened, after_step};
-ghost use Rattle.call_numbers.specs.Numbers.{written};
+ghost use Rattle.curlew_calls.specs.Numbers.{written};
 ghost use Rattle.curlew_calls.specs.Answers.{IsCause};
 ghost use Rattle.curlew_calls.specs.Calls.{key, Happens, edit_of, own_key_code};
 ghost use Rattle.curlewmetal.specs.Answers.{Answers};

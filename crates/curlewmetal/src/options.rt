@@ -5,7 +5,7 @@ ghost use Rattle.kmn_base.specs.declared.events.Event.TheVariants as event;
 ghost use Rattle.rule_engine.specs.Engine.{name_of};
 ghost use Rattle.play_session.specs.Printed.{value_of};
 ghost use Rattle.play_session.specs.Session.{after_step};
-ghost use Rattle.call_numbers.specs.Numbers.{written, bit, element_numbers};
+ghost use Rattle.curlew_calls.specs.Numbers.{written, bit, element_numbers};
 ghost use Rattle.curlew_calls.specs.Answers.{IsSettingCause};
 ghost use Rattle.curlew_calls.specs.Calls.{knows_option};
 ghost use Rattle.curlewmetal.specs.Answers.{ok_answer, closed_answer, none_answer, Answers, UnlessMemory, is_set};

@@ -5,7 +5,7 @@ ghost use Rattle.kmn_base.specs.declared.events.Event.TheVariants as event;
 ghost use Rattle.kmn_base.specs.Lists.{window};
 ghost use Rattle.rule_model.specs.Event.{event_refusal};
 ghost use Rattle.play_session.specs.Session.{after_step};
-ghost use Rattle.call_numbers.specs.Numbers.{written, item_numbers};
+ghost use Rattle.curlew_calls.specs.Numbers.{written, item_numbers};
 ghost use Rattle.curlew_calls.specs.Answers.{IsCause, IsCaretCause};
 ghost use Rattle.curlew_calls.specs.Calls.{Happens, text_at, edit_before, told_before};
 ghost use Rattle.curlewmetal.specs.Answers.{Answers, is_set};

@@ -14,8 +14,8 @@ use Rattle.rule_checker.specs.Refused.{IsRead, refused}
 use Rattle.kmx_format.specs.TablesOf.{tables_of}
 use Rattle.kmx_format.specs.Playable.{IsPlayable}
 use Rattle.compile_laws.specs.Numbers.{dictionary_stores}
-use Rattle.checker_laws.proofs.Reading.{own_keys_read}
-use Rattle.kmn_text.proofs.Programs.{programs_read_back}
+use Rattle.rule_checker.proofs.Reading.{own_keys_read}
+use Rattle.kmn_parser.proofs.Programs.{programs_read_back}
 use Rattle.decompile_laws.specs.Back.{back}
 use Rattle.decompile_laws.proofs.Numbering.{keys-are}
 use Rattle.decompile_causes.specs.Laws.{HasTextNames, HasText, SpelledIsSpelled, SpelledNamesStand, SpelledItemsStand, TextIsAccepted, TextKeepsMeaning}

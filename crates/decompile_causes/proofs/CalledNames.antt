@@ -8,12 +8,12 @@ use Rattle.std.proofs.lemmas.List.Elements.{All-nil, All-cons, All-weaker, All-m
 use Rattle.kmn_items.specs.Words.{is_system_name}
 use Rattle.rule_model.specs.declared.tables.Store.{Store}
 use Rattle.rule_model.specs.declared.tables.Group.{Group}
-use Rattle.kmn_text.specs.Names.{is_source_name}
-use Rattle.kmn_text.specs.Spelled.{IsSpelledName, IsStoreName}
+use Rattle.kmn_parser.specs.Names.{is_source_name}
+use Rattle.kmn_parser.specs.Spelled.{IsSpelledName, IsStoreName}
 use Rattle.decompile_laws.specs.Names.{written_ids, is_written, numbered_name, is_free, free_names, keeps_name, keeps_store_name, store_names, group_names}
 use Rattle.decompile_laws.specs.WrittenOut.{is_ordinary}
 use Rattle.decompile_laws.proofs.Calls.{written-here}
-use Rattle.kmn_lines.proofs.Sizes.{clash}
+use Rattle.kmn_lines.proofs.TextSizes.{clash}
 
 range-below : (from count bound : ℕ) → from + count ≤ bound → All (λ n. n < bound) (range_with_len from count)
 range-below from zero bound h = All-nil (λ n. n < bound)

@@ -37,20 +37,20 @@ use Rattle.kmx_format.proofs.FileLaw.{law}
 use Rattle.kmn_names.specs.Known.{known}
 use Rattle.item_checker.specs.Items.{is_option, rule_code, rule_refusal, rules_refusal}
 use Rattle.rule_checker.specs.Refused.{IsRead, refused}
-use Rattle.checker_laws.proofs.Unrefused.{none_at_line, Stands, none_first}
-use Rattle.checker_laws.proofs.Lists.{All-append_parts, all_true}
-use Rattle.checker_laws.proofs.Accepted.{IsUnrefused, unrefused}
-use Rattle.checker_laws.proofs.Named.{well_named}
-use Rattle.checker_laws.proofs.Numbers.{has_keys, has_marks, keys_appear, marks_appear, rule_items_pass}
-use Rattle.checker_laws.proofs.Reading.{AreReadItems, all_rules_read}
-use Rattle.checker_laws.proofs.Written.{tables_written}
-use Rattle.checker_laws.proofs.Placeless.{placeless_options}
+use Rattle.rule_checker.proofs.Unrefused.{none_at_line, Stands, none_first}
+use Rattle.rule_checker.proofs.Lists.{All-append_parts, all_true}
+use Rattle.rule_checker.proofs.Accepted.{IsUnrefused, unrefused}
+use Rattle.rule_checker.proofs.Named.{well_named}
+use Rattle.rule_checker.proofs.Numbers.{has_keys, has_marks, keys_appear, marks_appear, rule_items_pass}
+use Rattle.rule_checker.proofs.Reading.{AreReadItems, all_rules_read}
+use Rattle.rule_checker.proofs.Written.{tables_written}
+use Rattle.rule_checker.proofs.Placeless.{placeless_options}
 use Rattle.decompile_laws.specs.Items.{Names, store_called}
 use Rattle.decompile_laws.specs.Names.{named_stores}
 use Rattle.decompile_laws.specs.Back.{free_stores, mark_stores, key_stores, names_for}
 use Rattle.decompile_laws.proofs.Apart.{same-turned}
 use Rattle.decompile_laws.proofs.OptionNames.{option-named}
-use Rattle.kmn_text.specs.Names.{is_source_name}
+use Rattle.kmn_parser.specs.Names.{is_source_name}
 use Rattle.kmn_items.specs.Words.{is_system_name}
 use Rattle.rule_model.specs.declared.program.SrcItem.{SrcItem}
 use Rattle.decompile_causes.specs.Causes.{is_dictionary_name, are_repeated, is_unspelled_element, is_first_dictionary, is_unspelled_dictionary, is_unspelled_option, is_unspelled_store}
@@ -66,7 +66,7 @@ use Rattle.decompile_causes.proofs.StatedStores.{IsStatedStore, all_stated, char
 use Rattle.decompile_causes.proofs.UsedOptions.{option_used, none_before}
 use Rattle.decompile_causes.proofs.Conjunctions.{fails-when}
 use Rattle.decompile_causes.proofs.GroupRules.{rules_of}
-use Rattle.kmn_lines.proofs.Sizes.{clash}
+use Rattle.kmn_lines.proofs.TextSizes.{clash}
 
 module _ (program : Program) (read : IsRead program) (accepted : refused program ≡ None) (written : WasWritten program) (tables : Tables) (compiles : Compiles program tables) where
   abbrev whole : IsUnrefused program

@@ -22,11 +22,11 @@ use Rattle.rule_model.specs.Tab.{store_elements}
 use Rattle.rule_model.specs.Naming.{names_of, stores_of, stores_onto, store_of, is_dropped, mark_number, key_number, elements_named, item_elements}
 use Rattle.compile_laws.proofs.Places.{first_place}
 use Rattle.virtual_keys.proofs.NamePlaces.{some_place}
-use Rattle.checker_laws.proofs.Accepted.{IsUnrefused}
-use Rattle.checker_laws.proofs.Within.{few_marks}
-use Rattle.checker_laws.proofs.Numbers.{place_below, place_either_way, has_keys, has_marks, keys_appear, marks_appear, store_items_pass}
-use Rattle.kmn_text.specs.Spelled.{IsSpelledKey}
-use Rattle.kmn_text.proofs.Keys.{found, some-mapped}
+use Rattle.rule_checker.proofs.Accepted.{IsUnrefused}
+use Rattle.rule_checker.proofs.Within.{few_marks}
+use Rattle.rule_checker.proofs.Numbers.{place_below, place_either_way, has_keys, has_marks, keys_appear, marks_appear, store_items_pass}
+use Rattle.kmn_parser.specs.Spelled.{IsSpelledKey}
+use Rattle.kmn_parser.proofs.Keys.{found, some-mapped}
 use Rattle.decompile_laws.specs.Items.{Names}
 use Rattle.decompile_laws.specs.WrittenOut.{has_key_name}
 use Rattle.decompile_causes.specs.Causes.{is_far_mark, is_unspelled_element}

@@ -25,7 +25,7 @@ use Rattle.compile_laws.proofs.Ordered.{in_order_permutes}
 use Rattle.kmn_items.specs.declared.syntax.Where.TheVariants as section
 use Rattle.kmn_items.specs.declared.syntax.Seen.{Seen}
 use Rattle.kmn_items.specs.Item.{unseen}
-use Rattle.kmn_text.specs.Spelled.{IsSpelledItem, item_lead, seen_lead, AreSpelled, IsSpelledRule, AreSpelledRules, AreSpelledGroups}
+use Rattle.kmn_parser.specs.Spelled.{IsSpelledItem, item_lead, seen_lead, AreSpelled, IsSpelledRule, AreSpelledRules, AreSpelledGroups}
 use Rattle.decompile_laws.specs.Items.{Names, back_key}
 use Rattle.decompile_laws.specs.Back.{back_rule, back_rules, back_statement, match_line, nomatch_line, back_group, back_groups, names_for, written_stores, written_begins, back}
 use Rattle.decompile_laws.proofs.Choosing.{all_join}

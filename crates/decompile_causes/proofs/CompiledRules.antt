@@ -43,13 +43,13 @@ use Rattle.kmn_names.specs.Known.{known}
 use Rattle.item_checker.specs.Items.{is_no_character, is_pattern_item, context_item_code, context_code, key_code, rule_output_code, rule_code}
 use Rattle.rule_checker.specs.Refused.{IsRead}
 use Rattle.kmn_names.specs.First.{or_else, first_code}
-use Rattle.checker_laws.proofs.Unrefused.{none_both}
-use Rattle.checker_laws.proofs.Lists.{All-append_parts}
-use Rattle.checker_laws.proofs.Accepted.{IsUnrefused}
-use Rattle.checker_laws.proofs.Numbers.{has_keys, has_marks}
-use Rattle.checker_laws.proofs.Elements.{IsSoundElement, found_sound, stated_sound}
-use Rattle.kmn_text.specs.Names.{is_inner}
-use Rattle.kmn_text.specs.Spelled.{IsSpelledName, IsSpelledValue}
+use Rattle.rule_checker.proofs.Unrefused.{none_both}
+use Rattle.rule_checker.proofs.Lists.{All-append_parts}
+use Rattle.rule_checker.proofs.Accepted.{IsUnrefused}
+use Rattle.rule_checker.proofs.Numbers.{has_keys, has_marks}
+use Rattle.rule_checker.proofs.Elements.{IsSoundElement, found_sound, stated_sound}
+use Rattle.kmn_parser.specs.Names.{is_inner}
+use Rattle.kmn_parser.specs.Spelled.{IsSpelledName, IsSpelledValue}
 use Rattle.decompile_laws.specs.Items.{Names}
 use Rattle.decompile_laws.specs.WrittenOut.{has_key_name}
 use Rattle.decompile_laws.proofs.Choosing.{all_join}

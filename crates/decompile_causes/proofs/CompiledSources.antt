@@ -3,8 +3,8 @@ use Rattle.std.specs.Prelude.{option_map}
 use Rattle.kmx_format.specs.File.{file_of}
 use Rattle.kmx_format.specs.TablesOf.{tables_of}
 use Rattle.kmn_names.specs.First.{or_else}
-use Rattle.checker_laws.proofs.Written.{tables_written}
-use Rattle.checker_laws.proofs.Sources.{source_read, accepted_parts}
+use Rattle.rule_checker.proofs.Written.{tables_written}
+use Rattle.rule_checker.proofs.Sources.{source_read, accepted_parts}
 use Rattle.decompile_laws.specs.Back.{back}
 use Rattle.decompile_causes.specs.declared.no_spelling.NoSpelling.TheVariants.{Unspelled}
 use Rattle.decompile_causes.specs.Excess.{excess}

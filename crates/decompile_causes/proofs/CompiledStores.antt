@@ -18,9 +18,9 @@ use Rattle.compile_laws.specs.WellNamed.{is_store}
 use Rattle.compile_laws.proofs.Places.{FirstPlace, first_place, at_place, slice_get-append_left}
 use Rattle.kmn_names.specs.Known.{known}
 use Rattle.rule_checker.specs.Refused.{IsRead}
-use Rattle.checker_laws.proofs.Accepted.{IsUnrefused}
-use Rattle.kmn_text.specs.Names.{is_source_name}
-use Rattle.kmn_text.specs.Spelled.{IsSpelledName}
+use Rattle.rule_checker.proofs.Accepted.{IsUnrefused}
+use Rattle.kmn_parser.specs.Names.{is_source_name}
+use Rattle.kmn_parser.specs.Spelled.{IsSpelledName}
 use Rattle.kmn_items.specs.Words.{is_system_name}
 use Rattle.decompile_laws.specs.Items.{Names}
 use Rattle.decompile_laws.specs.Names.{is_written, is_free, keeps_name, keeps_store_name, store_names}
@@ -30,7 +30,7 @@ use Rattle.decompile_causes.specs.Written.{WasWritten}
 use Rattle.decompile_causes.proofs.CompiledElements.{IsFineStore}
 use Rattle.decompile_causes.proofs.Sayable.{AreSayable}
 use Rattle.decompile_causes.proofs.StatedStores.{IsStatedStore, all_stated}
-use Rattle.kmn_lines.proofs.Sizes.{clash}
+use Rattle.kmn_lines.proofs.TextSizes.{clash}
 
 -- what all elements of a list have, the one of a number has
 pub all_at : {X : Type 0} (P : X → Type 0) (xs : List X) → All P xs → (i : ℕ) (x : X) → slice_get xs i ≡ Some x → P x

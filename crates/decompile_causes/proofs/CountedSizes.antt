@@ -22,8 +22,8 @@ use Rattle.kmx_format.specs.Playable.{IsPlayable}
 use Rattle.kmn_names.specs.Known.{Known, known, statement_elements}
 use Rattle.limit_checker.specs.Limits.{items_of, values_of_statement, statement_size, store_size, dictionary_size, sizes, have_many_elements, limits_refusal}
 use Rattle.rule_checker.specs.Refused.{IsRead}
-use Rattle.checker_laws.proofs.Sizes.{element_count, items_in_order, values_in_order, stores_in_order, dictionary_sized, values_sized}
-use Rattle.checker_laws.proofs.Reading.{own_keys_read}
+use Rattle.rule_checker.proofs.Sizes.{element_count, items_in_order, values_in_order, stores_in_order, dictionary_sized, values_sized}
+use Rattle.rule_checker.proofs.Reading.{own_keys_read}
 use Rattle.decompile_laws.specs.Names.{named_stores}
 use Rattle.decompile_laws.specs.Back.{back_stores, numbered, front_stores, names_for, written_stores, back}
 use Rattle.decompile_laws.specs.WrittenOut.{CanBeWrittenOut}

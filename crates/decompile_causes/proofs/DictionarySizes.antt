@@ -21,8 +21,8 @@ use Rattle.rule_model.specs.Tab.{distinct_onto, element_char, is_dictionary, sto
 use Rattle.limit_checker.specs.Limits.{names_size}
 use Rattle.kmx_format.specs.Playable.{IsPlayable, IsPlayableStore}
 use Rattle.compile_laws.specs.Numbers.{dictionary_stores}
-use Rattle.checker_laws.proofs.Sizes.{joined_size}
-use Rattle.kmn_text.proofs.Values.{all-scalars}
+use Rattle.rule_checker.proofs.Sizes.{joined_size}
+use Rattle.kmn_parser.proofs.Values.{all-scalars}
 use Rattle.decompile_laws.proofs.Characters.{characters-few}
 use Rattle.decompile_causes.proofs.SpelledItems.{value-characters}
 use Rattle.decompile_causes.proofs.ShortTexts.{IsShortStore}

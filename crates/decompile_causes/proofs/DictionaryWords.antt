@@ -16,7 +16,7 @@ use Rattle.rule_model.specs.Naming.{names_of, rule_items, all_rules, store_items
 use Rattle.rule_model.specs.Tab.{distinct_onto, element_char, words}
 use Rattle.compile_laws.specs.WellNamed.{is_word}
 use Rattle.compile_laws.proofs.Dictionary.{read_chars, words_again}
-use Rattle.checker_laws.proofs.Lists.{All-flat_map, All-distinct, all_pass}
+use Rattle.rule_checker.proofs.Lists.{All-flat_map, All-distinct, all_pass}
 use Rattle.decompile_causes.specs.Causes.{is_dictionary_name, are_repeated, is_unspelled_dictionary}
 use Rattle.decompile_causes.specs.Written.{IsWrittenItem, IsWrittenStore, IsWrittenRule, WasWritten}
 use Rattle.decompile_causes.proofs.SpelledKeys.{IsKeyName}

@@ -30,7 +30,7 @@ use Rattle.kmx_format.specs.Playable.{IsPlayable, IsPlayableGroup}
 use Rattle.kmn_names.specs.Known.{Known, known}
 use Rattle.limit_checker.specs.Limits.{Statement, OfStore, OfRule, in_line_order, item_size, output_size, cased_codes, virtual_count, key_count, records_of_statement, record_count, mark_count, all_records, group_refusal}
 use Rattle.limit_checker.proofs.FirstPassed.{sum_append}
-use Rattle.checker_laws.proofs.Sizes.{items_in_order}
+use Rattle.rule_checker.proofs.Sizes.{items_in_order}
 use Rattle.kmn_names.specs.First.{first_of}
 use Rattle.decompile_laws.specs.Marks.{greatest_mark}
 use Rattle.decompile_laws.specs.Items.{Names, back_pattern, back_output, back_key, some_items, key_called}

@@ -6,7 +6,7 @@ use Rattle.kmx_format.specs.TablesOf.{tables_of}
 use Rattle.kmx_format.specs.Writable.{IsWritable}
 use Rattle.compile_laws.specs.Ordered.{compiled_tables}
 use Rattle.compile_laws.proofs.Ordered.{tables_are_only_ones}
-use Rattle.checker_laws.proofs.Written.{tables_written}
+use Rattle.rule_checker.proofs.Written.{tables_written}
 use Rattle.decompile_laws.specs.Back.{back}
 use Rattle.decompile_laws.proofs.Uncased.{uncased}
 use Rattle.decompile_causes.specs.Laws.{TextFits}

@@ -24,7 +24,7 @@ use Rattle.rule_model.specs.Src.{is_on_match, is_on_nomatch}
 use Rattle.kmn_names.specs.declared.stating.Stated.{Stated}
 use Rattle.kmn_names.specs.First.{broken, first_code, first_of}
 use Rattle.kmn_names.specs.Names.{is_named, names_no_store, names_no_group, is_second, is_again, rule_item_code, rule_code, rule_refusal, rules_refusal}
-use Rattle.checker_laws.proofs.Unrefused.{none_both}
+use Rattle.rule_checker.proofs.Unrefused.{none_both}
 use Rattle.decompile_laws.specs.Items.{Names, store_called, group_called, back_pattern, back_output, back_key, some_items}
 use Rattle.decompile_laws.specs.Back.{back_rule, back_rules, back_statement, match_line, nomatch_line, back_group, back_groups}
 use Rattle.decompile_laws.proofs.Good.{IsNamed, GoodPattern, GoodOutput, GoodRule, GoodGroup}

@@ -46,3 +46,4 @@ pub mod WrittenItems
 pub mod WrittenNames
 pub mod WrittenOut
 pub mod WrittenPrograms
+pub mod Texts

@@ -10,10 +10,10 @@ use Rattle.kmx_format.specs.Playable.{IsPlayable}
 use Rattle.compile_laws.specs.Compiles.{Compiles}
 use Rattle.compile_laws.proofs.Whole.{meaning_kept}
 use Rattle.rule_checker.specs.Refused.{IsRead, refused}
-use Rattle.checker_laws.proofs.Named.{well_named}
-use Rattle.checker_laws.proofs.Sources.{source_read}
-use Rattle.kmn_text.specs.Programs.{program_text}
-use Rattle.kmn_text.proofs.Programs.{programs_read_back}
+use Rattle.rule_checker.proofs.Named.{well_named}
+use Rattle.rule_checker.proofs.Sources.{source_read}
+use Rattle.kmn_parser.specs.Programs.{program_text}
+use Rattle.kmn_parser.proofs.Programs.{programs_read_back}
 use Rattle.decompile_laws.specs.Back.{back}
 use Rattle.decompile_laws.proofs.Whole.{decompiling_keeps_meaning}
 use Rattle.decompile_causes.specs.Unspelled.{unspelled}

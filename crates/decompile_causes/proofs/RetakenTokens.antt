@@ -5,7 +5,7 @@ use Rattle.std.proofs.lemmas.List.{length-take-le}
 use Rattle.kmn_base.specs.Bytes.{is_quote}
 use Rattle.kmn_lines.specs.Bytes.{first_or_end}
 use Rattle.kmn_lines.specs.Tokens.{single, is_unequal, in_word, word_size, quoted_size, starts_number, plain_size, token_size}
-use Rattle.kmn_lines.proofs.Sizes.{take-one, in_word-plain, in_word-from, token_size-within, not_number-take, number-take, number-digit, first-take}
+use Rattle.kmn_lines.proofs.TextSizes.{take-one, in_word-plain, in_word-from, token_size-within, not_number-take, number-take, number-digit, first-take}
 
 -- a byte of a word is one where the text is cut off
 word-cut : (byte m : ℕ) (bytes : List ℕ) → in_word byte (first_or_end bytes) ≡ true → in_word byte (first_or_end (take m bytes)) ≡ true

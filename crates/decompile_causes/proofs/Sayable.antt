@@ -17,7 +17,7 @@ use Rattle.kmx_format.specs.declared.sizes.TheConstants.{STORE_BYTES, GROUP_BYTE
 use Rattle.kmx_format.specs.TablesOf.{word_at, tables_of}
 use Rattle.kmn_parser.proofs.ReadStatements.{mapped-none}
 use Rattle.kmn_names.specs.First.{or_else}
-use Rattle.checker_laws.proofs.Unrefused.{none_both}
+use Rattle.rule_checker.proofs.Unrefused.{none_both}
 use Rattle.decompile_laws.specs.Items.{Names}
 use Rattle.decompile_laws.specs.Back.{names_for, back}
 use Rattle.decompile_laws.specs.WrittenOut.{fall_from, has_falling_contexts}

@@ -13,7 +13,7 @@ use Rattle.rule_model.specs.Naming.{SourceNames, names_of, stores_of, store_of}
 use Rattle.rule_model.specs.Tab.{tab_dictionary}
 use Rattle.compile_laws.specs.Numbers.{values_of, value_store, dictionary_stores, compiled_stores}
 use Rattle.kmx_format.specs.Playable.{IsPlayable}
-use Rattle.checker_laws.proofs.Sizes.{element_count}
+use Rattle.rule_checker.proofs.Sizes.{element_count}
 use Rattle.decompile_laws.specs.Marks.{greatest_mark}
 use Rattle.decompile_laws.specs.Back.{back_stores, numbered, mark_stores, front_stores, free_stores, names_for, written_stores, back}
 use Rattle.decompile_laws.specs.WrittenOut.{CanBeWrittenOut}

@@ -25,7 +25,7 @@ use Rattle.rule_model.specs.Tab.{elements_of, element_char}
 use Rattle.rule_model.specs.Naming.{rule_items}
 use Rattle.compile_laws.specs.Numbers.{item_values, values_of}
 use Rattle.kmx_format.specs.Playable.{IsPlayable, IsPlayableStore}
-use Rattle.checker_laws.proofs.Lists.{All-distinct, all_of}
+use Rattle.rule_checker.proofs.Lists.{All-distinct, all_of}
 use Rattle.decompile_laws.specs.Items.{Names, value_called, back_pattern, back_output, back_key, some_items}
 use Rattle.decompile_laws.specs.Back.{back_rule, back_rules, back_statement, match_line, nomatch_line, back_group, back_groups, names_for, written_stores, written_begins, back}
 use Rattle.decompile_laws.proofs.Characters.{characters-few}

@@ -34,8 +34,8 @@ use Rattle.rule_model.specs.Tab.{elements_of, element_char}
 use Rattle.kmx_format.specs.FileUnits.{unit_item_of_element}
 use Rattle.kmx_format.specs.Playable.{IsPlayableStore}
 use Rattle.kmx_format.specs.Writable.{IsWritableKey}
-use Rattle.kmn_text.specs.Names.{is_inner}
-use Rattle.kmn_text.specs.Spelled.{IsSpelledName, IsSpelledValue, IsSpelledItem, AreSpelled, IsSpelledAsKey, item_lead, seen_lead}
+use Rattle.kmn_parser.specs.Names.{is_inner}
+use Rattle.kmn_parser.specs.Spelled.{IsSpelledName, IsSpelledValue, IsSpelledItem, AreSpelled, IsSpelledAsKey, item_lead, seen_lead}
 use Rattle.decompile_laws.specs.Items.{Names, back_element, back_pattern, back_output, back_key, some_items}
 use Rattle.decompile_laws.specs.WrittenOut.{has_key_name}
 use Rattle.item_checker.specs.Items.{is_no_character}

@@ -19,9 +19,9 @@ use Rattle.rule_model.specs.declared.tables.Store.{Store}
 use Rattle.rule_model.specs.declared.tables.Tables.{Tables}
 use Rattle.rule_model.specs.Tab.{words, element_char, store_elements, is_dictionary, tab_dictionary, tab_options}
 use Rattle.virtual_keys.proofs.NamePlaces.{position_cons}
-use Rattle.checker_laws.proofs.Lists.{All-distinct, all_true}
-use Rattle.kmn_text.specs.Names.{is_source_name}
-use Rattle.kmn_text.specs.Spelled.{IsSpelledName, IsSpelledKey}
+use Rattle.rule_checker.proofs.Lists.{All-distinct, all_true}
+use Rattle.kmn_parser.specs.Names.{is_source_name}
+use Rattle.kmn_parser.specs.Spelled.{IsSpelledName, IsSpelledKey}
 use Rattle.decompile_laws.specs.Items.{Names, key_called}
 use Rattle.decompile_laws.specs.Back.{names_for}
 use Rattle.decompile_laws.specs.WrittenOut.{has_key_name}
@@ -30,7 +30,7 @@ use Rattle.decompile_causes.specs.Causes.{is_dictionary_name, dictionary_words, 
 use Rattle.decompile_causes.proofs.Sayable.{sayable-at, HasNoCause, IsSayable, without_cause}
 use Rattle.decompile_causes.proofs.WrittenOut.{store-parts}
 use Rattle.decompile_causes.proofs.Conjunctions.{second-fails}
-use Rattle.kmn_lines.proofs.Sizes.{clash}
+use Rattle.kmn_lines.proofs.TextSizes.{clash}
 
 abbrev pub IsKeyName : List ℕ → Type 0
 IsKeyName name = is_dictionary_name name ≡ true

@@ -24,14 +24,14 @@ use Rattle.rule_model.specs.declared.tables.Tables.{Tables}
 use Rattle.rule_model.specs.Tab.{tab_dictionary, tab_options}
 use Rattle.kmx_format.specs.TablesOf.{tables_of}
 use Rattle.kmx_format.specs.Playable.{IsPlayable, IsPlayableStore}
-use Rattle.kmn_text.specs.Spelled.{IsStoreName, IsSpelledValue, is_system_id, IsSpelledStore, AreSpelled, AreSpelledBegins, AreSpelledStores, IsSpelled, seen_lead, item_lead}
+use Rattle.kmn_parser.specs.Spelled.{IsStoreName, IsSpelledValue, is_system_id, IsSpelledStore, AreSpelled, AreSpelledBegins, AreSpelledStores, IsSpelled, seen_lead, item_lead}
 use Rattle.decompile_laws.specs.Names.{written_ids, named_stores}
 use Rattle.decompile_laws.specs.Marks.{element_marks, pattern_marks, output_marks, rule_marks, group_marks, store_marks, table_marks, greatest_mark}
 use Rattle.decompile_laws.specs.Items.{Names, group_called, back_element}
 use Rattle.kmx_format.specs.Versions.{file_versions, version_text}
 use Rattle.virtual_keys.specs.Dictionary.{is_nameable}
 use Rattle.kmn_parser.specs.ProgramLaws.{IsCharacter}
-use Rattle.kmn_text.specs.Names.{is_inner}
+use Rattle.kmn_parser.specs.Names.{is_inner}
 use Rattle.decompile_laws.specs.Back.{back_stores, numbered, stated_marks, stated_key, mark_store, key_store, version_store, back_begins, free_stores, mark_stores, key_stores, front_stores, names_for, written_stores, written_begins, back}
 use Rattle.decompile_laws.specs.WrittenOut.{CanBeWrittenOut}
 use Rattle.decompile_laws.proofs.Lines.{numbered-length}
@@ -46,7 +46,7 @@ use Rattle.decompile_causes.proofs.CalledNames.{AreNamed}
 use Rattle.decompile_causes.proofs.SpelledKeys.{IsKeyName, keys_named, own_name}
 use Rattle.decompile_causes.proofs.SpelledItems.{unit_character, elements_spelled, marks_spelled}
 use Rattle.decompile_causes.proofs.SpelledRules.{free_all, calls_named, group_name, all_groups_spelled}
-use Rattle.kmn_lines.proofs.Sizes.{clash}
+use Rattle.kmn_lines.proofs.TextSizes.{clash}
 
 abbrev ansi_begin : Names → ℕ → Tables → BeginDef
 ansi_begin names line tables = record { line = line; unicode = false; group = group_called names tables.start_ansi }

@@ -22,7 +22,7 @@ use Rattle.kmx_format.specs.FileUnits.{unit_item_of_pattern, unit_item_of_output
 use Rattle.kmx_format.specs.Playable.{IsPlayable, IsPlayableGroup}
 use Rattle.kmx_format.specs.Writable.{has_system_id, sets_system_id, IsWritableRule}
 use Rattle.kmn_base.specs.Spelling.{IsSpellable}
-use Rattle.kmn_text.specs.Spelled.{IsSpelledName, IsStoreName, IsSpelledRule, AreSpelledRules, AreSpelledGroups}
+use Rattle.kmn_parser.specs.Spelled.{IsSpelledName, IsStoreName, IsSpelledRule, AreSpelledRules, AreSpelledGroups}
 use Rattle.decompile_laws.specs.Names.{named_stores, free_names}
 use Rattle.decompile_laws.specs.Items.{Names, store_called, group_called}
 use Rattle.decompile_laws.specs.Back.{back_rule, back_rules, back_statement, match_line, nomatch_line, back_group, back_groups, mark_stores, key_stores, free_stores, names_for}

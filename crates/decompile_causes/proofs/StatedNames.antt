@@ -16,7 +16,7 @@ use Rattle.decompile_laws.specs.WrittenOut.{is_ordinary}
 use Rattle.virtual_keys.proofs.NamePlaces.{same_name-self}
 use Rattle.decompile_laws.proofs.Calls.{written-here}
 use Rattle.decompile_causes.proofs.CalledNames.{AreNamed}
-use Rattle.kmn_lines.proofs.Sizes.{clash}
+use Rattle.kmn_lines.proofs.TextSizes.{clash}
 
 -- among names
 pub named-cons : (x : List ℕ) (names : List (List ℕ)) (name : List ℕ) → is_named (x ∷ names) name ≡ (same_name name x || is_named names name)

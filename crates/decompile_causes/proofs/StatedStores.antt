@@ -22,9 +22,9 @@ use Rattle.kmn_names.specs.Names.{store_refusal as name_refusal, store_item_code
 use Rattle.kmn_names.specs.Known.{Known, known, brought, statement_elements}
 use Rattle.item_checker.specs.Items.{is_no_character, is_left_out, is_layout_text, is_system_text, is_other_text, puts_option, wants_characters, wants_plain_keys, brings_no_character, brings_no_plain_key, store_item_code, store_head_code, store_code, store_refusal}
 use Rattle.rule_checker.specs.Refused.{IsRead}
-use Rattle.checker_laws.proofs.Unrefused.{none_both, none_earlier, none_at_line, none_broken, Stands, none_first}
-use Rattle.checker_laws.proofs.Accepted.{IsUnrefused}
-use Rattle.checker_laws.proofs.Sizes.{items_before, onto, names_next}
+use Rattle.rule_checker.proofs.Unrefused.{none_both, none_earlier, none_at_line, none_broken, Stands, none_first}
+use Rattle.rule_checker.proofs.Accepted.{IsUnrefused}
+use Rattle.rule_checker.proofs.Sizes.{items_before, onto, names_next}
 use Rattle.decompile_causes.specs.Causes.{is_unspelled_system}
 use Rattle.decompile_causes.specs.Written.{IsWrittenStore, WasWritten}
 use Rattle.decompile_causes.proofs.Conjunctions.{fails-when, second-fails}

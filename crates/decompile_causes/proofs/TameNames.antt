@@ -15,13 +15,13 @@ use Rattle.kmn_base.specs.Texts.{character_count}
 use Rattle.kmn_lines.specs.Bytes.{first_or_end}
 use Rattle.kmn_lines.specs.Tokens.{single, is_unequal, in_word, word_size, starts_number, token_size, token_kind, begins_forbidden, has_forbidden, is_closed, token_fault}
 use Rattle.kmn_lines.specs.declared.token.TokenKind.TheVariants as kind
-use Rattle.kmn_lines.proofs.Sizes.{in_word-plain, in_word-far}
+use Rattle.kmn_lines.proofs.TextSizes.{in_word-plain, in_word-far}
 use Rattle.kmn_items.specs.TokenTexts.{is_wordy}
 use Rattle.kmn_items.specs.Words.{is_name}
 use Rattle.kmn_parser.proofs.CleanTexts.{counted-characters}
-use Rattle.kmn_text.specs.Names.{is_inner}
-use Rattle.kmn_text.specs.Spelled.{IsStoreName}
-use Rattle.kmn_text.proofs.Words.{none-or}
+use Rattle.kmn_parser.specs.Names.{is_inner}
+use Rattle.kmn_parser.specs.Spelled.{IsStoreName}
+use Rattle.kmn_parser.proofs.Words.{none-or}
 use Rattle.decompile_laws.specs.Names.{numbered_name}
 
 -- a byte of a word, which begins no number, and no name of a system store

@@ -15,13 +15,13 @@ use Rattle.kmn_items.specs.declared.syntax.Where.{Where}
 use Rattle.kmn_items.specs.declared.syntax.Where.TheVariants as section
 use Rattle.kmn_items.specs.declared.syntax.Seen.{Seen}
 use Rattle.kmn_items.specs.Item.{unseen}
-use Rattle.kmn_text.specs.Printed.{printed, sheet}
-use Rattle.kmn_text.specs.Texts.{arrow}
-use Rattle.kmn_text.specs.Items.{item_pieces, spaced_items, joined_items}
-use Rattle.kmn_text.specs.Statements.{store_pieces, begin_pieces, group_pieces, key_part, rule_pieces}
-use Rattle.kmn_text.specs.Programs.{rule_line, group_lines, program_text}
-use Rattle.kmn_text.specs.Spelled.{IsSpelledItem, item_lead, seen_lead, AreSpelled, IsSpelledKind, AreSpelledRules, AreSpelledGroups, IsSpelled}
-use Rattle.kmn_text.proofs.Lengths.{sheet_append, sheet_length, printed_append, least_length, item_long}
+use Rattle.kmn_parser.specs.Printed.{printed, sheet}
+use Rattle.kmn_parser.specs.Texts.{arrow}
+use Rattle.kmn_parser.specs.Items.{item_pieces, spaced_items, joined_items}
+use Rattle.kmn_parser.specs.Statements.{store_pieces, begin_pieces, group_pieces, key_part, rule_pieces}
+use Rattle.kmn_parser.specs.Programs.{rule_line, group_lines, program_text}
+use Rattle.kmn_parser.specs.Spelled.{IsSpelledItem, item_lead, seen_lead, AreSpelled, IsSpelledKind, AreSpelledRules, AreSpelledGroups, IsSpelled}
+use Rattle.kmn_parser.proofs.Lengths.{sheet_append, sheet_length, printed_append, least_length, item_long}
 
 -- the items of a rule of a source besides its key
 abbrev pub stated_size : RuleDef → ℕ

@@ -44,7 +44,7 @@ use Rattle.decompile_causes.proofs.StatedNames.{named-cons, named-behind, named_
 use Rattle.decompile_causes.proofs.ApartNames.{Later, HaveNames, named-none, stores_apart, ApartFrom, groups_apart_refused}
 use Rattle.decompile_causes.proofs.KnownNames.{no_rule_unknown}
 use Rattle.decompile_causes.proofs.UnrefusedRules.{no-else, no-earlier, no-line, no-broken}
-use Rattle.kmn_lines.proofs.Sizes.{clash}
+use Rattle.kmn_lines.proofs.TextSizes.{clash}
 
 -- free names aren't empty, and the first two are told apart
 pub some-at : (taken : List (List ℕ)) (i : ℕ) (names : List (List ℕ)) → AreFree taken names → i < length names → same_name (unwrap_or (slice_get names i) []) [] ≡ false

@@ -12,7 +12,7 @@ use Rattle.rule_model.specs.declared.tables.Tables.{Tables}
 use Rattle.rule_model.specs.Tab.{tab_dictionary, tab_options}
 use Rattle.kmx_format.specs.TablesOf.{tables_of}
 use Rattle.kmx_format.specs.Playable.{IsPlayable}
-use Rattle.kmn_text.specs.Spelled.{IsStoreName}
+use Rattle.kmn_parser.specs.Spelled.{IsStoreName}
 use Rattle.kmn_names.specs.First.{first_of}
 use Rattle.kmn_names.specs.Known.{Known, known}
 use Rattle.item_checker.specs.Items.{is_option, is_no_character, store_code, store_refusal, items_refusal}
@@ -35,7 +35,7 @@ use Rattle.decompile_causes.proofs.SpelledRules.{calls_named}
 use Rattle.decompile_causes.proofs.StoreCodes.{IsFineStore, written, version_fine, front_fine, ordinary_fine, system_fine}
 use Rattle.decompile_causes.proofs.UnrefusedNames.{apart, fresh-later, one-mark, mark_name, key_name, taken, some-at}
 use Rattle.decompile_causes.proofs.UnrefusedRules.{no-earlier, no-line, none_of_all, spelled_rules_stand}
-use Rattle.kmn_lines.proofs.Sizes.{clash}
+use Rattle.kmn_lines.proofs.TextSizes.{clash}
 
 -- the name by which a list of calls has a number
 abbrev called_at : List (Option (List ℕ)) → ℕ → List ℕ

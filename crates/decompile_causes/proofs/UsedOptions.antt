@@ -20,7 +20,7 @@ use Rattle.kmn_names.specs.Names.{is_named}
 use Rattle.kmn_names.specs.Known.{known, option_named, rule_options}
 use Rattle.virtual_keys.proofs.NamePlaces.{some_place}
 use Rattle.item_checker.specs.Items.{is_option}
-use Rattle.kmn_text.specs.Spelled.{IsSpelledName}
+use Rattle.kmn_parser.specs.Spelled.{IsSpelledName}
 use Rattle.decompile_laws.proofs.Choosing.{all_parts, all_join, all_split, all_weaker, all_both}
 use Rattle.decompile_causes.specs.Written.{IsWrittenItem, IsWrittenRule, WasWritten}
 use Rattle.decompile_causes.proofs.GroupRules.{rules_of}

@@ -20,7 +20,7 @@ use Rattle.kmn_lines.proofs.LineTexts.{parts_are_texts}
 use Rattle.kmn_lines.proofs.Numbered.{drop-next}
 use Rattle.kmn_items.specs.TokenTexts.{LineToken, text_of, with_text, with_texts}
 use Rattle.kmn_parser.proofs.SoundTokens.{IsSoundToken, HasTexts, HasSoundTokens, either-none, text-at, no-refusal, lines-sound}
-use Rattle.kmn_text.specs.Names.{is_inner}
+use Rattle.kmn_parser.specs.Names.{is_inner}
 use Rattle.decompile_causes.proofs.RetakenTokens.{token_alone}
 
 -- ---- parts end no line

@@ -34,7 +34,7 @@ use Rattle.kmn_items.specs.Item.{unseen, formed, read_word, read_quoted, read_br
 use Rattle.kmn_parser.proofs.ReadItems.{text_at-drop}
 use Rattle.kmn_parser.proofs.ReadStatements.{unless-none}
 use Rattle.item_checker.specs.Items.{is_pattern_item}
-use Rattle.kmn_text.specs.Spelled.{IsSpelledName, IsSpelledValue, IsSpelledKey}
+use Rattle.kmn_parser.specs.Spelled.{IsSpelledName, IsSpelledValue, IsSpelledKey}
 use Rattle.decompile_causes.specs.Written.{IsWrittenItem, stands_in_context, has_late_item, is_nul_item, IsWrittenContext}
 use Rattle.decompile_causes.proofs.CompiledStores.{all_at}
 use Rattle.decompile_causes.proofs.WholeTokens.{IsWholeToken}

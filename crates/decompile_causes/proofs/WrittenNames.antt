@@ -16,7 +16,7 @@ use Rattle.kmn_lines.specs.Bytes.{first_or_end}
 use Rattle.kmn_lines.specs.Tokens.{single, is_unequal, quoted_size, starts_number, token_size, token_kind, token_fault}
 use Rattle.kmn_lines.specs.declared.token.TokenKind.{TokenKind}
 use Rattle.kmn_lines.specs.declared.token.TokenKind.TheVariants as kind
-use Rattle.kmn_lines.proofs.Sizes.{clash}
+use Rattle.kmn_lines.proofs.TextSizes.{clash}
 use Rattle.kmn_lines.proofs.TextTokens.{quote-ascii}
 use Rattle.kmn_items.specs.declared.syntax.TokenRefusal.{TokenRefusal}
 use Rattle.kmn_items.specs.declared.syntax.Slot.{Slot}
@@ -30,9 +30,9 @@ use Rattle.kmn_parser.specs.ProgramLaws.{IsCharacter, IsReadKey}
 use Rattle.kmn_parser.proofs.CleanTexts.{clean-take, clean-drop, clean-characters, counted-characters}
 use Rattle.kmn_parser.proofs.SoundKeys.{row-found, no-code, key-read}
 use Rattle.kmn_parser.proofs.ReadStatements.{unless-none}
-use Rattle.kmn_text.specs.Names.{is_inner}
-use Rattle.kmn_text.specs.Spelled.{IsSpelledName, IsSpelledValue, IsSpelledKey}
-use Rattle.kmn_text.proofs.Values.{high-inner}
+use Rattle.kmn_parser.specs.Names.{is_inner}
+use Rattle.kmn_parser.specs.Spelled.{IsSpelledName, IsSpelledValue, IsSpelledKey}
+use Rattle.kmn_parser.proofs.Values.{high-inner}
 use Rattle.decompile_causes.proofs.CompiledStores.{all_at}
 use Rattle.decompile_causes.proofs.RetakenTokens.{size_plain, size_quote}
 use Rattle.decompile_causes.proofs.WholeTokens.{IsWholeToken}

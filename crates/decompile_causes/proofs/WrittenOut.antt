@@ -24,7 +24,7 @@ use Rattle.item_checker.specs.Items.{is_no_character}
 use Rattle.kmx_format.specs.Writable.{stores_of_pattern, stores_of_output, IsWritableRule}
 use Rattle.kmx_format.specs.TablesOf.{tables_of}
 use Rattle.kmx_format.specs.Playable.{IsPlayable, IsPlayableGroup}
-use Rattle.checker_laws.proofs.Lists.{All-append_parts}
+use Rattle.rule_checker.proofs.Lists.{All-append_parts}
 use Rattle.decompile_laws.specs.Items.{Names, store_called}
 use Rattle.decompile_laws.specs.Names.{named_by_pattern, named_by_output, named_by_rule, named_by_group, named_stores}
 use Rattle.decompile_laws.specs.Back.{names_for}

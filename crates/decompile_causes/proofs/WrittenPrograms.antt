@@ -41,8 +41,8 @@ use Rattle.kmn_parser.proofs.SoundTokens.{either-none}
 use Rattle.kmn_parser.proofs.ReadItems.{text_at-drop}
 use Rattle.kmn_parser.proofs.ReadStatements.{first-none}
 use Rattle.kmn_parser.proofs.ReadPrograms.{programs_are_read}
-use Rattle.kmn_text.specs.Spelled.{IsSpelledName, IsStoreName}
-use Rattle.checker_laws.proofs.Lists.{All-append_parts}
+use Rattle.kmn_parser.specs.Spelled.{IsSpelledName, IsStoreName}
+use Rattle.rule_checker.proofs.Lists.{All-append_parts}
 use Rattle.decompile_causes.specs.Laws.{ReadWasWritten}
 use Rattle.decompile_causes.specs.Written.{IsWrittenItem, IsWrittenContext, IsWrittenRule, IsWrittenStore}
 use Rattle.decompile_causes.proofs.WholeTokens.{IsWholeToken, HasWholeTokens, lines_whole}

@@ -19,7 +19,7 @@ use Rattle.rule_model.specs.declared.tables.Store.{Store}
 use Rattle.rule_model.specs.Tab.{elements_of, element_char, words, is_dictionary}
 use Rattle.rule_model.specs.Patterns.{is_matched, is_nul}
 use Rattle.item_checker.specs.Items.{is_no_character, is_layout_text}
-use Rattle.kmn_text.specs.Names.{is_inner, is_source_name}
+use Rattle.kmn_parser.specs.Names.{is_inner, is_source_name}
 use Rattle.decompile_laws.specs.Items.{Names, store_called}
 use Rattle.decompile_laws.specs.Names.{named_by_pattern, named_by_output}
 use Rattle.decompile_laws.specs.WrittenOut.{pattern_values, output_values, has_key_name}

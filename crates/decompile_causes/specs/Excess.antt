@@ -4,7 +4,7 @@ use Rattle.kmn_base.specs.declared.limits.TheConstants.{TEXT_BYTES, STORES, ALL_
 use Rattle.rule_model.specs.declared.program.Program.{Program}
 use Rattle.kmx_format.specs.Writable.{elements_of}
 use Rattle.compile_laws.specs.Numbers.{compiled_stores}
-use Rattle.kmn_text.specs.Programs.{program_text}
+use Rattle.kmn_parser.specs.Programs.{program_text}
 use Rattle.decompile_causes.specs.declared.no_spelling.NoSpelling.{NoSpelling}
 use Rattle.decompile_causes.specs.declared.no_spelling.NoSpelling.TheVariants.{TooLarge, TooManyStores, TooManyElements}
 

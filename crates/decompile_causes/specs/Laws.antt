@@ -21,8 +21,8 @@ use Rattle.kmx_format.specs.TablesOf.{tables_of}
 use Rattle.kmx_format.specs.Writable.{IsWritable, IsFile}
 use Rattle.kmx_format.specs.Playable.{IsPlayable}
 use Rattle.compile_laws.specs.Compiles.{Compiles}
-use Rattle.kmn_text.specs.Programs.{program_text}
-use Rattle.kmn_text.specs.Spelled.{IsSpelled}
+use Rattle.kmn_parser.specs.Programs.{program_text}
+use Rattle.kmn_parser.specs.Spelled.{IsSpelled}
 use Rattle.decompile_laws.specs.Back.{back}
 use Rattle.decompile_laws.specs.WrittenOut.{CanBeWrittenOut}
 use Rattle.decompile_causes.specs.Excess.{excess}

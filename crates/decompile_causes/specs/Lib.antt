@@ -5,3 +5,4 @@ pub mod Places
 pub mod Reasons
 pub mod Unspelled
 pub mod Written
+pub mod RoundTrips

@@ -8,7 +8,7 @@ use Rattle.rule_model.specs.declared.program.RuleDef.{RuleDef}
 use Rattle.rule_model.specs.declared.program.Program.{Program}
 use Rattle.rule_model.specs.Naming.{rule_items, all_rules}
 use Rattle.item_checker.specs.Items.{is_pattern_item}
-use Rattle.kmn_text.specs.Spelled.{IsSpelledName, IsStoreName, IsSpelledValue, IsSpelledKey}
+use Rattle.kmn_parser.specs.Spelled.{IsSpelledName, IsStoreName, IsSpelledValue, IsSpelledKey}
 
 -- an item: what it names has a name of a source, its value can stand in quotes, and its key has a name
 abbrev pub IsWrittenItem : SrcItem → Type 0

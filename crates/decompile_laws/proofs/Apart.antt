@@ -10,11 +10,11 @@ use Rattle.kmn_base.specs.Names.{same_name}
 use Rattle.virtual_keys.proofs.NamePlaces.{same_name-self}
 use Rattle.rule_model.specs.declared.tables.Store.{Store}
 use Rattle.decompile_laws.specs.Names.{is_free, keeps_name, is_written, store_names}
-use Rattle.kmn_text.specs.Names.{is_source_name}
+use Rattle.kmn_parser.specs.Names.{is_source_name}
 use Rattle.kmn_items.specs.Words.{is_system_name}
 use Rattle.kmn_items.specs.TokenTexts.{is_wordy}
 use Rattle.kmn_lines.specs.Tokens.{token_size, token_kind, token_fault}
-use Rattle.kmn_lines.proofs.Sizes.{clash}
+use Rattle.kmn_lines.proofs.TextSizes.{clash}
 
 -- names of which the one at a place is the first that is the same
 abbrev pub StandsFirst : List ℕ → ℕ → List (Option (List ℕ)) → Type 0

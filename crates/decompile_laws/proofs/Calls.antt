@@ -12,14 +12,14 @@ use Rattle.rule_model.specs.declared.tables.Store.{Store}
 use Rattle.rule_model.specs.Tab.{with_options}
 use Rattle.rule_model.specs.Naming.{SourceNames, item_elements}
 use Rattle.decompile_laws.specs.Names.{is_written, keeps_store_name, keeps_name, written_ids, store_names}
-use Rattle.kmn_text.specs.Names.{is_source_name}
+use Rattle.kmn_parser.specs.Names.{is_source_name}
 use Rattle.decompile_laws.specs.Items.{Names, back_element}
 use Rattle.decompile_laws.specs.Back.{back_stores}
 use Rattle.kmn_items.specs.Words.{is_system_name}
 use Rattle.decompile_laws.proofs.Apart.{AreFree, free-drop, first-free, source-some}
 use Rattle.decompile_laws.proofs.Thin.{KeepsOptions}
 use Rattle.decompile_laws.proofs.Linking.{IsSimple}
-use Rattle.kmn_lines.proofs.Sizes.{clash}
+use Rattle.kmn_lines.proofs.TextSizes.{clash}
 
 -- each store has a name where it is written, and an ordinary one a name that isn't empty
 abbrev pub AreCalls : List ℕ → ℕ → List (Option (List ℕ)) → List Store → Type 0

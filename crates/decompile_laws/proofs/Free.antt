@@ -14,7 +14,7 @@ use Rattle.std.proofs.lemmas.Slice.Eq.{bytes_eq-Decides}
 use Rattle.kmn_base.specs.Names.{same_name}
 use Rattle.decompile_laws.specs.Names.{is_free, numbered_name, free_names}
 use Rattle.decompile_laws.proofs.Apart.{Has, Differs, AreFree}
-use Rattle.kmn_lines.proofs.Sizes.{clash}
+use Rattle.kmn_lines.proofs.TextSizes.{clash}
 
 -- names of which no two are the same
 abbrev pub AreDistinct : List (List ℕ) → Type 0

@@ -22,7 +22,7 @@ use Rattle.rule_model.specs.Tab.{tab, tab_group, tab_rule, tab_output, output_if
 use Rattle.virtual_keys.proofs.PositionLemmas.{position-map}
 use Rattle.compile_laws.proofs.Keyboards.{src_choice}
 use Rattle.decompile_laws.specs.Names.{is_free, keeps_name, group_names}
-use Rattle.kmn_text.specs.Names.{is_source_name}
+use Rattle.kmn_parser.specs.Names.{is_source_name}
 use Rattle.decompile_laws.specs.Items.{Names, back_pattern}
 use Rattle.decompile_laws.specs.Back.{back_rule, back_rules, back_statement, match_line, nomatch_line, back_group, back_groups}
 use Rattle.decompile_laws.specs.WrittenOut.{fall_from, has_falling_contexts}

@@ -34,7 +34,7 @@ use Rattle.decompile_laws.specs.WrittenOut.{key_codes_of}
 use Rattle.decompile_laws.proofs.Good.{IsMark, IsKey, GoodPattern, GoodOutput, GoodElement, GoodRule, GoodGroup}
 use Rattle.decompile_laws.proofs.Distinct.{Among, at-among, range-at}
 use Rattle.decompile_laws.proofs.Choosing.{all_join}
-use Rattle.kmn_lines.proofs.Sizes.{clash}
+use Rattle.kmn_lines.proofs.TextSizes.{clash}
 
 abbrev pub mark_list : Tables → List (List ℕ)
 mark_list t = map decimal (range_with_len 1 (greatest_mark t))

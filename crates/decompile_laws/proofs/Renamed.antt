@@ -40,7 +40,7 @@ use Rattle.kmn_base.specs.declared.limits.TheConstants.{EVENT_ENTRIES}
 use Rattle.decompile_laws.specs.WrittenOut.{key_codes_of}
 use Rattle.decompile_laws.proofs.Good.{IsNamed, IsOption, IsValue, IsMark, IsKey, IsGroup, GoodPattern, GoodOutput, GoodRule}
 use Rattle.decompile_laws.proofs.Alike.{SameEntry, SameOutputs, SameRule}
-use Rattle.kmn_text.proofs.Rows.{if-same}
+use Rattle.kmn_parser.proofs.Rows.{if-same}
 
 -- an element, without what a virtual key is
 abbrev pub plain : Element → Element

@@ -13,8 +13,8 @@ use Rattle.rule_model.specs.declared.tables.Out.TheVariants as output
 use Rattle.rule_model.specs.declared.tables.Tables.{Tables}
 use Rattle.rule_model.specs.Tab.{tab_dictionary}
 use Rattle.kmn_parser.specs.Line.{system_stores}
-use Rattle.kmn_text.specs.Printed.{rows}
-use Rattle.kmn_text.specs.Programs.{program_text}
+use Rattle.kmn_parser.specs.Printed.{rows}
+use Rattle.kmn_parser.specs.Programs.{program_text}
 use Rattle.decompile_laws.specs.Marks.{table_marks}
 use Rattle.decompile_laws.specs.Names.{named_stores, free_names}
 use Rattle.decompile_laws.specs.Back.{back}

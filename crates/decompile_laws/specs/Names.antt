@@ -13,7 +13,7 @@ use Rattle.rule_model.specs.declared.tables.Rule.{Rule}
 use Rattle.rule_model.specs.declared.tables.Store.{Store}
 use Rattle.rule_model.specs.declared.tables.Group.{Group}
 use Rattle.rule_model.specs.declared.tables.Tables.{Tables}
-use Rattle.kmn_text.specs.Names.{is_source_name}
+use Rattle.kmn_parser.specs.Names.{is_source_name}
 
 -- the stores that an item of a context names otherwise than as a value
 abbrev pub named_by_pattern : Pat → List ℕ

@@ -12,7 +12,7 @@ use Rattle.kmn_lines.specs.declared.token.TokenKind.{TokenKind}
 use Rattle.kmn_lines.specs.declared.token.TokenKind.TheVariants.{Quoted, Word, Open, Close, BracketOpen, BracketClose, Arrow, Plus, Equal, Unequal, Comma}
 use Rattle.kmn_items.specs.TokenTexts.{is_wordy}
 use Rattle.kmn_items.specs.Words.{is_name}
-use Rattle.kmn_text.specs.Names.{is_inner, is_source_name}
+use Rattle.kmn_parser.specs.Names.{is_inner, is_source_name}
 use Rattle.decompile_names.specs.SourceNames.{is_token, is_one_name}
 
 and_false : (b : Bool) → (b && false) ≡ false

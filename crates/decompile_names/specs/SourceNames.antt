@@ -2,7 +2,7 @@
 use Rattle.std.specs.Prelude.{ℕ, Bool, not, ◌&&◌, nat_eq, if◌then◌else◌, List, length, drop, is_some}
 use Rattle.std.specs.List.{list_all}
 use Rattle.kmn_items.specs.Words.{is_name}
-use Rattle.kmn_text.specs.Names.{is_inner}
+use Rattle.kmn_parser.specs.Names.{is_inner}
 use Rattle.kmn_lines.specs.Tokens.{has_forbidden, word_size, starts_number, digits_fault}
 
 -- all of a text is a word, or U+ and the digits of a character that a source may have

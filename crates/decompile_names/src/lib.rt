@@ -2,7 +2,7 @@
 //! have these, else by the next free ones.
 //!
 //! It stands on `indexed_tables`, where it looks stores and keys up, on `kmn_names`, whose `NameTable` tells which names were
-//! met, on `kmn_tokens` and `kmn_items`, which tell whether a source reads a name as one, and on `decompile_laws`, whose
+//! met, on `kmn_lines` and `kmn_items`, which tell whether a source reads a name as one, and on `decompile_laws`, whose
 //! `names_for` says which names a text has. The layer above calls `free_stores` for the free names, of which the first may be
 //! those of stores of its own, and then `called_by`, which answers the names that `specs/AllNames` says: `Called` lends them
 //! one by one, and contracts see it as these names. `greatest_mark` and `own_keys` tell what such stores have. Whoever asks why a

@@ -4,12 +4,12 @@ ghost use Rattle.std.specs.Prelude.{◌≡◌, ◌&&◌, nat_eq, not, length, is
 ghost use Rattle.std.specs.List.{list_all};
 ghost use Rattle.kmn_lines.specs.Tokens.{word_size, digits_fault};
 ghost use Rattle.kmn_items.specs.Words.{is_name};
-ghost use Rattle.kmn_text.specs.Names.{is_inner, is_source_name};
+ghost use Rattle.kmn_parser.specs.Names.{is_inner, is_source_name};
 ghost use Rattle.decompile_names.specs.SourceNames.{is_token, is_one_name};
 
 use kmn_base::slices::behind;
 use kmn_items::is_name;
-use kmn_tokens::{has_forbidden, number, starts_number, word_size};
+use kmn_lines::{has_forbidden, number, starts_number, word_size};
 
 /// Whether all of a text is one word.
 fn is_word(text: &[u8]) -> bool

@@ -12,12 +12,12 @@ use Rattle.rule_model.specs.declared.program.GroupDef.{GroupDef}
 use Rattle.rule_model.specs.declared.tables.Tables.{Tables}
 use Rattle.rule_model.specs.Tab.{tab_dictionary}
 use Rattle.kmn_parser.specs.Line.{system_stores}
-use Rattle.kmn_text.specs.Printed.{printed, sheet}
-use Rattle.kmn_text.specs.Items.{joined_items, value_token}
-use Rattle.kmn_text.specs.Statements.{store_pieces, begin_pieces}
-use Rattle.kmn_text.specs.Programs.{program_text, group_lines}
-use Rattle.kmn_text.proofs.Stores.{chars-back}
-use Rattle.kmn_text.proofs.Lengths.{sheet_append}
+use Rattle.kmn_parser.specs.Printed.{printed, sheet}
+use Rattle.kmn_parser.specs.Items.{joined_items, value_token}
+use Rattle.kmn_parser.specs.Statements.{store_pieces, begin_pieces}
+use Rattle.kmn_parser.specs.Programs.{program_text, group_lines}
+use Rattle.kmn_parser.proofs.Stores.{chars-back}
+use Rattle.kmn_parser.proofs.Lengths.{sheet_append}
 use Rattle.decompile_laws.specs.Items.{Names, group_called}
 use Rattle.decompile_laws.specs.Marks.{greatest_mark}
 use Rattle.decompile_laws.specs.Names.{named_stores}

@@ -6,9 +6,9 @@ use Rattle.virtual_keys.specs.Dictionary.{name_in}
 use Rattle.virtual_keys.specs.Keys.{key_codes, key_name, shift_flags}
 use Rattle.rule_model.specs.declared.program.KeyName.{KeyName}
 use Rattle.kmn_items.specs.TokenTexts.{LineToken}
-use Rattle.kmn_text.specs.Printed.{printed}
-use Rattle.kmn_text.specs.Texts.{word, bracket_closing}
-use Rattle.kmn_text.specs.Items.{spaced_words, key_text, key_pieces}
+use Rattle.kmn_parser.specs.Printed.{printed}
+use Rattle.kmn_parser.specs.Texts.{word, bracket_closing}
+use Rattle.kmn_parser.specs.Items.{spaced_words, key_text, key_pieces}
 use Rattle.decompile_laws.specs.Items.{Names}
 use Rattle.decompile_text.specs.Texts.{flags_text, virtual_text}
 

@@ -11,12 +11,12 @@ use Rattle.rule_model.specs.declared.tables.Pat.{Pat}
 use Rattle.rule_model.specs.declared.tables.Out.{Out}
 use Rattle.rule_model.specs.declared.tables.Rule.{Rule}
 use Rattle.kmn_items.specs.TokenTexts.{LineToken}
-use Rattle.kmn_text.specs.Texts.{arrow}
-use Rattle.kmn_text.specs.Printed.{printed, sheet}
-use Rattle.kmn_text.specs.Items.{item_pieces, key_pieces, spaced_items, joined_items}
-use Rattle.kmn_text.specs.Statements.{key_part}
-use Rattle.kmn_text.specs.Programs.{rule_line}
-use Rattle.kmn_text.proofs.Lengths.{printed_append}
+use Rattle.kmn_parser.specs.Texts.{arrow}
+use Rattle.kmn_parser.specs.Printed.{printed, sheet}
+use Rattle.kmn_parser.specs.Items.{item_pieces, key_pieces, spaced_items, joined_items}
+use Rattle.kmn_parser.specs.Statements.{key_part}
+use Rattle.kmn_parser.specs.Programs.{rule_line}
+use Rattle.kmn_parser.proofs.Lengths.{printed_append}
 use Rattle.decompile_laws.specs.Items.{Names, back_element, back_pattern, back_output, back_key, key_called, some_items}
 use Rattle.decompile_laws.specs.Back.{back_rule, back_rules, back_statement}
 use Rattle.decompile_text.specs.Texts.{element_text, elements_text, pattern_text, context_text, output_text, outputs_text, some_outputs_text, key_text, virtual_text, rule_text, rules_text, statement_text, marks_text, keys_line}

@@ -4,8 +4,8 @@ use Rattle.std.specs.Prelude.{slice_get, unwrap_or}
 use Rattle.std.specs.List.{list_any}
 use Rattle.std.proofs.lemmas.Bool.Decides.{nat_tests}
 use Rattle.rule_model.specs.declared.tables.Store.{Store}
-use Rattle.kmn_text.specs.Printed.{printed, sheet}
-use Rattle.kmn_text.specs.Statements.{store_pieces, system_name}
+use Rattle.kmn_parser.specs.Printed.{printed, sheet}
+use Rattle.kmn_parser.specs.Statements.{store_pieces, system_name}
 use Rattle.decompile_laws.specs.Items.{Names, back_element}
 use Rattle.decompile_laws.specs.Names.{is_written, written_ids, keeps_store_name, store_names}
 use Rattle.decompile_laws.specs.Back.{back_stores}

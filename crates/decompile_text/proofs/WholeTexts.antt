@@ -7,10 +7,10 @@ use Rattle.rule_model.specs.declared.program.GroupDef.{GroupDef}
 use Rattle.rule_model.specs.declared.program.RuleDef.{RuleDef}
 use Rattle.rule_model.specs.declared.tables.Group.{Group}
 use Rattle.kmn_items.specs.TokenTexts.{LineToken}
-use Rattle.kmn_text.specs.Printed.{printed, sheet}
-use Rattle.kmn_text.specs.Statements.{group_pieces}
-use Rattle.kmn_text.specs.Programs.{rule_line, group_lines}
-use Rattle.kmn_text.proofs.Lengths.{sheet_append}
+use Rattle.kmn_parser.specs.Printed.{printed, sheet}
+use Rattle.kmn_parser.specs.Statements.{group_pieces}
+use Rattle.kmn_parser.specs.Programs.{rule_line, group_lines}
+use Rattle.kmn_parser.proofs.Lengths.{sheet_append}
 use Rattle.decompile_laws.specs.Items.{Names, group_called}
 use Rattle.decompile_laws.specs.Back.{back_rules, back_statement, back_group, back_groups, match_line, nomatch_line}
 use Rattle.decompile_text.specs.Texts.{rules_text, statement_text, group_text, groups_text, call_text}

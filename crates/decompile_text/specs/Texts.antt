@@ -11,9 +11,9 @@ use Rattle.rule_model.specs.declared.tables.Rule.{Rule}
 use Rattle.rule_model.specs.declared.tables.Store.{Store}
 use Rattle.rule_model.specs.declared.tables.Group.{Group}
 use Rattle.rule_model.specs.Tab.{element_char}
-use Rattle.kmn_text.specs.Printed.{printed}
-use Rattle.kmn_text.specs.Items.{item_pieces, key_pieces, value_token}
-use Rattle.kmn_text.specs.Statements.{key_part, system_name}
+use Rattle.kmn_parser.specs.Printed.{printed}
+use Rattle.kmn_parser.specs.Items.{item_pieces, key_pieces, value_token}
+use Rattle.kmn_parser.specs.Statements.{key_part, system_name}
 use Rattle.kmx_format.specs.Versions.{version_text}
 use Rattle.decompile_laws.specs.Items.{Names, group_called, key_called, back_element, back_pattern, back_output, back_key}
 

@@ -3,7 +3,7 @@
 ghost use Rattle.std.specs.Prelude.{◌≡◌, ◌==◌, ◌<◌, filter_map, if◌then◌else◌, OnOk};
 ghost use Rattle.std.specs.List.{list_any};
 ghost use Rattle.rule_model.specs.Tab.{element_char};
-ghost use Rattle.kmn_text.specs.Texts.{hex_glyph, hex_text, hex_count, char_text};
+ghost use Rattle.kmn_parser.specs.Texts.{hex_glyph, hex_text, hex_count, char_text};
 ghost use Rattle.decompile_text.specs.Pages.{with_text};
 ghost use Rattle.decompile_text.specs.Texts.{quoted_text};
 

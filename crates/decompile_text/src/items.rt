@@ -4,7 +4,7 @@ ghost use Rattle.std.specs.Prelude.{◌≡◌, ◌++◌, ◌∷◌, [], map, bit
 ghost use Rattle.std.specs.Fmt.{decimal};
 ghost use Rattle.kmn_base.specs.declared.keys.TheConstants.{VIRTUAL_KEY};
 ghost use Rattle.virtual_keys.specs.Keys.{shift_flags};
-ghost use Rattle.kmn_text.specs.Items.{option_name};
+ghost use Rattle.kmn_parser.specs.Items.{option_name};
 ghost use Rattle.decompile_text.specs.Pages.{with_text};
 ghost use Rattle.decompile_text.specs.OneByOne.{with_flag_words};
 ghost use Rattle.decompile_text.specs.Texts.{call_text, index_text, compared_text, flag_text, virtual_text, element_text, pattern_text, output_text, key_text};

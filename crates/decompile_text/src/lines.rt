@@ -2,7 +2,7 @@
 
 ghost use Rattle.std.specs.Prelude.{◌≡◌, ◌++◌, ◌∷◌, [], None, unwrap_or, codes, nat_eq, slice_get, OnOk, if◌then◌else◌};
 ghost use Rattle.rule_model.specs.declared.system.TheConstants.{NO_GROUP};
-ghost use Rattle.kmn_text.specs.Statements.{system_name};
+ghost use Rattle.kmn_parser.specs.Statements.{system_name};
 ghost use Rattle.decompile_text.specs.Pages.{with_text};
 ghost use Rattle.decompile_text.specs.OneByOne.{with_elements, with_context, with_outputs, with_rules, with_groups, with_stores};
 ghost use Rattle.decompile_text.specs.Texts.{outputs_text, some_outputs_text, rule_text, statement_text, group_text, store_text, begin_text, begins_text, call_text, if_called};

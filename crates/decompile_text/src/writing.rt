@@ -3,7 +3,7 @@
 ghost use Rattle.std.specs.Prelude.{◌≡◌, ◌≤◌, ◌++◌, [], false, length, nat_lt, true, unwrap_or, slice_get, if◌then◌else◌, IfOk, OnOk};
 ghost use Rattle.kmn_base.specs.declared.limits.TheConstants.{KEY_NAMES, TEXT_BYTES};
 ghost use Rattle.rule_model.specs.Tab.{tab_dictionary};
-ghost use Rattle.kmn_text.specs.Programs.{program_text};
+ghost use Rattle.kmn_parser.specs.Programs.{program_text};
 ghost use Rattle.decompile_laws.specs.Back.{back, names_for, free_stores, mark_stores, key_stores};
 ghost use Rattle.decompile_text.specs.Pages.{with_text};
 ghost use Rattle.decompile_text.specs.Whole.{front_text, tables_text, IsFront};

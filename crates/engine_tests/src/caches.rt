@@ -1,7 +1,7 @@
 //! The cache after each call, and what is filled in and read again.
 
 use crate::fixtures::marked;
-use context_cache::Cache;
+use event_text::Cache;
 use kmn_base::Item::{Char, Mark};
 use kmn_base::{Item, Memory};
 use std::alloc::Global;

@@ -3,8 +3,7 @@
 ghost use Rattle.std.specs.Prelude.{◌≡◌, ◌<◌, ◌^◌, length};
 ghost use Rattle.kmn_base.specs.declared.limits.TheConstants.{EVENT_PUTS, WINDOW_ITEMS};
 
-use context_cache::Cache;
-use event_text::{Edited, Inserted, Left};
+use event_text::{Cache, Edited, Inserted, Left};
 use kmn_base::Item::{Char, Mark};
 use kmn_base::limits::EVENT_PUTS;
 use kmn_base::{Item, Memory};

@@ -6,7 +6,7 @@ ghost use Rattle.kmn_base.specs.declared.events.Event.TheVariants as event;
 ghost use Rattle.kmn_base.specs.declared.items.Item.TheVariants as item;
 ghost use Rattle.kmn_base.specs.declared.limits.TheConstants.{WINDOW_ITEMS};
 
-use context_cache::Cache;
+use event_text::Cache;
 use kmn_base::Item::{Char, Mark};
 use kmn_base::{Event, Memory};
 use meaning_tests::events::press;

@@ -1,4 +1,4 @@
-//! The tests of the engine and of the crates below it: `caches` of `context_cache`, `event_texts` of `event_text`,
+//! The tests of the engine and of the crates below it: `caches` and `event_texts` of `event_text`,
 //! `option_values` of `option_store`, and `pressing` of `rule_engine`; of `play_session`: `sessions` has sessions event by event,
 //! and `choices` the lines of the rules that they choose; and of `curlew_calls`: `calls` has what its errors print.
 //!

@@ -8,8 +8,8 @@ use Rattle.kmn_base.specs.declared.items.Item.TheVariants.{Char}
 use Rattle.kmn_base.specs.Lists.{characters, is_mark, without_last, window, put, read_again}
 use Rattle.kmn_base.proofs.Lists.{characters-append, characters-map, length-window, without_last-append-last}
 use Rattle.kmn_base.proofs.ReadingAgain.{without_last_at, reading_again_is_sound, reading_again_gives_the_text}
-use Rattle.context_cache.specs.Cached.{whole, filled, StandsAtEnd}
-use Rattle.context_cache.proofs.Cached.{puts_are_of_the_list, takes_are_of_the_list, filling_keeps_the_list, the_list_is_its_text_and_window}
+use Rattle.event_text.specs.Cached.{whole, filled, StandsAtEnd}
+use Rattle.event_text.proofs.Cached.{puts_are_of_the_list, takes_are_of_the_list, filling_keeps_the_list, the_list_is_its_text_and_window}
 
 -- an item is put
 pub put_one : (text : List ℕ) (cache : List Item) (item : Item) → StandsAtEnd cache text

@@ -1,2 +1,4 @@
 pub mod StandingTexts
 pub mod Lefts
+pub mod Windows
+pub mod Cached

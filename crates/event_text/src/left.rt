@@ -4,9 +4,8 @@ ghost use Rattle.kmn_base.specs.Lists.{characters, without_last, window, put, re
 ghost use Rattle.rule_model.specs.Enter.{without_end_marks, without_last_character};
 ghost use Rattle.rule_model.specs.KeyEvent.{deleted, inserted};
 
-use crate::Inserted;
 use crate::standing::Standing;
-use context_cache::Cache;
+use crate::{Cache, Inserted};
 use kmn_base::Item;
 use std::marker::Model;
 
@@ -29,7 +28,7 @@ pub struct Edited {
 impl<'a> Model for Left<'a> {
     ghost use Rattle.std.specs.Prelude.{◌≡◌, ◌≤◌};
     ghost use Rattle.kmn_base.specs.declared.limits.TheConstants.{EVENT_PUTS, WINDOW_ITEMS};
-    ghost use Rattle.context_cache.specs.Cached.{whole, StandsAtEnd};
+    ghost use Rattle.event_text.specs.Cached.{whole, StandsAtEnd};
     ghost use Rattle.event_text.specs.Texts.{LeftValue};
 
     ghost Value = { LeftValue };

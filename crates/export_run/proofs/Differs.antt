@@ -2,7 +2,7 @@
 use Rattle.std.proofs.Common.{◌≡◌, ℕ, ◌+◌, ◌<◌, List, ◌∷◌, ◌++◌, length, drop, flat_map, get_or, ap, sym, ◌∙◌, subst, add-one, drop-cons}
 use Rattle.play_transcript.specs.Printing.{AppendsBut, IsBegun}
 use Rattle.play_transcript.proofs.PrintingLaws.{none_appended, begun_within, begun_front}
-use Rattle.core_differences.specs.declared.construct.Difference.{Difference}
+use Rattle.core_export.specs.declared.construct.Difference.{Difference}
 use Rattle.export_run.specs.Lines.{differs_line, exported_line}
 
 -- all lines are still to be printed

@@ -10,7 +10,7 @@ use Rattle.kmn_outside.specs.declared.traits.ReadError.TheVariants as read
 use Rattle.kmx_verifier.specs.FaultOf.{fault_of, size_fault}
 use Rattle.export_run.specs.declared.reading.ExportReason.TheVariants.{File}
 use Rattle.export_run.specs.declared.reading.ExportStop.TheVariants as stop
-use Rattle.keyman_status.specs.Seen.{FolderView}
+use Rattle.keyman_words.specs.Seen.{FolderView}
 use Rattle.export_run.specs.Reads.{Gives}
 
 -- their first fault is V15 at 0

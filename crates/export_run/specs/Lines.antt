@@ -3,10 +3,10 @@ use Rattle.std.specs.Prelude.{ℕ, List, [], ◌∷◌, ◌++◌, length, map, f
 use Rattle.std.specs.List.{concat}
 use Rattle.std.specs.Fmt.{decimal}
 use Rattle.rule_model.specs.Lines.{joined}
-use Rattle.keyman_lines.specs.Reasons.{fault_line}
-use Rattle.core_differences.specs.declared.construct.Construct.{Construct}
-use Rattle.core_differences.specs.declared.construct.Construct.TheVariants as construct
-use Rattle.core_differences.specs.declared.construct.Difference.{Difference}
+use Rattle.keyman_words.specs.Reasons.{fault_line}
+use Rattle.core_export.specs.declared.construct.Construct.{Construct}
+use Rattle.core_export.specs.declared.construct.Construct.TheVariants as construct
+use Rattle.core_export.specs.declared.construct.Difference.{Difference}
 use Rattle.export_run.specs.declared.reading.ExportReason.{ExportReason}
 use Rattle.export_run.specs.declared.reading.ExportReason.TheVariants.{File, SavesTwice, NoZeroUnit, Entangled}
 use Rattle.export_run.specs.declared.reading.Export.{Export}

@@ -5,11 +5,11 @@ use Rattle.kmx_format.specs.TablesOf.{tables_of}
 use Rattle.kmx_verifier.specs.FaultOf.{IsValid, fault_of}
 use Rattle.kmx_verifier.specs.declared.faults.VerifyError.{VerifyError}
 use Rattle.kmx_verifier.specs.declared.faults.VerifyError.TheVariants as verify
-use Rattle.core_differences.specs.Differences.{differences}
+use Rattle.core_export.specs.Differences.{differences}
 use Rattle.core_export.specs.Export.{Exports, IsExportError}
 use Rattle.core_export.specs.declared.errors.ExportError.{ExportError}
 use Rattle.core_export.specs.declared.errors.ExportError.TheVariants as error
-use Rattle.keyman_status.specs.Seen.{FolderView, FolderState, seen_folder}
+use Rattle.keyman_words.specs.Seen.{FolderView, FolderState, seen_folder}
 use Rattle.export_run.specs.declared.reading.ExportReason.{ExportReason}
 use Rattle.export_run.specs.declared.reading.ExportReason.TheVariants.{File, SavesTwice, NoZeroUnit, Entangled}
 use Rattle.export_run.specs.declared.reading.Export.{Export}

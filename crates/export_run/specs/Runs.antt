@@ -4,10 +4,10 @@ use Rattle.kmn_outside.specs.Outside.{Rose, SameOthers, call_of}
 use Rattle.play_transcript.specs.Printing.{IsBegun}
 use Rattle.export_run.specs.declared.reading.ExportReason.{ExportReason}
 use Rattle.export_run.specs.declared.reading.Export.{Export}
-use Rattle.keyman_status.specs.declared.status.Status.{Status}
-use Rattle.keyman_status.specs.declared.status.Status.TheVariants as status
+use Rattle.keyman_words.specs.declared.status.Status.{Status}
+use Rattle.keyman_words.specs.declared.status.Status.TheVariants as status
 use Rattle.export_run.specs.Lines.{unexported_line, exported_text}
-use Rattle.keyman_status.specs.Seen.{FolderView, FolderState, SinkView, SinkState, IsSilent, seen_folder, seen_sink}
+use Rattle.keyman_words.specs.Seen.{FolderView, FolderState, SinkView, SinkState, IsSilent, seen_folder, seen_sink}
 use Rattle.export_run.specs.Reads.{HasExport, HasReason, HasRead, HasFailedToRead, HasMaybeRead}
 
 -- the file was read, and its export was written under the target's name: no other name differs

@@ -2,10 +2,10 @@
 use Rattle.std.specs.Prelude.{◌≡◌}
 use Rattle.export_run.specs.declared.reading.ExportStop.{ExportStop}
 use Rattle.export_run.specs.declared.reading.ExportStop.TheVariants as stop
-use Rattle.keyman_status.specs.declared.status.Status.{Status}
-use Rattle.keyman_status.specs.declared.status.Status.TheVariants as status
-use Rattle.keyman_status.specs.Seen.{SinkView}
-use Rattle.keyman_status.specs.Tells.{Tells}
+use Rattle.keyman_words.specs.declared.status.Status.{Status}
+use Rattle.keyman_words.specs.declared.status.Status.TheVariants as status
+use Rattle.keyman_words.specs.Seen.{SinkView}
+use Rattle.keyman_words.specs.Tells.{Tells}
 use Rattle.export_run.specs.Lines.{unexported_line}
 
 -- the line of the reason, or nothing

@@ -1,8 +1,7 @@
 //! A run of the exporter: a compiled file is read and verified, and the file that Keyman's own engine plays is written.
 //!
-//! It stands on `core_export`, which makes that file, on `kmx_verifier`, on `keyman_words` for reading and writing by name, on
-//! `keyman_lines` for the line of a file's fault, on `keyman_status` for how a run ends, and on `kmn_outside` for the folder and
-//! the sink. The layer above calls `export_run`, whose clause `Runs` (`specs/Runs`) says by status what was read, written and
+//! It stands on `core_export`, which makes that file, on `kmx_verifier`, on `keyman_words` for reading and writing by name, for the
+//! line of a file's fault and for how a run ends, and on `kmn_outside` for the folder and the sink. The layer above calls `export_run`, whose clause `Runs` (`specs/Runs`) says by status what was read, written and
 //! printed, and ends with the number of its `Status`.
 #![tactic(auto)]
 
@@ -10,5 +9,5 @@ mod printing;
 mod reading;
 mod running;
 
-pub use keyman_status::Status;
+pub use keyman_words::Status;
 pub use running::export_run;

@@ -3,10 +3,8 @@
 ghost use Rattle.std.specs.Prelude.{◌≡◌};
 ghost use Rattle.export_run.specs.Reads.{Answers, Gives, States};
 
-use core_differences::Difference;
-use core_export::{ExportError, differences, export};
-use keyman_lines::LONG_FILE;
-use keyman_words::{FileName, read};
+use core_export::{Difference, ExportError, differences, export};
+use keyman_words::{FileName, LONG_FILE, read};
 use kmn_base::limits::FILE_BYTES;
 use kmn_base::{Memory, Seq};
 use kmn_outside::{Folder, ReadError};

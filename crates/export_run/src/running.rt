@@ -2,8 +2,7 @@ ghost use Rattle.export_run.specs.Runs.{Exports, Runs};
 
 use crate::printing::{tell_exported, tell_stop};
 use crate::reading::read_export;
-use keyman_status::{Status, write_status};
-use keyman_words::{FileName, write};
+use keyman_words::{FileName, Status, write, write_status};
 use kmn_base::Text;
 use kmn_outside::{Folder, Sink};
 use std::alloc::Global;

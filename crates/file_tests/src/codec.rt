@@ -1,7 +1,7 @@
 //! Bytes and what they give, and each item as its bytes.
 
-use item_codec::{BadUnits, UnitItem, items_of, spell};
 use kmn_base::{Memory, Seq};
+use kmx_format::{BadUnits, UnitItem, items_of, spell};
 use source_tests::fixtures::parted;
 use std::alloc::{AllocError, Global};
 use std::fmt::Write;

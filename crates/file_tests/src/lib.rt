@@ -1,4 +1,4 @@
-//! The tests of the crates that write and open files and of those below them: `codec` of `item_codec`, `views` and
+//! The tests of the crates that write and open files and of those below them: `codec` of `kmx_format`, `views` and
 //! `parts` of `kmx_parts`, `candidates` of `rule_index`, `writing` of `kmx_writer`, `verifying` of `kmx_verifier`, `sources` of
 //! `kmx_decompiler`, which makes its texts by `decompile_text`, `layouts` of `touch_layout`, and `exporting` of `core_export`.
 //!

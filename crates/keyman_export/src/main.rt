@@ -1,19 +1,19 @@
 //! The program of the exporter: it makes of a compiled file one that Keyman's own engine plays.
 //!
-//! It stands on `program_words` for the words of the call, on `export_run`, whose `export_run` reads, exports and writes over a folder
-//! and a sink, and on `keyman_status`, whose `status_number` is the exit status. `main` is one call of `run_words`, over the real files and standard output with the words of
-//! the call.
+//! It stands on `keyman_words` for the words of the call and for the exit status, which is its `status_number`, and on `export_run`,
+//! whose `export_run` reads, exports and writes over a folder and a sink. `main` is one call of `run_words`, over the real files and
+//! standard output with the words of the call.
 #![tactic(auto)]
 
 ghost use Rattle.std.specs.Prelude.{◌≡◌, IfErr, IfOk};
 ghost use Rattle.std.specs.Process.{exit_status};
 ghost use Rattle.export_run.specs.Runs.{Runs};
-ghost use Rattle.keyman_status.specs.Status.{status_number};
+ghost use Rattle.keyman_words.specs.Status.{status_number};
 
 use export_run::{Status, export_run};
+use keyman_words::words;
 use kmn_base::{Memory, Seq, Text};
 use kmn_outside::{DiskFolder, Folder, Sink, StreamSink};
-use program_words::words;
 use std::alloc::Global;
 use std::process::ExitCode;
 

@@ -14,18 +14,18 @@ use Rattle.kmx_verifier.specs.declared.faults.VerifyError.TheVariants as verify
 use Rattle.kmx_verifier.specs.FaultOf.{fault_of, IsRefusal}
 use Rattle.kmx_verifier.proofs.FileValid.{file_valid}
 use Rattle.keyman_run.specs.declared.preparing.Stop.{Stop}
-use Rattle.keyman_lines.specs.declared.reason.Reason.{Reason}
-use Rattle.keyman_lines.specs.declared.reason.Reason.TheVariants as reason
-use Rattle.keyman_status.specs.declared.status.Status.{Status}
-use Rattle.keyman_status.specs.declared.status.Status.TheVariants as status
+use Rattle.keyman_words.specs.declared.reason.Reason.{Reason}
+use Rattle.keyman_words.specs.declared.reason.Reason.TheVariants as reason
+use Rattle.keyman_words.specs.declared.status.Status.{Status}
+use Rattle.keyman_words.specs.declared.status.Status.TheVariants as status
 use Rattle.keyman_run.specs.Endings.{Ending, play_ending, play_status, refused_ending, verify_ending}
-use Rattle.keyman_lines.specs.Lines.{valid_line}
+use Rattle.keyman_words.specs.Lines.{valid_line}
 use Rattle.keyman_run.specs.Inputs.{tables_of_file, unless_faulty}
 use Rattle.keyman_run.specs.Orders.{bytes_play_work, tables_play_work}
-use Rattle.keyman_lines.specs.Reasons.{fault_line}
+use Rattle.keyman_words.specs.Reasons.{fault_line}
 use Rattle.keyman_run.specs.Run.{Does}
-use Rattle.keyman_status.specs.Seen.{FolderView, SinkView}
-use Rattle.keyman_status.specs.Tells.{Tells}
+use Rattle.keyman_words.specs.Seen.{FolderView, SinkView}
+use Rattle.keyman_words.specs.Tells.{Tells}
 use Rattle.keyman_run.specs.Steps.{TellsFile, TellsStop, verify_stop}
 use Rattle.keyman_run.specs.Work.{Work, given, and_then, reads}
 use Rattle.keyman_run.specs.Work.Work.{Give, Refuse}

@@ -4,14 +4,14 @@ use Rattle.rule_model.specs.declared.tables.Tables.{Tables}
 use Rattle.kmx_format.specs.TablesOf.{tables_of}
 use Rattle.kmx_verifier.specs.FaultOf.{fault_of, IsRefusal}
 use Rattle.kmx_verifier.specs.declared.faults.VerifyError.{VerifyError}
-use Rattle.host_script.specs.declared.entries.HostEntry.{HostEntry}
-use Rattle.play_host.specs.HostText.{host_end, host_text}
-use Rattle.keyman_status.specs.declared.status.Status.{Status}
+use Rattle.play_script.specs.declared.entries.HostEntry.{HostEntry}
+use Rattle.play_transcript.specs.HostText.{host_end, host_text}
+use Rattle.keyman_words.specs.declared.status.Status.{Status}
 use Rattle.keyman_run.specs.Endings.{end_status, host_ending}
 use Rattle.keyman_run.specs.Orders.{bytes_host_work, tables_host_work}
 use Rattle.keyman_run.specs.Run.{Does}
-use Rattle.keyman_status.specs.Seen.{FolderView, SinkView}
-use Rattle.keyman_status.specs.Tells.{Tells}
+use Rattle.keyman_words.specs.Seen.{FolderView, SinkView}
+use Rattle.keyman_words.specs.Tells.{Tells}
 use Rattle.keyman_run.specs.Steps.{TellsStop, verify_stop}
 use Rattle.keyman_run.specs.Work.Work.{Give}
 use Rattle.keyman_run.proofs.FileRuns.{does_unread, does_valid}

@@ -19,13 +19,13 @@ use Rattle.play_script.specs.declared.errors.ScriptError.{ScriptError}
 use Rattle.play_script.specs.declared.errors.ScriptError.TheVariants as script
 use Rattle.keyman_run.specs.declared.preparing.Stop.{Stop}
 use Rattle.keyman_run.specs.declared.preparing.Stop.TheVariants as stop
-use Rattle.keyman_lines.specs.declared.reason.Reason.{Reason}
-use Rattle.keyman_lines.specs.declared.reason.Reason.TheVariants as reason
+use Rattle.keyman_words.specs.declared.reason.Reason.{Reason}
+use Rattle.keyman_words.specs.declared.reason.Reason.TheVariants as reason
 use Rattle.keyman_run.specs.Asked.{Ask, read_of, answered}
 use Rattle.keyman_run.specs.Inputs.{by_line, file_from, pictured_within, unless_large}
 use Rattle.keyman_run.specs.Orders.{file_work, picture_work}
 use Rattle.keyman_run.specs.Run.{HasRead}
-use Rattle.keyman_status.specs.Seen.{FolderView, FolderState, seen_folder}
+use Rattle.keyman_words.specs.Seen.{FolderView, FolderState, seen_folder}
 use Rattle.keyman_run.specs.Steps.{StopCounts, GivesBy, Gives, States, read_stop, compile_stop, script_stop, itself}
 use Rattle.keyman_run.specs.Work.{Reading, Work, given, and_then, reads, comes_to}
 use Rattle.keyman_run.specs.Work.Reading.{Bytes, Over}

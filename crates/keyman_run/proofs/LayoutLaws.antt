@@ -6,15 +6,15 @@ use Rattle.touch_layout.specs.Layout.{key_count, layout_fault}
 use Rattle.touch_layout.specs.declared.faults.LayoutError.{LayoutError}
 use Rattle.touch_layout.specs.declared.faults.LayoutError.TheVariants as layout_error
 use Rattle.touch_layout.specs.declared.faults.LayoutFault.{LayoutFault}
-use Rattle.keyman_status.specs.declared.status.Status.{Status}
-use Rattle.keyman_status.specs.declared.status.Status.TheVariants as status
+use Rattle.keyman_words.specs.declared.status.Status.{Status}
+use Rattle.keyman_words.specs.declared.status.Status.TheVariants as status
 use Rattle.keyman_run.specs.Endings.{Ending, layout_ending}
-use Rattle.keyman_lines.specs.Lines.{sound_line}
+use Rattle.keyman_words.specs.Lines.{sound_line}
 use Rattle.keyman_run.specs.Inputs.{keys_of, unless_broken}
 use Rattle.keyman_run.specs.Orders.{compiled_work, layout_work, tables_layout_work}
 use Rattle.keyman_run.specs.Run.{Does}
-use Rattle.keyman_status.specs.Seen.{FolderView, SinkView}
-use Rattle.keyman_status.specs.Tells.{Tells}
+use Rattle.keyman_words.specs.Seen.{FolderView, SinkView}
+use Rattle.keyman_words.specs.Tells.{Tells}
 use Rattle.keyman_run.specs.Steps.{States, itself, layout_stop}
 use Rattle.keyman_run.specs.Work.{Work, and_then}
 use Rattle.keyman_run.specs.Work.Reading.{Bytes}

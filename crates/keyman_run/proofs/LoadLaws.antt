@@ -29,23 +29,23 @@ use Rattle.keyman_run.specs.declared.loading.Progress.{Progress}
 use Rattle.keyman_run.specs.declared.loading.Sums.{Sums}
 use Rattle.keyman_run.specs.declared.preparing.Stop.{Stop}
 use Rattle.keyman_run.specs.declared.preparing.Stop.TheVariants as stop
-use Rattle.keyman_lines.specs.declared.reason.Reason.{Reason}
-use Rattle.keyman_lines.specs.declared.reason.Reason.TheVariants as reason
+use Rattle.keyman_words.specs.declared.reason.Reason.{Reason}
+use Rattle.keyman_words.specs.declared.reason.Reason.TheVariants as reason
 use Rattle.keyman_run.specs.Inputs.{file_from, pictured_within, unless_large}
-use Rattle.load_laws.specs.Plays.{items_put, last_state}
+use Rattle.load_maker.specs.Plays.{items_put, last_state}
 use Rattle.load_maker.specs.declared.load.LoadError.{LoadError}
 use Rattle.load_maker.specs.declared.load.LoadError.TheVariants as load
 use Rattle.load_maker.specs.Loads.{is_in_range, load_source, load_script}
 use Rattle.keyman_run.specs.Loads.{compiled_within, job_of, load_job, load_line, load_text, played_load, sums_behind, sums_from, sums_of, sums_left, unless_stopped, no_progress, LeadsTo}
-use Rattle.keyman_status.specs.declared.status.Status.{Status}
-use Rattle.keyman_status.specs.declared.status.Status.TheVariants as status
+use Rattle.keyman_words.specs.declared.status.Status.{Status}
+use Rattle.keyman_words.specs.declared.status.Status.TheVariants as status
 use Rattle.keyman_run.specs.Endings.{Job, load_ending, refused_ending}
 use Rattle.keyman_words.specs.Command.{Request, is_form, request_of}
 use Rattle.keyman_words.specs.Command.Request.{Load}
 use Rattle.keyman_run.specs.Orders.{work_of}
 use Rattle.keyman_run.specs.Run.{Does}
-use Rattle.keyman_status.specs.Seen.{FolderView, SinkView}
-use Rattle.keyman_status.specs.Tells.{Tells}
+use Rattle.keyman_words.specs.Seen.{FolderView, SinkView}
+use Rattle.keyman_words.specs.Tells.{Tells}
 use Rattle.keyman_run.specs.Steps.{States, TellsLoad, TellsStop, compile_stop, load_stop, verify_stop, itself}
 use Rattle.keyman_run.specs.Work.{given, and_then}
 use Rattle.keyman_run.specs.Work.Work.{Give, Refuse}

@@ -29,15 +29,15 @@ use Rattle.kmn_compiler.specs.declared.compiling.Compiled.{Compiled}
 use Rattle.kmn_compiler.proofs.Checks.{checked_means, checked_steps, checked_prints}
 use Rattle.keyman_run.specs.declared.preparing.Stop.{Stop}
 use Rattle.keyman_run.specs.declared.preparing.Stop.TheVariants as stop
-use Rattle.keyman_lines.specs.declared.reason.Reason.{Reason}
-use Rattle.keyman_status.specs.declared.status.Status.{Status}
-use Rattle.keyman_status.specs.declared.status.Status.TheVariants as status
+use Rattle.keyman_words.specs.declared.reason.Reason.{Reason}
+use Rattle.keyman_words.specs.declared.status.Status.{Status}
+use Rattle.keyman_words.specs.declared.status.Status.TheVariants as status
 use Rattle.keyman_run.specs.Asked.{Ask, write_of, answered, failed, AsksAll, AsksUntil, AsksBy, has_written, HasWritten}
 use Rattle.keyman_run.specs.Endings.{Ending, Job, conclusion, refused_ending, compile_ending, test_ending, play_status, ends, file_asks, writes}
 use Rattle.keyman_run.specs.Inputs.{Pictured, by_line, file_from, picture_of, pictured_within, program_of, unless_large}
 use Rattle.keyman_run.specs.Orders.{source_work, picture_work, pictured_work, program_work, file_work, compiled_work, script_work, job_work, compile_work, test_work}
 use Rattle.keyman_run.specs.Run.{Written, HasRead, HasWorked, HasFailedToWrite, LeavesBy, Does, SourceMeans}
-use Rattle.keyman_status.specs.Seen.{FolderView, SinkView, FolderState, SinkState, seen_folder, seen_sink}
+use Rattle.keyman_words.specs.Seen.{FolderView, SinkView, FolderState, SinkState, seen_folder, seen_sink}
 use Rattle.keyman_run.specs.Steps.{GivesBy}
 use Rattle.keyman_run.specs.Work.{Reading, Work, given, and_then, reading_of, reads, comes_to}
 use Rattle.keyman_run.specs.Work.Reading.{Bytes, Over}

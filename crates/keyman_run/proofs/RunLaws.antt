@@ -7,14 +7,14 @@ use Rattle.kmn_outside.specs.declared.traits.WriteError.{WriteError}
 use Rattle.kmn_outside.specs.declared.traits.WriteError.TheVariants as write
 use Rattle.keyman_run.specs.declared.preparing.Stop.{Stop}
 use Rattle.keyman_run.specs.declared.preparing.Stop.TheVariants as stop
-use Rattle.keyman_lines.specs.declared.reason.Reason.{Reason}
-use Rattle.keyman_status.specs.declared.status.Status.{Status}
-use Rattle.keyman_status.specs.declared.status.Status.TheVariants as status
+use Rattle.keyman_words.specs.declared.reason.Reason.{Reason}
+use Rattle.keyman_words.specs.declared.status.Status.{Status}
+use Rattle.keyman_words.specs.declared.status.Status.TheVariants as status
 use Rattle.keyman_run.specs.Asked.{Ask, write_of, answered, failed}
 use Rattle.keyman_run.specs.Endings.{Ending, conclusion, refused_ending, ends, file_asks}
 use Rattle.keyman_run.specs.Run.{Written, HasRead, HasBegunToRead, HasFailedToRead, HasWorked, IsEnded, IsSpoilt, IsCutOff, LeavesBy, FaultCounts, Does}
-use Rattle.keyman_status.specs.Seen.{FolderView, SinkView, FolderState, SinkState, seen_folder, seen_sink}
-use Rattle.keyman_status.specs.Tells.{SinkCounts, PrintsBy, Tells, write_status}
+use Rattle.keyman_words.specs.Seen.{FolderView, SinkView, FolderState, SinkState, seen_folder, seen_sink}
+use Rattle.keyman_words.specs.Tells.{SinkCounts, PrintsBy, Tells, write_status}
 use Rattle.keyman_run.specs.Steps.{StopCounts, GivesBy, Gives, TellsStop}
 use Rattle.keyman_run.specs.Work.{Work, and_then, reads, comes_to}
 use Rattle.keyman_run.specs.Work.Work.{Give, Refuse}

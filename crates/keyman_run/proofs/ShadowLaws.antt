@@ -10,16 +10,16 @@ use Rattle.kmn_compiler.proofs.Accepted.{IsAccepted}
 use Rattle.kmn_compiler.proofs.Checks.{checked_accepted}
 use Rattle.shadow_text.specs.DeadLines.{IsDeadLine, dead_lines}
 use Rattle.shadow_text.proofs.DeadRules.{dead_lines_dead}
-use Rattle.play_host.proofs.Fields.{fields_are_traces}
-use Rattle.keyman_lines.specs.declared.reason.Reason.{Reason}
+use Rattle.play_transcript.proofs.Fields.{fields_are_traces}
+use Rattle.keyman_words.specs.declared.reason.Reason.{Reason}
 use Rattle.keyman_words.specs.Command.{Request}
 use Rattle.keyman_words.specs.Command.Request.{Compile, Decompile, Host, Layout, Load, Play, Shadow, Test, Trace, Verify}
-use Rattle.keyman_status.specs.declared.status.Status.{Status}
+use Rattle.keyman_words.specs.declared.status.Status.{Status}
 use Rattle.keyman_run.specs.Endings.{Ending, refused_ending, shadow_ending}
 use Rattle.keyman_run.specs.Inputs.{Pictured, few_records}
 use Rattle.keyman_run.specs.Orders.{compiled_work, program_work, shadow_work}
 use Rattle.keyman_run.specs.Run.{Does, FieldsAreAlone, LinesAreDead}
-use Rattle.keyman_status.specs.Seen.{FolderView, SinkView}
+use Rattle.keyman_words.specs.Seen.{FolderView, SinkView}
 use Rattle.keyman_run.specs.Steps.{TellsDead}
 use Rattle.keyman_run.specs.Work.{Work, given, and_then, comes_to}
 use Rattle.keyman_run.specs.Work.Work.{Give, Refuse}

@@ -18,17 +18,17 @@ use Rattle.rule_model.specs.Transcript.{events_of}
 use Rattle.rule_model.specs.declared.program.Program.{Program}
 use Rattle.rule_model.specs.declared.script.Entry.{Entry}
 use Rattle.load_maker.specs.Loads.{is_in_range, load_source, load_script}
-use Rattle.load_laws.specs.Keyboards.{load_events}
-use Rattle.load_laws.specs.Plays.{Plays}
-use Rattle.load_laws.specs.Programs.{load_program}
-use Rattle.load_laws.specs.Scripts.{press_entries}
-use Rattle.load_laws.proofs.LoadChecks.{sources_are_checked}
-use Rattle.load_laws.proofs.LoadFiles.{files_have_sizes}
-use Rattle.load_laws.proofs.LoadPlays.{files_play}
-use Rattle.load_laws.proofs.LoadScripts.{scripts_are_read}
+use Rattle.load_maker.specs.Keyboards.{load_events}
+use Rattle.load_maker.specs.Plays.{Plays}
+use Rattle.load_maker.specs.Programs.{load_program}
+use Rattle.load_maker.specs.Scripts.{press_entries}
+use Rattle.load_maker.proofs.LoadChecks.{sources_are_checked}
+use Rattle.load_maker.proofs.LoadFiles.{files_have_sizes}
+use Rattle.load_maker.proofs.LoadPlays.{files_play}
+use Rattle.load_maker.proofs.LoadScripts.{scripts_are_read}
 use Rattle.keyman_run.specs.declared.loading.Sums.{Sums}
-use Rattle.keyman_lines.specs.declared.reason.Reason.{Reason}
-use Rattle.keyman_lines.specs.declared.reason.Reason.TheVariants as reason
+use Rattle.keyman_words.specs.declared.reason.Reason.{Reason}
+use Rattle.keyman_words.specs.declared.reason.Reason.TheVariants as reason
 use Rattle.keyman_run.specs.Endings.{Job}
 use Rattle.keyman_run.specs.Inputs.{Pictured, by_line, file_from, unless_large}
 use Rattle.keyman_run.specs.Loads.{job_of, load_line, load_text, played_load, program_job, script_job, sums_of, unless_stopped}

@@ -10,17 +10,17 @@ use Rattle.kmx_verifier.specs.declared.faults.VerifyError.TheVariants as verify
 use Rattle.kmx_verifier.specs.FaultOf.{fault_of, IsRefusal}
 use Rattle.kmx_verifier.proofs.Playing.{valid_playable}
 use Rattle.rule_model.specs.declared.tables.Tables.{Tables}
-use Rattle.kmn_text.specs.Programs.{program_text}
+use Rattle.kmn_parser.specs.Programs.{program_text}
 use Rattle.decompile_laws.specs.Back.{back}
 use Rattle.decompile_causes.specs.Unspelled.{unspelled}
-use Rattle.round_trips.proofs.Texts.{texts_compile}
+use Rattle.decompile_causes.proofs.Texts.{texts_compile}
 use Rattle.keyman_run.specs.declared.preparing.Stop.{Stop}
 use Rattle.keyman_run.specs.declared.preparing.Stop.TheVariants as stop
-use Rattle.keyman_lines.specs.declared.reason.Reason.{Reason}
+use Rattle.keyman_words.specs.declared.reason.Reason.{Reason}
 use Rattle.keyman_run.specs.Inputs.{IsTextOf, bytes_of, tables_of_file, unless_faulty}
 use Rattle.keyman_run.specs.Orders.{bytes_work}
 use Rattle.keyman_run.specs.Run.{TextMeans}
-use Rattle.keyman_status.specs.Seen.{FolderView}
+use Rattle.keyman_words.specs.Seen.{FolderView}
 use Rattle.keyman_run.specs.Steps.{Gives, States, verify_stop}
 use Rattle.keyman_run.specs.Work.{given, reading_of, comes_to}
 use Rattle.keyman_run.specs.Work.Reading.{Bytes, Over}

@@ -17,9 +17,9 @@ use Rattle.rule_model.specs.Transcript.{events_of}
 use Rattle.compile_laws.specs.Ordered.{compiled_tables}
 use Rattle.compile_laws.proofs.Ordered.{program_compiles}
 use Rattle.rule_checker.specs.Refused.{checked}
-use Rattle.rule_trace.specs.declared.coverage.Hit.{Hit}
-use Rattle.rule_trace.specs.Coverage.{AreLinesOf}
-use Rattle.rule_trace.proofs.Lines.{choice_kept}
+use Rattle.plain_event.specs.declared.coverage.Hit.{Hit}
+use Rattle.plain_event.specs.Coverage.{AreLinesOf}
+use Rattle.plain_event.proofs.Lines.{choice_kept}
 use Rattle.play_trace.proofs.KeyboardLines.{covers_other, same_lines_of_tables}
 use Rattle.play_trace.proofs.TraceLaws.{same_text}
 use Rattle.play_trace.specs.RisingLines.{lines_of_tables}
@@ -30,13 +30,13 @@ use Rattle.play_trace.specs.declared.following.TraceEnd.TheVariants as followed
 use Rattle.play_transcript.specs.Printing.{Prints}
 use Rattle.kmx_format.specs.TablesOf.{tables_of}
 use Rattle.kmn_compiler.proofs.Checks.{checked_accepted, checked_steps}
-use Rattle.keyman_status.specs.declared.status.Status.{Status}
+use Rattle.keyman_words.specs.declared.status.Status.{Status}
 use Rattle.keyman_run.specs.Endings.{Ending, Job, end_of_trace, trace_ending, trace_status}
 use Rattle.keyman_run.specs.Inputs.{Pictured, file_from}
 use Rattle.keyman_run.specs.Orders.{source_work, pictured_work, file_work, script_work, job_work, trace_work}
 use Rattle.keyman_run.specs.Run.{Does}
-use Rattle.keyman_status.specs.Seen.{FolderView, SinkView}
-use Rattle.keyman_status.specs.Tells.{Tells, write_status}
+use Rattle.keyman_words.specs.Seen.{FolderView, SinkView}
+use Rattle.keyman_words.specs.Tells.{Tells, write_status}
 use Rattle.keyman_run.specs.Work.{Work, and_then}
 use Rattle.keyman_run.specs.Work.Work.{Give}
 use Rattle.keyman_run.proofs.MeaningLaws.{IsChecked, IsCompilable, IsOf, all_checked, all_of, job_behind}

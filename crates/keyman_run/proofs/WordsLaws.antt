@@ -1,14 +1,14 @@
 -- A run of words, from what the command does that they ask for.
 use Rattle.std.proofs.Common.{◌≡◌, ℕ, IsTrue, List, Option, Some, None, refl, sym, ap, subst, append-nil}
 use Rattle.std.specs.Prelude.{is_some}
-use Rattle.keyman_status.specs.declared.status.Status.{Status}
-use Rattle.keyman_status.specs.declared.status.Status.TheVariants as status
+use Rattle.keyman_words.specs.declared.status.Status.{Status}
+use Rattle.keyman_words.specs.declared.status.Status.TheVariants as status
 use Rattle.keyman_words.specs.Command.{Request, request_of}
 use Rattle.keyman_run.specs.Endings.{Ending, ends, words_ending}
 use Rattle.keyman_run.specs.Orders.{work_of}
 use Rattle.keyman_run.specs.Run.{Does, FileMeans, Leaves}
 use Rattle.keyman_run.specs.Runs.{Runs}
-use Rattle.keyman_status.specs.Seen.{FolderView, SinkView, seen_folder, seen_sink}
+use Rattle.keyman_words.specs.Seen.{FolderView, SinkView, seen_folder, seen_sink}
 use Rattle.keyman_run.specs.Work.{Work, reads}
 use Rattle.keyman_run.proofs.LoadLaws.{is_asked}
 use Rattle.keyman_run.proofs.MeaningLaws.{asks_by, ends_as_wanted}

@@ -4,7 +4,7 @@ use Rattle.std.specs.Prelude.{option_and_then}
 use Rattle.std.specs.Option.{option_map_or}
 use Rattle.std.proofs.lemmas.Bool.Decides.{nat_tests}
 use Rattle.kmn_outside.specs.Outside.{Files}
-use Rattle.keyman_lines.specs.declared.reason.Reason.{Reason}
+use Rattle.keyman_words.specs.declared.reason.Reason.{Reason}
 use Rattle.keyman_run.specs.Asked.{Ask, read_of}
 use Rattle.keyman_run.specs.Work.{Reading, Work, given, and_then, reading_of, reads, comes_to}
 use Rattle.keyman_run.specs.Work.Reading.{Bytes, Over}

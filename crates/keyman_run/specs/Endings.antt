@@ -7,11 +7,11 @@ use Rattle.rule_model.specs.Trace.{Trace, trace}
 use Rattle.rule_model.specs.Transcript.{events_of, transcript}
 use Rattle.rule_model.specs.declared.script.Entry.{Entry}
 use Rattle.kmn_compiler.specs.declared.compiling.Compiled.{Compiled}
-use Rattle.keyman_lines.specs.declared.reason.Reason.{Reason}
-use Rattle.keyman_lines.specs.Lines.{compiled_line, decompiled_line, sound_line, valid_line}
-use Rattle.keyman_lines.specs.Reasons.{reason_line}
-use Rattle.keyman_status.specs.declared.status.Status.{Status}
-use Rattle.keyman_status.specs.declared.status.Status.TheVariants as status
+use Rattle.keyman_words.specs.declared.reason.Reason.{Reason}
+use Rattle.keyman_words.specs.Lines.{compiled_line, decompiled_line, sound_line, valid_line}
+use Rattle.keyman_words.specs.Reasons.{reason_line}
+use Rattle.keyman_words.specs.declared.status.Status.{Status}
+use Rattle.keyman_words.specs.declared.status.Status.TheVariants as status
 use Rattle.keyman_run.specs.Asked.{Ask, write_of}
 use Rattle.play_transcript.specs.Ends.{play_end}
 use Rattle.play_transcript.specs.declared.playing.PlayEnd.{PlayEnd}
@@ -21,8 +21,8 @@ use Rattle.play_trace.specs.TraceText.{trace_text}
 use Rattle.play_trace.specs.declared.following.TraceEnd.{TraceEnd}
 use Rattle.play_trace.specs.declared.following.TraceEnd.TheVariants as followed
 use Rattle.shadow_text.specs.DeadLines.{dead_text}
-use Rattle.host_script.specs.declared.entries.HostEntry.{HostEntry}
-use Rattle.play_host.specs.HostText.{host_end, host_text}
+use Rattle.play_script.specs.declared.entries.HostEntry.{HostEntry}
+use Rattle.play_transcript.specs.HostText.{host_end, host_text}
 use Rattle.keyman_run.specs.Work.{Work, reads, comes_to}
 
 -- how work ends where nothing fails: its status, the file that it writes by name and bytes, and all that it prints

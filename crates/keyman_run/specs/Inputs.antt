@@ -13,12 +13,12 @@ use Rattle.kmx_writer.specs.Excess.{excess}
 use Rattle.rule_checker.specs.Refused.{checked}
 use Rattle.kmn_compiler.specs.declared.compiling.Compiled.{Compiled}
 use Rattle.play_script.specs.Entries.{entries}
-use Rattle.host_script.specs.HostEntries.{host_entries}
-use Rattle.host_script.specs.declared.entries.HostEntry.{HostEntry}
+use Rattle.play_script.specs.HostEntries.{host_entries}
+use Rattle.play_script.specs.declared.entries.HostEntry.{HostEntry}
 use Rattle.kmx_format.specs.TablesOf.{tables_of}
 use Rattle.kmx_verifier.specs.declared.faults.Fault.{Fault}
 use Rattle.kmx_verifier.specs.FaultOf.{fault_of}
-use Rattle.kmn_text.specs.Programs.{program_text}
+use Rattle.kmn_parser.specs.Programs.{program_text}
 use Rattle.decompile_laws.specs.Back.{back}
 use Rattle.decompile_causes.specs.Laws.{HasText}
 use Rattle.decompile_causes.specs.Unspelled.{unspelled}
@@ -27,8 +27,8 @@ use Rattle.shadow_text.specs.declared.printing.TheConstants.{SHADOW_RECORDS}
 use Rattle.touch_layout.specs.Faults.{fault, whole_layout}
 use Rattle.touch_layout.specs.Layout.{key_count, layout_fault}
 use Rattle.touch_layout.specs.declared.faults.LayoutFault.{LayoutFault}
-use Rattle.keyman_lines.specs.declared.reason.Reason.{Reason}
-use Rattle.keyman_lines.specs.declared.reason.Reason.TheVariants as reason
+use Rattle.keyman_words.specs.declared.reason.Reason.{Reason}
+use Rattle.keyman_words.specs.declared.reason.Reason.TheVariants as reason
 use Rattle.keyman_run.specs.Work.{Reading}
 use Rattle.keyman_run.specs.Work.Reading.{Bytes, Over}
 

@@ -13,15 +13,15 @@ use Rattle.rule_model.specs.Transcript.{events_of}
 use Rattle.rule_model.specs.declared.program.Program.{Program}
 use Rattle.rule_model.specs.declared.script.Entry.{Entry}
 use Rattle.kmn_compiler.specs.declared.compiling.Compiled.{Compiled}
-use Rattle.load_laws.specs.Plays.{items_put, last_state}
+use Rattle.load_maker.specs.Plays.{items_put, last_state}
 use Rattle.load_maker.specs.Loads.{is_in_range, load_source, load_script}
 use Rattle.play_session.specs.Session.{SessionState}
 use Rattle.keyman_run.specs.declared.loading.Progress.{Progress}
 use Rattle.keyman_run.specs.declared.loading.Sums.{Sums}
 use Rattle.keyman_run.specs.declared.preparing.Stop.{Stop}
 use Rattle.keyman_run.specs.declared.preparing.Stop.TheVariants as stop
-use Rattle.keyman_lines.specs.declared.reason.Reason.{Reason}
-use Rattle.keyman_lines.specs.declared.reason.Reason.TheVariants as reason
+use Rattle.keyman_words.specs.declared.reason.Reason.{Reason}
+use Rattle.keyman_words.specs.declared.reason.Reason.TheVariants as reason
 use Rattle.keyman_run.specs.Endings.{Job}
 use Rattle.keyman_run.specs.Inputs.{file_from, pictured_within, program_of, script_of}
 use Rattle.play_transcript.specs.Playing.{steps_left}

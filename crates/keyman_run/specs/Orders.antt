@@ -13,7 +13,7 @@ use Rattle.play_trace.specs.RisingLines.{lines_of_tables}
 use Rattle.keyman_words.specs.Beside.{beside}
 use Rattle.keyman_words.specs.Command.{Request}
 use Rattle.keyman_words.specs.Command.Request.{Compile, Decompile, Host, Layout, Load, Play, Shadow, Test, Trace, Verify}
-use Rattle.host_script.specs.declared.entries.HostEntry.{HostEntry}
+use Rattle.play_script.specs.declared.entries.HostEntry.{HostEntry}
 use Rattle.keyman_run.specs.Endings.{Ending, Job, compile_ending, decompile_ending, host_ending, layout_ending, load_ending, play_ending, shadow_ending, test_ending, trace_ending, verify_ending, words_ending}
 use Rattle.keyman_run.specs.Inputs.{Pictured, few_records, file_from, host_script_of, keys_of, picture_of, pictured_within, program_of, script_of, bytes_of, tables_of_file, text_of_file}
 use Rattle.keyman_run.specs.Loads.{load_text}

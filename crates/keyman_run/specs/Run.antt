@@ -9,12 +9,12 @@ use Rattle.compile_laws.specs.Ordered.{compiled_tables}
 use Rattle.rule_checker.specs.Refused.{checked}
 use Rattle.kmn_compiler.specs.Source.{CompilesTo}
 use Rattle.kmn_compiler.specs.declared.compiling.Compiled.{Compiled}
-use Rattle.round_trips.specs.Laws.{TakesStepsOf}
+use Rattle.decompile_causes.specs.RoundTrips.{TakesStepsOf}
 use Rattle.shadow_text.specs.DeadLines.{IsDeadLine, dead_lines}
-use Rattle.host_script.specs.declared.entries.HostEntry.{HostEntry}
-use Rattle.play_host.specs.Fields.{FieldsAreTraces}
-use Rattle.keyman_status.specs.declared.status.Status.{Status}
-use Rattle.keyman_status.specs.declared.status.Status.TheVariants as status
+use Rattle.play_script.specs.declared.entries.HostEntry.{HostEntry}
+use Rattle.play_transcript.specs.Fields.{FieldsAreTraces}
+use Rattle.keyman_words.specs.declared.status.Status.{Status}
+use Rattle.keyman_words.specs.declared.status.Status.TheVariants as status
 use Rattle.keyman_run.specs.Asked.{Ask, write_of, answered, failed, AsksAll, AsksFirst, AsksUntil, HasWritten}
 use Rattle.keyman_words.specs.Command.{Request}
 use Rattle.keyman_words.specs.Command.Request.{Compile, Decompile, Host, Layout, Load, Play, Shadow, Test, Trace, Verify}
@@ -22,7 +22,7 @@ use Rattle.keyman_run.specs.Endings.{Ending, ends, file_asks}
 use Rattle.keyman_run.specs.Inputs.{Pictured}
 use Rattle.keyman_run.specs.Orders.{host_script_work, program_work, tables_work}
 use Rattle.play_transcript.specs.Printing.{IsBegun}
-use Rattle.keyman_status.specs.Seen.{FolderView, SinkView, FolderState, SinkState, IsSilent, seen_folder, seen_sink}
+use Rattle.keyman_words.specs.Seen.{FolderView, SinkView, FolderState, SinkState, IsSilent, seen_folder, seen_sink}
 use Rattle.keyman_run.specs.Work.{Work, reads, comes_to}
 
 -- the file of an ending is written, and no other name differs

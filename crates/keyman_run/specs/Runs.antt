@@ -1,14 +1,14 @@
 -- What a run of words does to a folder and a sink: the contract of `run`, clause by clause.
 use Rattle.std.specs.Prelude.{◌≡◌, ◌⊎◌, ◌↔◌, ℕ, false, IsTrue, List, IsSomeAnd}
 use Rattle.kmn_outside.specs.Outside.{Rose}
-use Rattle.keyman_status.specs.declared.status.Status.{Status}
-use Rattle.keyman_status.specs.declared.status.Status.TheVariants as status
+use Rattle.keyman_words.specs.declared.status.Status.{Status}
+use Rattle.keyman_words.specs.declared.status.Status.TheVariants as status
 use Rattle.keyman_run.specs.Asked.{AsksBy}
 use Rattle.keyman_words.specs.Command.{is_form, request_of}
 use Rattle.keyman_run.specs.Endings.{asked, ends}
 use Rattle.keyman_run.specs.Orders.{work_of}
 use Rattle.keyman_run.specs.Run.{FaultCounts, FieldsAreAlone, FileMeans, Leaves, LinesAreDead}
-use Rattle.keyman_status.specs.Seen.{FolderView, SinkView, seen_folder, seen_sink}
+use Rattle.keyman_words.specs.Seen.{FolderView, SinkView, seen_folder, seen_sink}
 
 -- a run of words from one state of a folder and a sink to another, with this status; the order of its work is `work_of` of
 -- what they ask for. Where no count of faults rose, the run ends as its words and files want it (`complete`). The file that

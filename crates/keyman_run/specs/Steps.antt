@@ -24,18 +24,18 @@ use Rattle.kmn_compiler.specs.declared.compiling.Compiled.{Compiled}
 use Rattle.keyman_run.specs.declared.preparing.Prepared.{Prepared}
 use Rattle.keyman_run.specs.declared.preparing.Stop.{Stop}
 use Rattle.keyman_run.specs.declared.preparing.Stop.TheVariants as stop
-use Rattle.keyman_lines.specs.declared.reason.Reason.{Reason}
-use Rattle.keyman_lines.specs.declared.reason.Reason.TheVariants as reason
-use Rattle.keyman_status.specs.declared.status.Status.{Status}
-use Rattle.keyman_status.specs.declared.status.Status.TheVariants as status
+use Rattle.keyman_words.specs.declared.reason.Reason.{Reason}
+use Rattle.keyman_words.specs.declared.reason.Reason.TheVariants as reason
+use Rattle.keyman_words.specs.declared.status.Status.{Status}
+use Rattle.keyman_words.specs.declared.status.Status.TheVariants as status
 use Rattle.shadow_text.specs.DeadLines.{dead_text}
 use Rattle.keyman_run.specs.Asked.{Ask}
 use Rattle.keyman_run.specs.Endings.{Job}
-use Rattle.keyman_lines.specs.Lines.{valid_line}
-use Rattle.keyman_lines.specs.Reasons.{reason_line}
+use Rattle.keyman_words.specs.Lines.{valid_line}
+use Rattle.keyman_words.specs.Reasons.{reason_line}
 use Rattle.keyman_run.specs.Run.{HasRead, HasBegunToRead, HasFailedToRead}
-use Rattle.keyman_status.specs.Seen.{FolderView, SinkView, FolderState, seen_folder}
-use Rattle.keyman_status.specs.Tells.{Tells}
+use Rattle.keyman_words.specs.Seen.{FolderView, SinkView, FolderState, seen_folder}
+use Rattle.keyman_words.specs.Tells.{Tells}
 use Rattle.keyman_run.specs.Work.{Work, reads, comes_to}
 
 -- why a run stops where a source was not compiled

@@ -2,7 +2,7 @@
 use Rattle.std.specs.Prelude.{ℕ, ◌+◌, nat_lt, length, if◌then◌else◌, List, [], ◌∷◌, Option, Some, option_and_then, Result, Ok, Err}
 use Rattle.std.specs.Option.{option_map_or}
 use Rattle.kmn_outside.specs.Outside.{Files}
-use Rattle.keyman_lines.specs.declared.reason.Reason.{Reason}
+use Rattle.keyman_words.specs.declared.reason.Reason.{Reason}
 use Rattle.keyman_run.specs.Asked.{Ask, read_of}
 
 -- what reading a file within a limit came to: its bytes, or that it has so many or more

@@ -2,24 +2,23 @@
 
 ghost use Rattle.kmx_format.specs.TablesOf.{tables_of};
 ghost use Rattle.rule_model.specs.Tab.{tab};
-ghost use Rattle.play_host.specs.HostText.{host_end, host_text};
+ghost use Rattle.play_transcript.specs.HostText.{host_end, host_text};
 ghost use Rattle.keyman_run.specs.Endings.{end_status};
 ghost use Rattle.keyman_run.specs.Orders.{bytes_host_work, host_script_work, host_work, tables_host_work};
 ghost use Rattle.keyman_run.specs.Run.{Does};
-ghost use Rattle.keyman_status.specs.Tells.{Tells};
+ghost use Rattle.keyman_words.specs.Tells.{Tells};
 ghost use Rattle.keyman_run.specs.Steps.{Gives, itself};
 
 use crate::preparing::{Stop, at_line_one, own_names, read_file, read_stop};
 use crate::running::{end_status, tell_stop};
-use host_script::{HostEntry, read_host};
-use keyman_status::{Status, write_status};
-use keyman_words::{FileName, read};
+use keyman_words::{FileName, Status, read, write_status};
 use kmn_base::limits::TEXT_BYTES;
 use kmn_base::{Code, Seq};
 use kmn_outside::{Folder, Sink};
 use kmx_verifier::{Verified, verify};
-use play_host::play_host;
+use play_script::{HostEntry, read_host};
 use play_session::Session;
+use play_transcript::play_host;
 use std::alloc::Global;
 use text_host::Host;
 use virtual_keys::KeyDictionary;

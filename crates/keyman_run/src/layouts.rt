@@ -5,8 +5,7 @@ ghost use Rattle.keyman_run.specs.Orders.{keys_work};
 ghost use Rattle.keyman_run.specs.Steps.{Gives, itself};
 
 use crate::preparing::{Stop, read_stop};
-use keyman_lines::Reason;
-use keyman_words::{FileName, read};
+use keyman_words::{FileName, Reason, read};
 use kmn_base::Code;
 use kmn_base::limits::TEXT_BYTES;
 use kmn_outside::Folder;

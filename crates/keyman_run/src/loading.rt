@@ -15,7 +15,7 @@ ghost use Rattle.keyman_run.specs.Loads.{job_of, load_job, program_job, script_j
 ghost use Rattle.keyman_run.specs.Steps.{IsCompiled, States, itself, prepared_job};
 
 use crate::preparing::{Prepared, Stop, key_names};
-use keyman_lines::Reason;
+use keyman_words::Reason;
 use kmn_base::{Code, Event, Memory, Seq, Text};
 use kmn_compiler::{Compiled, back, front};
 use kmx_format::rule_count;

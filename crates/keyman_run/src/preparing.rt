@@ -5,8 +5,7 @@ ghost use Rattle.kmn_compiler.specs.Picture.{picture_name};
 ghost use Rattle.keyman_run.specs.Orders.{bytes_work, compiled_work, file_work, job_work, picture_work, script_work, source_work};
 ghost use Rattle.keyman_run.specs.Steps.{Gives, IsCompiled, itself, prepared_job, at_line_one, read_stop};
 
-use keyman_lines::{LONG_FILE, Reason};
-use keyman_words::{FileName, beside, read};
+use keyman_words::{FileName, LONG_FILE, Reason, beside, read};
 use kmn_base::limits::{FILE_BYTES, PICTURE_BYTES, TEXT_BYTES};
 use kmn_base::{Code, CompileError, Memory, Refusal, Seq};
 use kmn_compiler::{Compiled, back, front, picture_name};

@@ -11,7 +11,7 @@ ghost use Rattle.keyman_run.specs.Inputs.{tables_of_file};
 ghost use Rattle.keyman_run.specs.Loads.{load_text};
 ghost use Rattle.keyman_run.specs.Run.{Does, TextMeans};
 ghost use Rattle.keyman_run.specs.Runs.{Runs};
-ghost use Rattle.keyman_status.specs.Tells.{Tells};
+ghost use Rattle.keyman_words.specs.Tells.{Tells};
 ghost use Rattle.keyman_run.specs.Steps.{IsCompiled, TellsFile, TellsLoad, TellsStop};
 
 use crate::hosting::host_on_file;
@@ -21,9 +21,10 @@ use crate::preparing::{Prepared, Stop, prepare, read_and_compile, read_file, rea
 use crate::shadowing::shadow_rules;
 use crate::texts::read_text;
 use crate::tracing::trace_rules;
-use keyman_lines::{compiled_line, decompiled_line, reason_line, sound_line, valid_line};
-use keyman_status::{Status, tell_line, tell_made, write_status};
-use keyman_words::{Command, FileName, command_of, write};
+use keyman_words::{
+    Command, FileName, Status, command_of, compiled_line, decompiled_line, reason_line, sound_line,
+    tell_line, tell_made, valid_line, write, write_status,
+};
 use kmn_base::{Memory, Text};
 use kmn_outside::{Folder, Sink};
 use kmx_verifier::{Verified, verify};
@@ -297,7 +298,7 @@ fn tell_session<'a, S: Sink>(
 }
 
 /// Ends a run that stops before it writes: prints the line of a reason, and nothing after a fault.
-#[tactic(auto, using(keyman_status::proofs::Printed::tells_made))]
+#[tactic(auto, using(keyman_words::proofs::Printed::tells_made))]
 pub fn tell_stop<S: Sink>(alloc: Global, stop: Stop, out: &mut S) -> Status
     ensures { TellsStop stop S.Sink out.old out.new result }
 {

@@ -7,9 +7,7 @@ ghost use Rattle.keyman_run.specs.Steps.{IsCompiled, TellsDead};
 
 use crate::preparing::{Stop, read_and_compile};
 use crate::running::tell_stop;
-use keyman_lines::Reason;
-use keyman_status::{Status, tell_made};
-use keyman_words::FileName;
+use keyman_words::{FileName, Reason, Status, tell_made};
 use kmn_compiler::Compiled;
 use kmn_outside::{Folder, Sink};
 use kmx_format::rule_count;
@@ -32,7 +30,7 @@ pub fn shadow_rules<F: Folder, S: Sink>(
 }
 
 /// Prints which lines of a compiled source never fire, unless there are too many records to be searched.
-#[tactic(auto, using(keyman_status::proofs::Printed::tells_made))]
+#[tactic(auto, using(keyman_words::proofs::Printed::tells_made))]
 fn tell_dead<S: Sink>(alloc: Global, compiled: &Compiled, out: &mut S) -> Status
     requires { IsCompiled compiled.now }
     ensures { TellsDead (few_records compiled.now.tables) S.Sink out.old out.new result }

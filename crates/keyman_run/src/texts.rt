@@ -6,8 +6,7 @@ ghost use Rattle.keyman_run.specs.Orders.{text_work};
 ghost use Rattle.keyman_run.specs.Steps.{Gives, States, itself};
 
 use crate::preparing::{Stop, read_file};
-use keyman_lines::Reason;
-use keyman_words::FileName;
+use keyman_words::{FileName, Reason};
 use kmn_base::Text;
 use kmn_outside::Folder;
 use kmx_decompiler::{DecompileError, decompile};

@@ -5,26 +5,25 @@ ghost use Rattle.kmx_format.specs.TablesOf.{tables_of};
 ghost use Rattle.rule_model.specs.Tab.{tab};
 ghost use Rattle.rule_model.specs.Trace.{trace};
 ghost use Rattle.rule_model.specs.Transcript.{events_of};
-ghost use Rattle.rule_trace.specs.declared.coverage.Hit.{Hit};
-ghost use Rattle.rule_trace.specs.Coverage.{AreLinesOf};
+ghost use Rattle.plain_event.specs.declared.coverage.Hit.{Hit};
+ghost use Rattle.plain_event.specs.Coverage.{AreLinesOf};
 ghost use Rattle.play_trace.specs.RisingLines.{lines_of_tables};
 ghost use Rattle.play_trace.specs.TraceText.{trace_text};
 ghost use Rattle.keyman_run.specs.Endings.{end_of_trace, trace_status};
 ghost use Rattle.keyman_run.specs.Orders.{trace_work};
 ghost use Rattle.keyman_run.specs.Run.{Does};
-ghost use Rattle.keyman_status.specs.Tells.{Tells};
+ghost use Rattle.keyman_words.specs.Tells.{Tells};
 ghost use Rattle.keyman_run.specs.Steps.{IsCompiled};
 
 use crate::preparing::{Prepared, Stop, prepare};
 use crate::running::tell_stop;
-use keyman_status::{Status, write_status};
-use keyman_words::FileName;
+use keyman_words::{FileName, Status, write_status};
 use kmn_outside::{Folder, Sink};
 use kmx_verifier::{Verified, verify};
+use plain_event::Coverage;
 use play_session::Session;
 use play_trace::{TraceEnd, trace_play};
 use rule_model::Entry;
-use rule_trace::Coverage;
 use std::alloc::Global;
 
 /// Compiles a source, plays a script on it, and prints which of its lines fired.

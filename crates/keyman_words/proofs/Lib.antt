@@ -1,1 +1,3 @@
 pub mod BesideLaws
+pub mod Printed
+pub mod Hexadecimal

@@ -1,2 +1,7 @@
 pub mod Beside
 pub mod Command
+pub mod Seen
+pub mod Status
+pub mod Tells
+pub mod Lines
+pub mod Reasons

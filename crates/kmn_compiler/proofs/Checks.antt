@@ -19,9 +19,9 @@ use Rattle.kmn_parser.specs.Source.{parsed}
 use Rattle.kmn_names.specs.First.{or_refusal}
 use Rattle.rule_checker.specs.Refused.{IsRead, refused, checked}
 use Rattle.compile_laws.proofs.Ordered.{program_compiles}
-use Rattle.checker_laws.proofs.Named.{well_named}
-use Rattle.checker_laws.proofs.Written.{tables_written}
-use Rattle.checker_laws.proofs.Sources.{source_read, accepted_parts}
+use Rattle.rule_checker.proofs.Named.{well_named}
+use Rattle.rule_checker.proofs.Written.{tables_written}
+use Rattle.rule_checker.proofs.Sources.{source_read, accepted_parts}
 use Rattle.kmn_compiler.proofs.Accepted.{IsAccepted, accepted_means, accepted_steps, accepted_prints}
 
 -- a program that was read and isn't refused is accepted

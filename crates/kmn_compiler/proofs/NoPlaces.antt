@@ -8,7 +8,7 @@ use Rattle.rule_model.specs.Keyboard.{RuleMeaning}
 use Rattle.rule_model.specs.System.{system_options}
 use Rattle.rule_model.specs.Tab.{tab, tab_rule, tab_group, tab_options, with_options}
 use Rattle.kmx_format.specs.TablesOf.{rule_without_place, group_without_places, no_places}
-use Rattle.checker_laws.proofs.Placeless.{placeless_options}
+use Rattle.rule_checker.proofs.Placeless.{placeless_options}
 
 rules_mean : (stores : List Store) (using_keys : Bool) (rules : List Rule) → map (tab_rule stores using_keys) (map rule_without_place rules) ≡ map (tab_rule stores using_keys) rules
 rules_mean stores using_keys [] = refl

@@ -1,8 +1,8 @@
 //! The compiler: the file of a source.
 //!
 //! It stands on `kmn_parser` and `rule_checker`, which read a source and refuse what a keyboard may not have, on
-//! `rule_expand`, which makes tables of a checked program, on `kmx_writer` for the bytes, on `compile_laws` and `checker_laws`
-//! for what holds of such tables, and on `kmx_verifier` for what a valid file is. `order` puts the records of tables in the
+//! `rule_expand`, which makes tables of a checked program, on `kmx_writer` for the bytes, on `compile_laws` for what holds of
+//! such tables, and on `kmx_verifier` for what a valid file is. `order` puts the records of tables in the
 //! order of `specs/Order`, takes no memory and refuses nothing. The layer above calls
 //! `front`, `picture_name` and `back`, or `compile`, which is all of it for a picture that is at hand. Its bytes are the file
 //! of the tables that the source's program compiles to; they are valid, so that no opening refuses them, and mean the

@@ -13,7 +13,7 @@ use Rattle.kmn_lines.specs.Laws.{IsBlankText, IsPlain, Covers, CoversParts, Toke
 use Rattle.kmn_lines.specs.declared.logical.Part.{Part}
 use Rattle.kmn_lines.specs.declared.token.Token.{Token}
 use Rattle.kmn_lines.specs.declared.token.TokenKind.TheVariants.{Word}
-use Rattle.kmn_lines.proofs.Sizes.{token_size-within, token_size-some, words_plain, all-if}
+use Rattle.kmn_lines.proofs.TextSizes.{token_size-within, token_size-some, words_plain, all-if}
 
 -- a blank before a text that is covered
 covers-blank : (holds : Token → List ℕ → Type 0) (at byte : ℕ) (text : List ℕ) (ts : List Token) → is_blank byte ≡ true → Covers holds (at + 1) text ts → Covers holds at (byte ∷ text) ts

@@ -1,6 +1,6 @@
 pub mod LineStates
 pub mod Placed
-pub mod Sizes
+pub mod TextSizes
 pub mod Covering
 pub mod Whole
 pub mod Numbered
@@ -10,3 +10,4 @@ pub mod Cuts
 pub mod LineTexts
 pub mod Prefixes
 pub mod CutExamples
+pub mod Scans

@@ -17,7 +17,7 @@ use Rattle.kmn_lines.specs.Lines.{ends_line, line_start, after_byte, physical_li
 use Rattle.kmn_lines.specs.Laws.{first_or, IsInLine, IsLineEnd, IsCut, IsPhysicalLine, IsJoined, AreJoined, PartsAreTexts}
 use Rattle.kmn_lines.proofs.Whole.{mark-within}
 use Rattle.kmn_lines.proofs.Cuts.{after_bytes, Cut, line_cut}
-use Rattle.kmn_lines.proofs.Sizes.{clash}
+use Rattle.kmn_lines.proofs.TextSizes.{clash}
 
 -- a text as a line, the line's end, and what stands behind it
 record Split (text : List ℕ) : Type 0 where

@@ -12,7 +12,7 @@ use Rattle.kmn_base.specs.Texts.{mark_size}
 use Rattle.kmn_lines.specs.Lines.{ends_line, line_start, after_byte, physical_line, physical_lines, physical_lines_at, extended, gather, logicals}
 use Rattle.kmn_lines.specs.Laws.{is_line_end, line_ends, LinesAreNumbered}
 use Rattle.kmn_lines.proofs.Whole.{mark-is}
-use Rattle.kmn_lines.proofs.Sizes.{all-if}
+use Rattle.kmn_lines.proofs.TextSizes.{all-if}
 
 drop-suc : (at : ℕ) (text : List ℕ) (byte : ℕ) (bytes : List ℕ) → drop at text ≡ byte ∷ bytes → drop (suc at) text ≡ bytes
 drop-suc zero text byte bytes e = subst (λ (xs : List ℕ). drop 1 xs ≡ bytes) (sym e) refl

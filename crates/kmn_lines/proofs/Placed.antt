@@ -10,7 +10,7 @@ use Rattle.kmn_lines.specs.Bytes.{first_or_end}
 use Rattle.kmn_lines.specs.Lines.{ends_line, line_start, after_byte, physical_lines, physical_lines_at, extended, gather}
 use Rattle.kmn_lines.specs.Places.{IsBetween, IsPlaced}
 use Rattle.kmn_lines.proofs.LineStates.{between_after_byte}
-use Rattle.kmn_lines.proofs.Sizes.{all-if}
+use Rattle.kmn_lines.proofs.TextSizes.{all-if}
 
 -- physical lines stand one behind the other from a place up to a size, and each one's number fits its place
 abbrev pub InRow : ℕ → ℕ → List PhysicalLine → Type 0

@@ -6,7 +6,7 @@ use Rattle.std.proofs.lemmas.Bool.{and_from, or_cases, cond_both}
 use Rattle.kmn_base.specs.Bytes.{is_blank}
 use Rattle.kmn_lines.specs.Lines.{blanks, begins_with, is_skipped, dropped}
 use Rattle.kmn_lines.specs.Laws.{IsBlankText, IsPrefix, PrefixesAreDropped}
-use Rattle.kmn_lines.proofs.Sizes.{take-one}
+use Rattle.kmn_lines.proofs.TextSizes.{take-one}
 
 blank-first : (text : List ℕ) → IsBlankText (take (blanks text) text)
 blank-first [] = refl

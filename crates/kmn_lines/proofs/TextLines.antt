@@ -24,7 +24,7 @@ use Rattle.kmn_lines.specs.declared.token.Token.{Token}
 use Rattle.kmn_lines.proofs.Placed.{InRow, physical_lines_at-in_row, lines_placed}
 use Rattle.kmn_lines.proofs.Whole.{begins-long, mark-is, mark-within}
 use Rattle.kmn_lines.proofs.TextTokens.{boundary-before, IsPartText, parts-text}
-use Rattle.kmn_lines.proofs.Sizes.{clash, all-if}
+use Rattle.kmn_lines.proofs.TextSizes.{clash, all-if}
 use Rattle.kmn_lines.proofs.Numbered.{drop-next}
 
 -- the byte at a place, where the bytes from there on are known

@@ -11,7 +11,7 @@ use Rattle.kmn_lines.specs.Tokens.{single, is_unequal, in_word, word_size, quote
 use Rattle.kmn_lines.specs.Laws.{IsPlain, bytes_between}
 use Rattle.kmn_lines.specs.declared.logical.Part.{Part}
 use Rattle.kmn_lines.specs.declared.token.Token.{Token}
-use Rattle.kmn_lines.proofs.Sizes.{in_word-plain, in_word-far, word_size-within, quoted_size-within, number-long, unequal-long, token_size-within, token_size-some, clash}
+use Rattle.kmn_lines.proofs.TextSizes.{in_word-plain, in_word-far, word_size-within, quoted_size-within, number-long, unequal-long, token_size-within, token_size-some, clash}
 use Rattle.kmn_lines.proofs.Numbered.{drop-next}
 
 -- a byte past 127 belongs to a word

@@ -4,3 +4,4 @@ pub mod Tokens
 pub mod Places
 pub mod Walks
 pub mod Laws
+pub mod Scanning

@@ -17,7 +17,7 @@ use Rattle.kmn_lines.specs.Bytes.{first_or_end, or_else}
 use Rattle.kmn_lines.specs.Lines.{parts_in}
 use Rattle.kmn_lines.specs.Tokens.{single, is_unequal, starts_number, hex_value, plain_kind, has_forbidden, is_closed, is_scalar, value_fault, digits_fault, token_size, token_text, token_kind, token_at, token_fault, scanned, first_fault, part_text, parts_tokens, parts_fault, line_tokens, line_refusal, tokens_refusal, refusal}
 use Rattle.kmn_lines.specs.Laws.{IsPlain, bytes_between}
-use Rattle.kmn_lines.proofs.Sizes.{words_plain}
+use Rattle.kmn_lines.proofs.TextSizes.{words_plain}
 use Rattle.kmn_lines.proofs.Numbered.{drop-next}
 use Rattle.kmn_items.specs.TokenTexts.{LineToken, text_of, with_text, with_texts}
 use Rattle.kmn_parser.specs.ProgramLaws.{IsCharacter}

@@ -3,3 +3,11 @@ pub mod Source
 pub mod Reading
 pub mod SourceLaws
 pub mod ProgramLaws
+pub mod Printed
+pub mod Texts
+pub mod Names
+pub mod Items
+pub mod Statements
+pub mod Programs
+pub mod Spelled
+pub mod TextLaws

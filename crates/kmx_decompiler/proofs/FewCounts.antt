@@ -18,7 +18,7 @@ use Rattle.rule_model.specs.declared.tables.Tables.{Tables}
 use Rattle.rule_model.specs.Tab.{distinct_onto, element_char, elements_of as elements_at, tab_dictionary}
 use Rattle.kmx_format.specs.Playable.{IsPlayable}
 use Rattle.kmx_format.specs.Writable.{elements_of}
-use Rattle.checker_laws.proofs.Lists.{All-distinct}
+use Rattle.rule_checker.proofs.Lists.{All-distinct}
 use Rattle.decompile_laws.specs.Marks.{greatest_mark, table_marks}
 use Rattle.decompile_laws.specs.Items.{Names, value_called}
 use Rattle.kmx_format.specs.Versions.{version_text, version_numbers}

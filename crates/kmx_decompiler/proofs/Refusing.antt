@@ -12,7 +12,7 @@ use Rattle.kmn_names.specs.First.{or_else}
 use Rattle.kmx_format.specs.File.{rules_of}
 use Rattle.kmx_format.specs.Playable.{IsPlayable, IsPlayableStore}
 use Rattle.kmx_format.specs.TablesOf.{tables_of}
-use Rattle.kmn_text.specs.Programs.{program_text}
+use Rattle.kmn_parser.specs.Programs.{program_text}
 use Rattle.decompile_laws.specs.Back.{back}
 use Rattle.decompile_laws.specs.WrittenOut.{CanBeWrittenOut}
 use Rattle.decompile_causes.specs.declared.no_spelling.NoSpelling.{NoSpelling}

@@ -18,7 +18,7 @@ use Rattle.rule_model.specs.declared.tables.Tables.{Tables}
 use Rattle.rule_model.specs.Tab.{tab_dictionary}
 use Rattle.rule_model.specs.Naming.{SourceNames, item_elements, store_of}
 use Rattle.compile_laws.specs.Numbers.{dictionary_stores, value_store}
-use Rattle.checker_laws.proofs.Sizes.{space_chars}
+use Rattle.rule_checker.proofs.Sizes.{space_chars}
 use Rattle.decompile_laws.specs.Marks.{greatest_mark}
 use Rattle.decompile_laws.specs.Items.{Names, back_element}
 use Rattle.kmx_format.specs.Versions.{version_text}

@@ -4,7 +4,7 @@ ghost use Rattle.rule_model.specs.Tab.{tab_dictionary};
 ghost use Rattle.kmx_format.specs.Playable.{IsPlayable};
 ghost use Rattle.kmx_format.specs.TablesOf.{tables_of};
 ghost use Rattle.kmx_verifier.specs.FaultOf.{IsValid};
-ghost use Rattle.kmn_text.specs.Programs.{program_text};
+ghost use Rattle.kmn_parser.specs.Programs.{program_text};
 ghost use Rattle.decompile_laws.specs.Back.{back, free_stores, names_for};
 ghost use Rattle.decompile_laws.specs.WrittenOut.{CanBeWrittenOut};
 ghost use Rattle.decompile_causes.specs.Excess.{excess};

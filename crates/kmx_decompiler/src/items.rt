@@ -2,7 +2,7 @@
 
 ghost use Rattle.std.specs.Prelude.{◌≡◌, bit_and, false, filter, filter_map, length, nat_eq, option_to_list};
 ghost use Rattle.std.specs.List.{list_all, list_any};
-ghost use Rattle.kmn_text.specs.Names.{is_inner};
+ghost use Rattle.kmn_parser.specs.Names.{is_inner};
 ghost use Rattle.virtual_keys.specs.Dictionary.{is_nameable};
 ghost use Rattle.rule_model.specs.Tab.{element_char};
 ghost use Rattle.rule_model.specs.Patterns.{is_nul};

@@ -11,3 +11,7 @@ pub mod FileWritable
 pub mod SmallNumbers
 pub mod WorkedFiles
 pub mod WritableParts
+pub mod FirstItems
+pub mod Results
+pub mod Operands
+pub mod ItemSizes

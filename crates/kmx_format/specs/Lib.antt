@@ -6,3 +6,5 @@ pub mod TablesOf
 pub mod Versions
 pub mod WorkedFiles
 pub mod Writable
+pub mod Walk
+pub mod ItemLaws

@@ -1,8 +1,7 @@
 //! The tables of a compiled file, read where they lie: each part is found by its place in the bytes, and a string is
 //! walked item by item. Nothing is copied, and only a name takes memory.
 //!
-//! It stands on `kmx_format`, whose `tables_of` says which tables bytes have, and on `item_codec`, which walks the items of a
-//! string. A `KmxView` reads the numbers and strings of any bytes by place, and answers None exactly where a part isn't wholly
+//! It stands on `kmx_format`, whose `tables_of` says which tables bytes have and which walks the items of a string. A `KmxView` reads the numbers and strings of any bytes by place, and answers None exactly where a part isn't wholly
 //! in the file (`specs/View`). The layer above makes `FileTables` of bytes, which
 //! contracts see as their tables, and asks them for stores, groups and key records: each is the one that the tables have
 //! there. What a string spells comes as an iterator, which contracts see as the list of what is left. An item of a context

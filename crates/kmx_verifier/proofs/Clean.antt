@@ -3,7 +3,7 @@ use Rattle.std.proofs.Common.{◌≡◌, ℕ, ◌+◌, Bool, true, false, not, L
 use Rattle.std.specs.Prelude.{Ok}
 use Rattle.kmn_base.specs.declared.codes.Code.{Code}
 use Rattle.kmn_base.specs.declared.units.UnitItem.{UnitItem}
-use Rattle.item_codec.specs.Walk.{spelled_size}
+use Rattle.kmx_format.specs.Walk.{spelled_size}
 use Rattle.kmx_verifier.specs.declared.faults.Fault.{Fault}
 use Rattle.kmx_verifier.specs.declared.faults.StringKind.{StringKind}
 use Rattle.kmx_verifier.specs.declared.faults.StringKind.TheVariants as of

@@ -5,8 +5,8 @@ use Rattle.std.specs.List.{cons_option, All, list_any, filter_map, flat_map}
 use Rattle.std.proofs.lemmas.List.Elements.{All-nil, All-head, All-tail, All-append, All-cons, All-weaker}
 use Rattle.std.proofs.lemmas.List.{length-map}
 use Rattle.std.proofs.lemmas.Bool.{not-true, and_parts}
-use Rattle.item_codec.specs.Walk.{items_given, results_of}
-use Rattle.item_codec.proofs.Results.{items_have_one_spelling}
+use Rattle.kmx_format.specs.Walk.{items_given, results_of}
+use Rattle.kmx_format.proofs.Results.{items_have_one_spelling}
 use Rattle.kmn_base.specs.declared.limits.TheConstants.{CONTEXT_ITEMS}
 use Rattle.kmn_base.specs.declared.units.UnitItem.{UnitItem}
 use Rattle.kmn_base.specs.declared.units.UnitItem.TheVariants as spelled

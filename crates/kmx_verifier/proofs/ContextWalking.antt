@@ -3,7 +3,7 @@ use Rattle.std.proofs.Common.{◌≡◌, ℕ, ◌+◌, ◌<◌, ◌≤◌, List,
 use Rattle.std.specs.Prelude.{Ok}
 use Rattle.std.specs.List.{All}
 use Rattle.kmn_base.specs.declared.units.UnitItem.{UnitItem}
-use Rattle.item_codec.specs.Walk.{spelled_size, items_given, results_of}
+use Rattle.kmx_format.specs.Walk.{spelled_size, items_given, results_of}
 use Rattle.kmx_verifier.specs.declared.contexts.TheConstants.{OFFSET_REACH}
 use Rattle.kmx_verifier.specs.declared.faults.Fault.{Fault}
 use Rattle.kmx_verifier.specs.declared.faults.VerifyError.{VerifyError}
@@ -13,7 +13,7 @@ use Rattle.kmx_verifier.specs.declared.faults.Target.{Target}
 use Rattle.kmx_verifier.specs.Items.{target_of, reached}
 use Rattle.kmx_verifier.specs.FaultOf.{or_else, item_fault, context_fault, IsRefusal}
 use Rattle.kmx_verifier.proofs.Reach.{reached-more, length-reached}
-use Rattle.item_codec.proofs.Sizes.{sizes, sizes_within}
+use Rattle.kmx_format.proofs.ItemSizes.{sizes, sizes_within}
 use Rattle.kmx_verifier.proofs.Walking.{Results}
 
 -- a walk from a place on, after some items, whose answer and targets are those of the whole walk

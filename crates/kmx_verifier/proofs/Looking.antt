@@ -10,7 +10,7 @@ use Rattle.kmn_base.specs.declared.codes.Code.TheVariants.{V01, V02, V03, V04, V
 use Rattle.kmn_base.specs.declared.keys.TheConstants.{SHIFT_FLAGS}
 use Rattle.kmn_base.specs.declared.limits.TheConstants.{FILE_NAME_UNITS, CONTEXT_ITEMS, OUTPUT_ITEMS, STORES, GROUPS, RECORDS, PICTURE_BYTES, FILE_BYTES}
 use Rattle.kmn_base.specs.declared.units.UnitItem.{UnitItem}
-use Rattle.item_codec.specs.Walk.{spelled_size, results_of}
+use Rattle.kmx_format.specs.Walk.{spelled_size, results_of}
 use Rattle.kmx_format.specs.TablesOf.{word_at, before_zero, string_at, items_of, uses_keys_at}
 use Rattle.kmx_format.specs.Versions.{is_version}
 use Rattle.kmx_parts.specs.View.{has_zero, is_ended, store_count, group_count}

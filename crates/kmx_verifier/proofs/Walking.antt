@@ -7,8 +7,8 @@ use Rattle.kmn_base.specs.declared.units.BadUnits.{BadUnits}
 use Rattle.kmn_base.specs.Spelling.{unit_bytes}
 use Rattle.kmn_base.proofs.UnitBytes.{length-unit_bytes}
 use Rattle.kmn_base.proofs.Spelling.{spellings_are_short}
-use Rattle.item_codec.specs.Walk.{spelled_size, items_given, results_of}
-use Rattle.item_codec.proofs.Sizes.{sizes, sizes_within}
+use Rattle.kmx_format.specs.Walk.{spelled_size, items_given, results_of}
+use Rattle.kmx_format.proofs.ItemSizes.{sizes, sizes_within}
 use Rattle.kmx_verifier.specs.declared.faults.Fault.{Fault}
 use Rattle.kmx_verifier.specs.declared.faults.StringKind.{StringKind}
 use Rattle.kmx_verifier.specs.declared.faults.Target.{Target}

@@ -13,8 +13,8 @@ use Rattle.kmn_base.specs.declared.limits.TheConstants.{FILE_NAME_UNITS, CONTEXT
 use Rattle.kmn_base.specs.declared.units.UnitItem.{UnitItem}
 use Rattle.kmn_base.specs.Spelling.{char_units, IsSpellable, unit_bytes, whole_units}
 use Rattle.kmn_base.proofs.UnitBytes.{whole_units-unit_bytes}
-use Rattle.item_codec.specs.Walk.{results_of}
-use Rattle.item_codec.proofs.Results.{spelled_gives_its_items}
+use Rattle.kmx_format.specs.Walk.{results_of}
+use Rattle.kmx_format.proofs.Results.{spelled_gives_its_items}
 use Rattle.rule_model.specs.declared.tables.Pat.{Pat}
 use Rattle.rule_model.specs.declared.tables.Pat.TheVariants as pattern
 use Rattle.rule_model.specs.declared.tables.Out.{Out}

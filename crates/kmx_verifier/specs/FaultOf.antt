@@ -9,8 +9,8 @@ use Rattle.kmn_base.specs.declared.units.BadUnits.{BadUnits}
 use Rattle.kmn_base.specs.declared.units.BadKind.{BadKind}
 use Rattle.kmn_base.specs.declared.units.BadKind.TheVariants.{U2}
 use Rattle.kmn_base.specs.Spelling.{unit_bytes}
-use Rattle.item_codec.specs.declared.item_codes.TheConstants.{KEY}
-use Rattle.item_codec.specs.Walk.{results_of, spelled_size}
+use Rattle.kmx_format.specs.declared.item_codes.TheConstants.{KEY}
+use Rattle.kmx_format.specs.Walk.{results_of, spelled_size}
 use Rattle.kmx_format.specs.declared.places.TheConstants.{FLAGS_AT, GROUPS_AT, GROUP_COUNT_AT, GROUP_MATCH_AT, GROUP_NOMATCH_AT, GROUP_RULES_AT, GROUP_RULE_COUNT_AT, IDENTIFIER, IDENTIFIER_AT, PICTURE_AT, PICTURE_SIZE_AT, RULE_CONTEXT_AT, RULE_FLAGS_AT, RULE_OUTPUT_AT, START_ANSI_AT, START_UNICODE_AT, STORES_AT, STORE_COUNT_AT, STORE_ELEMENTS_AT, STORE_NAME_AT, VERSION_AT}
 use Rattle.kmx_format.specs.declared.sizes.TheConstants.{GROUP_BYTES, HEADER_BYTES, RULE_BYTES, STORE_BYTES}
 use Rattle.kmx_format.specs.TablesOf.{word_at, string_at, items_of, uses_keys_at}

@@ -2,7 +2,7 @@
 use Rattle.std.specs.Prelude.{ℕ, zero, suc, ◌+◌, ◌<◌, ◌||◌, Bool, true, false, nat_eq, List, [], ◌∷◌, Option, Some, None, slice_get, take}
 use Rattle.kmn_base.specs.declared.units.UnitItem.{UnitItem}
 use Rattle.kmn_base.specs.declared.units.UnitItem.TheVariants.{Char, Any, Index, Context, Nul, Enter, Stop, Beep, Dead, Key, ContextAt, NotAny, Set, Test, SystemTest, SetSystem, Save, Reset}
-use Rattle.item_codec.specs.declared.item_codes.TheConstants.{ANY, BEEP, CONTEXT, CONTEXT_AT, DEAD, ENTER, INDEX, KEY, NOT_ANY, NUL, RESET, SAVE, SET, SET_SYSTEM, STOP, SYSTEM_TEST, TEST}
+use Rattle.kmx_format.specs.declared.item_codes.TheConstants.{ANY, BEEP, CONTEXT, CONTEXT_AT, DEAD, ENTER, INDEX, KEY, NOT_ANY, NUL, RESET, SAVE, SET, SET_SYSTEM, STOP, SYSTEM_TEST, TEST}
 use Rattle.rule_model.specs.declared.system.TheConstants.{LAYER, PLATFORM}
 use Rattle.kmx_verifier.specs.declared.contexts.TheConstants.{OFFSET_REACH}
 use Rattle.kmx_verifier.specs.declared.faults.StringKind.{StringKind}

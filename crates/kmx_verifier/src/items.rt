@@ -1,14 +1,14 @@
 //! One item of a string.
 
 ghost use Rattle.std.specs.Prelude.{◌≡◌};
-ghost use Rattle.item_codec.specs.Walk.{spelled_size};
+ghost use Rattle.kmx_format.specs.Walk.{spelled_size};
 ghost use Rattle.kmx_verifier.specs.Items.{may_stand, stands_in_store, stands_in_context, stands_in_output, stands_in_match, code_of, target_of, target_at, points_right, HasSmallOffset};
 ghost use Rattle.kmx_verifier.specs.FaultOf.{names_outside, item_fault, spelling_fault, Tells};
 
 use crate::faults::{Fault, StringKind, Target};
-use item_codec::{item_codes, unit_count};
 use kmn_base::{BadKind, Code, UnitItem};
 use kmx_format::places::{GROUP_COUNT_AT, STORE_COUNT_AT};
+use kmx_format::{item_codes, unit_count};
 use kmx_parts::word_at;
 use rule_model::system;
 

@@ -5,14 +5,14 @@ ghost use Rattle.kmn_base.specs.declared.limits.TheConstants.{FILE_BYTES, OUTPUT
 ghost use Rattle.kmx_format.specs.TablesOf.{word_at, string_at};
 ghost use Rattle.kmx_verifier.specs.declared.faults.StringKind.TheVariants.{Store};
 ghost use Rattle.kmx_parts.specs.View.{is_ended};
-ghost use Rattle.item_codec.specs.Walk.{results_of, items_given};
+ghost use Rattle.kmx_format.specs.Walk.{results_of, items_given};
 ghost use Rattle.kmx_verifier.specs.FaultOf.{walk_fault, read_fault, read_at, item_count, name_fault, string_fault, too_many_elements, Tells};
 
 use crate::faults::{Fault, StringKind, Target};
 use crate::items::{check_item, spelled_size, spelling_fault};
-use item_codec::items_of;
 use kmn_base::Code;
 use kmn_base::limits::{ALL_ELEMENTS, FILE_NAME_UNITS, OUTPUT_ITEMS, STORE_ELEMENTS};
+use kmx_format::items_of;
 use kmx_parts::{ended_string, word_at};
 
 /// The items of a string whose first unit stands at a place; how many they are.

@@ -7,8 +7,8 @@ ghost use Rattle.kmx_format.specs.File.{string};
 ghost use Rattle.kmx_format.specs.FileUnits.{name_units};
 
 use crate::units::{put_units, size_of_units};
-use item_codec::{char_unit_count, put_char};
 use kmn_base::{Memory, Seq};
+use kmx_format::{char_unit_count, put_char};
 use std::str;
 
 fn text_of(name: &[u8]) -> &str

@@ -7,9 +7,8 @@ ghost use Rattle.kmx_format.specs.File.{string};
 ghost use Rattle.kmx_format.specs.FileUnits.{item_units};
 
 use crate::units::{put_units, size_of_units};
-use item_codec::{spell, unit_count};
 use kmn_base::{Memory, Seq};
-use kmx_format::Spelled;
+use kmx_format::{Spelled, spell, unit_count};
 
 /// How many units the items have.
 #[tactic(auto, unfolding(kmx_format::specs::FileUnits::item_units))]

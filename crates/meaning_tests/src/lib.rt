@@ -1,4 +1,4 @@
-//! The tests of what a keyboard means: `meaning` of `plain_event`, and `tracing` of `rule_trace`.
+//! The tests of what a keyboard means: `meaning` and `tracing` of `plain_event`.
 //!
 //! They stand here because a crate with tests is proved twice, once with them and once without: so each of those crates is
 //! proved once, and the tests are proved over them, beside those of `play_tests`. `events` has the events of words and the

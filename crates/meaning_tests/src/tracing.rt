@@ -2,16 +2,15 @@
 
 ghost use Rattle.std.specs.Prelude.{All, IfOk};
 ghost use Rattle.std.specs.List.{Contains};
-ghost use Rattle.rule_trace.specs.Coverage.{record_lines, AreLinesOf};
+ghost use Rattle.plain_event.specs.Coverage.{record_lines, AreLinesOf};
 
 use crate::events::event;
 use crate::fixtures::compiled;
 use crate::states::{can_be_done, start};
 use kmn_base::{Event, Memory};
 use kmx_verifier::verify;
-use plain_event::PlainState;
+use plain_event::{Coverage, PlainState, Traced, chosen_lines_are_lines, trace_event};
 use rule_model::Tables;
-use rule_trace::{Coverage, Traced, chosen_lines_are_lines, trace_event};
 use source_tests::fixtures::parted;
 use std::alloc::Global;
 use std::fmt::Write;

@@ -1,2 +1,4 @@
 pub mod Entering
 pub mod PlainStates
+pub mod Coverage
+pub mod Laws

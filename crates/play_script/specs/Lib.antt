@@ -6,3 +6,4 @@ pub mod Presses
 pub mod Strings
 pub mod Words
 pub mod WordsLeft
+pub mod HostEntries

@@ -8,3 +8,5 @@ pub mod Printing
 pub mod Readings
 pub mod Rooms
 pub mod Stepping
+mod CaretMoves
+pub mod Places

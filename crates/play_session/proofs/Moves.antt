@@ -13,11 +13,11 @@ use Rattle.kmn_base.specs.declared.items.Element.TheVariants.{Char}
 use Rattle.kmn_base.specs.declared.limits.TheConstants.{TEXT_CHARS}
 use Rattle.rule_model.specs.Event.{text_becomes, caret_event, edit_event, edited_text, edit_refusal, moved_caret, event_refusal, whole_text, set_option, setting_event}
 use Rattle.rule_engine.specs.Engine.{EngineState, option_named, with_option, set_by_host}
-use Rattle.editor_model.specs.Text.{EditorText, whole, IsAt, HasTextOf}
-use Rattle.editor_model.specs.declared.error.EditError.{EditError}
-use Rattle.editor_model.specs.declared.error.EditError.TheVariants as edit
-use Rattle.editor_model.specs.Answers.{caret_refusal}
-use Rattle.editor_model.specs.Answers.{code_of as edit_code}
+use Rattle.play_session.specs.Text.{EditorText, whole, IsAt, HasTextOf}
+use Rattle.play_session.specs.declared.error.EditError.{EditError}
+use Rattle.play_session.specs.declared.error.EditError.TheVariants as edit
+use Rattle.play_session.specs.EditAnswers.{caret_refusal}
+use Rattle.play_session.specs.EditAnswers.{code_of as edit_code}
 use Rattle.play_session.specs.declared.session.StepError.{StepError}
 use Rattle.play_session.specs.declared.session.StepError.TheVariants as step
 use Rattle.play_session.specs.Answers.{code_of}

@@ -18,7 +18,7 @@ use Rattle.rule_model.proofs.Budget.{press_is_within_budget}
 use Rattle.rule_model.proofs.Edits.{edit_gives_the_text}
 use Rattle.rule_model.proofs.Soundness.{press_keeps_sound}
 use Rattle.rule_engine.specs.Engine.{EngineState, pressed, press_outcome, press_leaves, synced}
-use Rattle.editor_model.specs.Text.{EditorText, left_after, right_after}
+use Rattle.play_session.specs.Text.{EditorText, left_after, right_after}
 use Rattle.play_session.specs.Session.{AreTogether, stands_for}
 use Rattle.play_session.specs.Playing.{press_gives, acted}
 use Rattle.play_session.proofs.Contexts.{read_the_same, stands_for_list, together_on_list}

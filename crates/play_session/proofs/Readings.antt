@@ -5,7 +5,7 @@ use Rattle.kmn_base.specs.Lists.{characters, read_again}
 use Rattle.kmn_base.proofs.ReadingAgain.{reading_again_gives_the_text, reading_again_is_sound}
 use Rattle.rule_model.specs.Event.{text_becomes}
 use Rattle.rule_engine.specs.Engine.{EngineState, synced}
-use Rattle.editor_model.specs.Text.{EditorText}
+use Rattle.play_session.specs.Text.{EditorText}
 use Rattle.play_session.specs.Session.{AreTogether, stands_for}
 use Rattle.play_session.proofs.Contexts.{read_by_context, stands_for_list, together_on_list}
 

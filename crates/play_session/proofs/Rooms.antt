@@ -5,7 +5,7 @@ use Rattle.kmn_base.specs.declared.limits.TheConstants.{TEXT_CHARS}
 use Rattle.kmn_base.specs.Lists.{is_mark}
 use Rattle.rule_model.specs.declared.tables.Tables.{Tables}
 use Rattle.rule_engine.specs.Engine.{EngineState, first_engine}
-use Rattle.editor_model.specs.Text.{EditorText}
+use Rattle.play_session.specs.Text.{EditorText}
 use Rattle.play_session.specs.Changes.{option_stores}
 use Rattle.play_session.specs.Session.{AreTogether, HasRoom}
 

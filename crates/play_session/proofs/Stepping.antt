@@ -7,7 +7,7 @@ use Rattle.rule_model.specs.ChosenLines.{chosen}
 use Rattle.rule_model.specs.Tab.{tab}
 use Rattle.option_store.specs.declared.options.Cell.{Cell}
 use Rattle.rule_engine.specs.Engine.{EngineState}
-use Rattle.editor_model.specs.Text.{EditorText}
+use Rattle.play_session.specs.Text.{EditorText}
 use Rattle.play_session.specs.declared.changes.Change.{Change}
 use Rattle.play_session.specs.Changes.{Values, values_in, values_now, changes_between}
 use Rattle.play_session.specs.Session.{SessionState, stands_for, typed_text, typed_lines, session_of, happened, values_of, after_step}

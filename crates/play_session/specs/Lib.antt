@@ -3,3 +3,5 @@ pub mod Changes
 pub mod Playing
 pub mod Printed
 pub mod Session
+pub mod EditAnswers
+pub mod Text

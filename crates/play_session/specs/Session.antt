@@ -11,7 +11,7 @@ use Rattle.rule_model.specs.Event.{State, Happening, happening}
 use Rattle.rule_model.specs.Tab.{tab}
 use Rattle.rule_model.specs.Trace.{first_state}
 use Rattle.rule_engine.specs.Engine.{EngineState}
-use Rattle.editor_model.specs.Text.{EditorText}
+use Rattle.play_session.specs.Text.{EditorText}
 use Rattle.play_session.specs.declared.changes.Change.{Change}
 use Rattle.play_session.specs.Changes.{Values, option_stores, changes_between}
 

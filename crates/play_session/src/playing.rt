@@ -9,8 +9,8 @@ ghost use Rattle.play_session.specs.Answers.{code_of};
 ghost use Rattle.play_session.specs.Session.{AreTogether, stands_for};
 ghost use Rattle.play_session.specs.Playing.{press_gives, acted};
 
+use crate::Editor;
 use crate::session::StepError;
-use editor_model::Editor;
 use kmn_base::limits::EVENT_PUTS;
 use kmn_base::{KeyPress, Memory, Outcome};
 use rule_engine::{Engine, Preview};

@@ -12,7 +12,7 @@ ghost use Rattle.rule_model.specs.Trace.{first_state};
 use crate::changes::{Change, put_changes};
 use crate::options::{cells_now, option_stores};
 use crate::playing::{Places, caret_event, edit_event, key_event, preview_key, setting_event};
-use editor_model::{EditError, Editor};
+use crate::{EditError, Editor};
 use kmn_base::limits::TEXT_CHARS_AT_KEY;
 use kmn_base::{Element, Event, KeyPress, Memory, Outcome, Seq, Text};
 use kmx_verifier::Verified;
@@ -57,7 +57,7 @@ impl From<Memory> for StepError {
 
 impl From<EditError> for StepError {
     ghost use Rattle.std.specs.Prelude.{◌≡◌};
-    ghost use Rattle.editor_model.specs.Answers.{code_of as edit_code};
+    ghost use Rattle.play_session.specs.EditAnswers.{code_of as edit_code};
     ghost use Rattle.play_session.specs.Answers.{code_of};
 
     ghost from_gives = { λ error given. code_of given ≡ edit_code error };

@@ -1,7 +1,7 @@
 //! Changes of a text with a caret.
 
-use editor_model::{EditError, Editor};
 use kmn_base::{KeyPress, Memory};
+use play_session::{EditError, Editor};
 use std::alloc::{AllocError, Global};
 use std::test::Fail;
 

@@ -1,9 +1,8 @@
 //! Scripts for many fields with the entries that they give or the rule that they break.
 
 use crate::fixtures::put_copies;
-use host_script::{HostEntry, read_host};
 use kmn_base::{Event, Refusal};
-use play_script::ScriptError;
+use play_script::{HostEntry, ScriptError, read_host};
 use source_tests::fixtures::parted;
 use std::alloc::Global;
 use std::test::Fail;

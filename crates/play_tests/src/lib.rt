@@ -1,5 +1,6 @@
-//! The tests of what a play is told and what it changes: `scripts` of `play_script`, and `editing` of `editor_model`; and of many
-//! fields over one keyboard: `host_scripts` of `host_script`, `hosts` of `text_host`, and `plays` of `play_host`.
+//! The tests of what a play is told and what it changes: `scripts` of `play_script`, and `editing` of the editor of
+//! `play_session`; and of many fields over one keyboard: `host_scripts` of `play_script`, `hosts` of `text_host`, and `plays` of
+//! `play_transcript`.
 //!
 //! They stand here because a crate with tests is proved twice, once with them and once without: so each of those crates is
 //! proved once, and the tests are proved over them, beside those of `source_tests`, which parts their rows. `fixtures` has what

@@ -1,13 +1,12 @@
 //! Plays of scripts for many fields, with all that they print.
 
 use crate::fixtures::KEYBOARD;
-use host_script::read_host;
 use kmn_base::Seq;
 use kmn_compiler::compile;
 use kmn_outside::MemorySink;
 use kmx_verifier::{Verified, verify};
-use play_host::play_host;
-use play_transcript::PlayEnd;
+use play_script::read_host;
+use play_transcript::{PlayEnd, play_host};
 use std::alloc::Global;
 use std::test::Fail;
 use text_host::Host;

@@ -3,9 +3,9 @@ use Rattle.std.proofs.Common.{List, get_or}
 use Rattle.rule_model.specs.declared.tables.Tables.{Tables}
 use Rattle.rule_model.specs.ChosenLines.{chosen}
 use Rattle.rule_model.specs.Tab.{tab}
-use Rattle.rule_trace.specs.declared.coverage.Hit.{Hit}
-use Rattle.rule_trace.specs.Coverage.{hit_lines, AreLinesOf}
-use Rattle.rule_trace.proofs.Among.{chosen_are_lines}
+use Rattle.plain_event.specs.declared.coverage.Hit.{Hit}
+use Rattle.plain_event.specs.Coverage.{hit_lines, AreLinesOf}
+use Rattle.plain_event.proofs.Among.{chosen_are_lines}
 use Rattle.play_trace.specs.EachEntry.{Covers}
 
 -- lines of records are among those of a coverage

@@ -15,7 +15,7 @@ use Rattle.rule_model.specs.KeyEvent.{after_key}
 use Rattle.rule_model.specs.Tab.{tab, tab_options, tab_dictionary}
 use Rattle.rule_model.specs.Trace.{trace}
 use Rattle.rule_model.specs.WorkedTraces.{one_group, rule, press}
-use Rattle.rule_trace.specs.Coverage.{with_lines}
+use Rattle.plain_event.specs.Coverage.{with_lines}
 use Rattle.play_trace.specs.TraceText.{numbers_text, fired_line, never_line, events_line, hits_text, trace_text}
 
 -- numbers are joined by dots

@@ -7,8 +7,8 @@ use Rattle.rule_model.specs.declared.tables.Store.{Store}
 use Rattle.rule_model.specs.declared.tables.Tables.{Tables}
 use Rattle.rule_model.specs.Keyboard.{RuleMeaning, GroupMeaning, Keyboard}
 use Rattle.rule_model.specs.Tab.{tab, tab_rule, tab_group}
-use Rattle.rule_trace.specs.declared.coverage.Hit.{Hit}
-use Rattle.rule_trace.specs.Coverage.{rule_lines, record_lines, hit_lines, AreLinesOf}
+use Rattle.plain_event.specs.declared.coverage.Hit.{Hit}
+use Rattle.plain_event.specs.Coverage.{rule_lines, record_lines, hit_lines, AreLinesOf}
 use Rattle.play_trace.specs.RisingLines.{rising, lines_of_tables}
 
 abbrev lines_of_rules : List RuleMeaning → List ℕ

@@ -7,8 +7,8 @@ use Rattle.std.proofs.lemmas.Bool.Decides.{nat_tests}
 use Rattle.std.proofs.lemmas.List.Elements.{Contains-append_right}
 use Rattle.kmn_base.specs.Rising.{AllAbove, Rises}
 use Rattle.rule_model.specs.declared.tables.Tables.{Tables}
-use Rattle.rule_trace.specs.declared.coverage.Hit.{Hit}
-use Rattle.rule_trace.specs.Coverage.{record_lines, hit_lines, AreLinesOf}
+use Rattle.plain_event.specs.declared.coverage.Hit.{Hit}
+use Rattle.plain_event.specs.Coverage.{record_lines, hit_lines, AreLinesOf}
 use Rattle.play_trace.specs.RisingLines.{put_line, rising, lines_of_tables}
 
 abbrev IsIn : ℕ → List ℕ → Type 0

@@ -15,9 +15,9 @@ use Rattle.rule_model.specs.Keyboard.{Keyboard}
 use Rattle.rule_model.specs.Tab.{tab}
 use Rattle.rule_model.specs.Trace.{Steps, trace, steps_from, step_then}
 use Rattle.rule_model.specs.Transcript.{events_of}
-use Rattle.rule_trace.specs.declared.coverage.Hit.{Hit}
-use Rattle.rule_trace.specs.Coverage.{with_lines, hit_lines, not_chosen, AreLinesOf}
-use Rattle.rule_trace.proofs.Counting.{with_lines-lines}
+use Rattle.plain_event.specs.declared.coverage.Hit.{Hit}
+use Rattle.plain_event.specs.Coverage.{with_lines, hit_lines, not_chosen, AreLinesOf}
+use Rattle.plain_event.proofs.Counting.{with_lines-lines}
 use Rattle.play_session.specs.Session.{SessionState, first_session, happened, after_step}
 use Rattle.play_transcript.specs.Printing.{AppendsBut, IsBegun, Prints}
 use Rattle.play_transcript.proofs.PrintingLaws.{none_appended, appended_more, appended_all, begun_within, prints_rest}

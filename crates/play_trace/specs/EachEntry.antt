@@ -11,8 +11,8 @@ use Rattle.rule_model.specs.ChosenLines.{chosen}
 use Rattle.rule_model.specs.Event.{State, Happening, event_of}
 use Rattle.rule_model.specs.Tab.{tab}
 use Rattle.rule_model.specs.Transcript.{events_of, refused_event_line}
-use Rattle.rule_trace.specs.declared.coverage.Hit.{Hit}
-use Rattle.rule_trace.specs.Coverage.{with_lines}
+use Rattle.plain_event.specs.declared.coverage.Hit.{Hit}
+use Rattle.plain_event.specs.Coverage.{with_lines}
 use Rattle.play_session.specs.Session.{SessionState, after_step}
 use Rattle.play_transcript.specs.Playing.{steps_left}
 use Rattle.play_trace.specs.TraceEnds.{end_after}

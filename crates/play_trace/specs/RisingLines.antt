@@ -1,7 +1,7 @@
 -- The lines of the records of tables, each once, rising.
 use Rattle.std.specs.Prelude.{ℕ, nat_eq, nat_lt, if◌then◌else◌, List, [], ◌∷◌}
 use Rattle.rule_model.specs.declared.tables.Tables.{Tables}
-use Rattle.rule_trace.specs.Coverage.{record_lines}
+use Rattle.plain_event.specs.Coverage.{record_lines}
 
 -- a line put among rising lines, where it isn't among them
 abbrev pub put_line : ℕ → List ℕ → List ℕ

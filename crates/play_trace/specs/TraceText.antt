@@ -11,8 +11,8 @@ use Rattle.rule_model.specs.Keyboard.{Keyboard}
 use Rattle.rule_model.specs.Lines.{joined}
 use Rattle.rule_model.specs.Trace.{Step, Trace, trace}
 use Rattle.rule_model.specs.Transcript.{refused_lines, events_of}
-use Rattle.rule_trace.specs.declared.coverage.Hit.{Hit}
-use Rattle.rule_trace.specs.Coverage.{with_lines, hit_lines, not_chosen}
+use Rattle.plain_event.specs.declared.coverage.Hit.{Hit}
+use Rattle.plain_event.specs.Coverage.{with_lines, hit_lines, not_chosen}
 
 -- numbers joined by dots, or `-` where there are none
 abbrev pub numbers_text : List ℕ → List ℕ

@@ -5,8 +5,8 @@ ghost use Rattle.std.specs.String.{string_bytes};
 ghost use Rattle.play_trace.specs.TraceText.{fired_line, hit_if_any, never_chosen, never_line, events_line, hits_text};
 
 use kmn_base::{Memory, Text};
+use plain_event::Hit;
 use rule_model::put_numbers;
-use rule_trace::Hit;
 use std::alloc::{AllocError, Global};
 
 /// The line of an event: its number, and the lines of the rules that it chose.

@@ -3,8 +3,8 @@ ghost use Rattle.kmn_outside.specs.Outside.{WriteCounts};
 ghost use Rattle.rule_model.specs.Tab.{tab};
 ghost use Rattle.rule_model.specs.Trace.{trace};
 ghost use Rattle.rule_model.specs.Transcript.{events_of, refused_event_line};
-ghost use Rattle.rule_trace.specs.declared.coverage.Hit.{Hit};
-ghost use Rattle.rule_trace.specs.Coverage.{hit_lines, AreLinesOf};
+ghost use Rattle.plain_event.specs.declared.coverage.Hit.{Hit};
+ghost use Rattle.plain_event.specs.Coverage.{hit_lines, AreLinesOf};
 ghost use Rattle.play_session.specs.Session.{first_session};
 ghost use Rattle.play_transcript.specs.Printing.{Prints};
 ghost use Rattle.play_trace.specs.TraceEnds.{trace_end};
@@ -15,11 +15,11 @@ ghost use Rattle.play_trace.specs.EachEntry.{no_counts, entry_line, event_line, 
 use crate::fired::{fired_line, hits_text};
 use kmn_base::{Code, Event};
 use kmn_outside::{Sink, WriteError};
+use plain_event::{Coverage, Hit};
 use play_script::refused_event_line;
 use play_session::{Session, StepError};
 use play_transcript::put_all;
 use rule_model::Entry;
-use rule_trace::{Coverage, Hit};
 use std::alloc::Global;
 
 /// What was counted of a script: the number of its last step, and events that were done.

@@ -2,3 +2,9 @@ pub mod Ends
 pub mod Failures
 pub mod Playing
 pub mod Printing
+pub mod EachEntry
+pub mod Fields
+pub mod HostCalls
+pub mod HostPieces
+pub mod HostText
+pub mod HostPlaying

@@ -21,7 +21,7 @@ use Rattle.option_store.specs.Cells.{first_cells, changed, host_cell, current_va
 use Rattle.option_store.specs.Meaning.{stated, option_values, option_saves, holding}
 use Rattle.option_store.proofs.FirstCells.{first_cells_count}
 use Rattle.option_store.proofs.Meaning.{calls_follow, first_option_values, first_option_saves}
-use Rattle.context_cache.specs.Cached.{CacheValue}
+use Rattle.event_text.specs.Cached.{CacheValue}
 use Rattle.event_text.specs.Texts.{InsertedValue}
 use Rattle.rule_engine.specs.Engine.{EngineState, IsEngine, IsRunnable, IsAtWork, engine_with, first_engine, option_named, with_option, set_by_host}
 use Rattle.rule_engine.specs.Event.{HasPlaces, moment_with}

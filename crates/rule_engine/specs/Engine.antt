@@ -18,7 +18,7 @@ use Rattle.rule_model.specs.Trace.{options_of, first_state}
 use Rattle.option_store.specs.declared.options.Cell.{Cell}
 use Rattle.option_store.specs.Meaning.{option_values, option_saves}
 use Rattle.rule_index.specs.Stores.{HaveFewElements}
-use Rattle.context_cache.specs.Cached.{CacheValue}
+use Rattle.event_text.specs.Cached.{CacheValue}
 use Rattle.event_text.specs.Texts.{InsertedValue}
 use Rattle.rule_matching.specs.Moment.{truths_at}
 use Rattle.rule_engine.specs.Event.{HasPlaces, HasRoom, HasShortContexts, HaveFewRecords, OthersHoldThemselves, PlatformStays, moment_with}

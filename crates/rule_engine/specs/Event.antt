@@ -17,7 +17,7 @@ use Rattle.rule_model.specs.Tab.{tab}
 use Rattle.option_store.specs.declared.options.Cell.{Cell}
 use Rattle.option_store.specs.Cells.{cell_at, first_cell}
 use Rattle.option_store.specs.Meaning.{option_values}
-use Rattle.context_cache.specs.Cached.{CacheValue}
+use Rattle.event_text.specs.Cached.{CacheValue}
 use Rattle.event_text.specs.Texts.{InsertedValue}
 use Rattle.rule_matching.specs.Moment.{MomentValue, AreShort, truths_at}
 use Rattle.rule_engine.specs.declared.entering.Entering.{Entering}

@@ -6,8 +6,7 @@ ghost use Rattle.rule_matching.specs.Moment.{truths_at};
 ghost use Rattle.rule_matching.specs.PlaceMemory.{rooms};
 ghost use Rattle.rule_engine.specs.Event.{moment_with};
 
-use context_cache::Cache;
-use event_text::Inserted;
+use event_text::{Cache, Inserted};
 use kmn_base::Memory;
 use kmn_base::limits::EVENT_ENTRIES;
 use option_store::Options;

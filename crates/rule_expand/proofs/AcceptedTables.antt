@@ -25,11 +25,11 @@ use Rattle.kmn_names.specs.First.{or_else, first_code}
 use Rattle.kmn_names.specs.Known.{known}
 use Rattle.item_checker.specs.Items.{is_option, is_far, is_unfit_key, are_unfit_keys, key_code, context_code, rule_output_code, rule_code, rule_refusal, rules_refusal}
 use Rattle.rule_checker.specs.Refused.{IsRead, refused}
-use Rattle.checker_laws.proofs.Lists.{All-append_parts}
-use Rattle.checker_laws.proofs.Unrefused.{none_both, none_at_line, none_broken, none_first, Stands}
-use Rattle.checker_laws.proofs.Accepted.{unrefused}
-use Rattle.checker_laws.proofs.Reading.{has_parts, have_parts, all_have_parts, words_read}
-use Rattle.checker_laws.proofs.Within.{few_stores, few_elements, few_groups, few_marks, few_keys}
+use Rattle.rule_checker.proofs.Lists.{All-append_parts}
+use Rattle.rule_checker.proofs.Unrefused.{none_both, none_at_line, none_broken, none_first, Stands}
+use Rattle.rule_checker.proofs.Accepted.{unrefused}
+use Rattle.rule_checker.proofs.Reading.{has_parts, have_parts, all_have_parts, words_read}
+use Rattle.rule_checker.proofs.Within.{few_stores, few_elements, few_groups, few_marks, few_keys}
 use Rattle.rule_expand.specs.Groups.{is_unit, is_unit_element, are_unit_elements, is_unit_key, has_unit_key, have_unit_keys}
 use Rattle.rule_expand.specs.Expanded.{HasTables}
 

@@ -1,5 +1,5 @@
 //! The tests of the crates that read sources and of those below them: `refusals` of `kmn_base`, `keys` of `virtual_keys`,
-//! `lines` of `kmn_lines`, `tokens` of `kmn_tokens`, `items` of `kmn_items`, and `names` of `kmn_names`.
+//! `lines` and `tokens` of `kmn_lines`, `items` of `kmn_items`, and `names` of `kmn_names`.
 //!
 //! They stand here because a crate with tests is proved twice, once with them and once without: so each of those crates is
 //! proved once, and the tests are proved over them. `fixtures` has what several of them take: the tests of all crates take of

@@ -7,8 +7,7 @@ ghost use Rattle.kmn_lines.specs.Places.{IsPlaced};
 use crate::fixtures::{parted, source_of};
 use kmn_base::Seq;
 use kmn_base::slices::{before, behind};
-use kmn_lines::{Logical, Token, TokenKind, lines};
-use kmn_tokens::tokens;
+use kmn_lines::{Logical, Token, TokenKind, lines, tokens};
 use std::alloc::{AllocError, Global};
 use std::test::Fail;
 

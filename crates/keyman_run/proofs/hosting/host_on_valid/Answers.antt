@@ -2,7 +2,7 @@ use Rattle.std.proofs.Common.{List}
 use Rattle.rule_model.specs.Tab.{tab}
 use Rattle.rule_model.specs.declared.tables.Tables.{Tables}
 use Rattle.kmx_format.specs.TablesOf.{tables_of}
-use Rattle.host_script.specs.declared.entries.HostEntry.{HostEntry}
+use Rattle.play_script.specs.declared.entries.HostEntry.{HostEntry}
 use Rattle.keyman_run.specs.Endings.{Ending, host_ending}
 use Rattle.keyman_run.specs.Orders.{host_script_work}
 use Rattle.keyman_run.specs.Steps.{itself}

@@ -2,7 +2,7 @@ use Rattle.std.proofs.Common.{◌≡◌, Ok, Err, refl, rules}
 use Rattle.kmn_base.specs.declared.codes.Code.TheVariants.{T7}
 use Rattle.kmn_base.specs.declared.limits.TheConstants.{TEXT_BYTES}
 use Rattle.touch_layout.specs.Faults.{fault, whole_layout}
-use Rattle.keyman_lines.specs.declared.reason.Reason.TheVariants as reason
+use Rattle.keyman_words.specs.declared.reason.Reason.TheVariants as reason
 use Rattle.keyman_run.specs.Inputs.{keys_of}
 use Rattle.keyman_run.specs.Orders.{keys_work}
 use Rattle.keyman_run.specs.Steps.{itself, layout_stop}

@@ -3,7 +3,7 @@ use Rattle.rule_model.specs.Tab.{tab}
 use Rattle.rule_model.specs.Trace.{trace}
 use Rattle.rule_model.specs.Transcript.{events_of}
 use Rattle.keyman_run.specs.declared.preparing.Stop.TheVariants as stop
-use Rattle.keyman_lines.specs.declared.reason.Reason.{Reason}
+use Rattle.keyman_words.specs.declared.reason.Reason.{Reason}
 use Rattle.keyman_run.specs.Loads.{load_job, played_load, sums_of}
 use Rattle.keyman_run.specs.Steps.{itself, prepared_job}
 use Rattle.keyman_run.proofs.LoadLaws.{line_behind, play_behind, states_behind, states_handed, states_stopped}

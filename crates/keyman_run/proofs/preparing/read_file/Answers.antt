@@ -1,8 +1,8 @@
 use Rattle.std.proofs.Common.{refl, rules}
 use Rattle.kmn_base.specs.declared.codes.Code.TheVariants.{V15}
 use Rattle.kmn_base.specs.declared.limits.TheConstants.{FILE_BYTES}
-use Rattle.keyman_lines.specs.declared.reason.Reason.{Reason}
-use Rattle.keyman_lines.specs.declared.reason.Reason.TheVariants as reason
+use Rattle.keyman_words.specs.declared.reason.Reason.{Reason}
+use Rattle.keyman_words.specs.declared.reason.Reason.TheVariants as reason
 use Rattle.keyman_run.specs.Inputs.{bytes_of}
 use Rattle.keyman_run.proofs.InputLaws.{IsStopped, gives_bytes, given_concludes}
 use Rattle.keyman_run.proofs.preparing.read_file.Goals as goal

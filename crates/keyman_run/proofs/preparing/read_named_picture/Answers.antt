@@ -2,7 +2,7 @@ use Rattle.std.proofs.Common.{◌≡◌, ◌+◌, List, ℕ, Some, refl, ap, rul
 use Rattle.kmn_base.specs.declared.codes.Code.TheVariants.{C24}
 use Rattle.kmn_base.specs.declared.limits.TheConstants.{PICTURE_BYTES}
 use Rattle.keyman_run.specs.declared.preparing.Stop.TheVariants as stop
-use Rattle.keyman_lines.specs.declared.reason.Reason.TheVariants as reason
+use Rattle.keyman_words.specs.declared.reason.Reason.TheVariants as reason
 use Rattle.keyman_words.specs.Beside.{beside}
 use Rattle.keyman_run.specs.Inputs.{picture_of}
 use Rattle.keyman_run.specs.Orders.{picture_work}

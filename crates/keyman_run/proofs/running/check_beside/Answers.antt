@@ -1,4 +1,4 @@
-use Rattle.keyman_status.proofs.Printed.{tells_made}
+use Rattle.keyman_words.proofs.Printed.{tells_made}
 use Rattle.keyman_run.specs.Orders.{keys_work}
 use Rattle.keyman_run.specs.Steps.{itself}
 use Rattle.keyman_run.proofs.LayoutLaws.{count_behind, does_sound}

@@ -1,11 +1,11 @@
 use Rattle.std.proofs.Common.{List, ℕ}
 use Rattle.kmn_compiler.specs.declared.compiling.Compiled.{Compiled}
-use Rattle.keyman_status.specs.declared.status.Status.TheVariants as status
-use Rattle.keyman_status.proofs.Printed.{tells_made}
+use Rattle.keyman_words.specs.declared.status.Status.TheVariants as status
+use Rattle.keyman_words.proofs.Printed.{tells_made}
 use Rattle.keyman_run.specs.Endings.{Ending, compile_ending}
-use Rattle.keyman_lines.specs.Lines.{compiled_line}
+use Rattle.keyman_words.specs.Lines.{compiled_line}
 use Rattle.keyman_run.specs.Orders.{compiled_work, compile_work}
-use Rattle.keyman_status.specs.Tells.{write_status}
+use Rattle.keyman_words.specs.Tells.{write_status}
 use Rattle.keyman_run.specs.Steps.{itself}
 use Rattle.keyman_run.specs.Work.{Work, and_then}
 use Rattle.keyman_run.specs.Work.Work.{Give}

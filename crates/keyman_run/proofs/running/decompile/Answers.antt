@@ -1,11 +1,11 @@
 use Rattle.std.proofs.Common.{List, ℕ, IsTrue, sym, subst}
-use Rattle.keyman_status.specs.declared.status.Status.TheVariants as status
-use Rattle.keyman_status.proofs.Printed.{tells_made}
+use Rattle.keyman_words.specs.declared.status.Status.TheVariants as status
+use Rattle.keyman_words.proofs.Printed.{tells_made}
 use Rattle.keyman_run.specs.Endings.{Ending, decompile_ending}
-use Rattle.keyman_lines.specs.Lines.{decompiled_line}
+use Rattle.keyman_words.specs.Lines.{decompiled_line}
 use Rattle.keyman_run.specs.Orders.{text_work}
-use Rattle.keyman_status.specs.Seen.{seen_folder}
-use Rattle.keyman_status.specs.Tells.{write_status}
+use Rattle.keyman_words.specs.Seen.{seen_folder}
+use Rattle.keyman_words.specs.Tells.{write_status}
 use Rattle.keyman_run.specs.Steps.{itself}
 use Rattle.keyman_run.specs.Work.{Work}
 use Rattle.keyman_run.specs.Work.Work.{Give}

@@ -1,4 +1,4 @@
-use Rattle.keyman_status.proofs.Printed.{tells_made}
+use Rattle.keyman_words.proofs.Printed.{tells_made}
 use Rattle.keyman_run.specs.Steps.{verify_stop}
 use Rattle.keyman_run.proofs.FileRuns.{as_stop, tells_unread, tells_valid}
 use Rattle.keyman_run.proofs.running.tell_file.Goals as goal

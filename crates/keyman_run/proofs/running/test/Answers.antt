@@ -2,10 +2,10 @@ use Rattle.std.proofs.Common.{List, ℕ}
 use Rattle.rule_model.specs.Tab.{tab}
 use Rattle.rule_model.specs.Trace.{trace}
 use Rattle.rule_model.specs.Transcript.{events_of, transcript}
-use Rattle.keyman_status.specs.declared.status.Status.{Status}
+use Rattle.keyman_words.specs.declared.status.Status.{Status}
 use Rattle.keyman_run.specs.Endings.{play_status}
 use Rattle.keyman_run.specs.Orders.{job_work, test_work}
-use Rattle.keyman_status.specs.Tells.{write_status}
+use Rattle.keyman_words.specs.Tells.{write_status}
 use Rattle.keyman_run.specs.Steps.{prepared_job}
 use Rattle.keyman_run.specs.Work.{and_then}
 use Rattle.keyman_run.proofs.MeaningLaws.{does_as, as_meant, play_job}

@@ -1,7 +1,7 @@
 use Rattle.std.proofs.Common.{◌≡◌, Result, Ok, sym, subst, rules}
 use Rattle.rule_model.specs.declared.tables.Tables.{Tables}
-use Rattle.keyman_lines.specs.declared.reason.Reason.{Reason}
-use Rattle.keyman_status.proofs.Printed.{tells_made}
+use Rattle.keyman_words.specs.declared.reason.Reason.{Reason}
+use Rattle.keyman_words.proofs.Printed.{tells_made}
 use Rattle.keyman_run.specs.Inputs.{few_records}
 use Rattle.keyman_run.specs.Steps.{TellsDead}
 use Rattle.keyman_run.proofs.shadowing.tell_dead.Goals as goal

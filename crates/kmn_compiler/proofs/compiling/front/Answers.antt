@@ -1,5 +1,5 @@
 use Rattle.std.proofs.lemmas.Result.{err_from_is_err_and}
-use Rattle.checker_laws.proofs.Sources.{source_read}
+use Rattle.rule_checker.proofs.Sources.{source_read}
 use Rattle.kmn_compiler.proofs.Checks.{checked_read, unread}
 use Rattle.kmn_compiler.proofs.compiling.front.Goals as goal
 

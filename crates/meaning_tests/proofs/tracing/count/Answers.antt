@@ -2,7 +2,7 @@ use Rattle.std.proofs.Common.{ℕ, sym, subst, get_or}
 use Rattle.std.specs.Prelude.{◌↔◌}
 use Rattle.std.specs.List.{Contains}
 use Rattle.std.specs.List.Sorted.{IsStrictlyIncreasing}
-use Rattle.rule_trace.specs.Coverage.{record_lines}
+use Rattle.plain_event.specs.Coverage.{record_lines}
 use Rattle.meaning_tests.proofs.tracing.count.Goals as goal
 
 pub add-requires : goal.add-requires

@@ -2,7 +2,7 @@ use Rattle.std.proofs.Common.{sym, subst}
 use Rattle.std.specs.Prelude.{All}
 use Rattle.std.specs.List.{Contains}
 use Rattle.plain_event.specs.PlainStates.{state_of}
-use Rattle.rule_trace.specs.Coverage.{record_lines}
+use Rattle.plain_event.specs.Coverage.{record_lines}
 use Rattle.meaning_tests.proofs.tracing.traced.Goals as goal
 
 pub returns-then-can_be_done : goal.returns-then-can_be_done

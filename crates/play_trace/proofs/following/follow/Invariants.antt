@@ -2,7 +2,7 @@ use Rattle.std.proofs.Common.{◌≡◌, ◌≤◌, drop, IsTrue}
 use Rattle.rule_model.specs.Tab.{tab}
 use Rattle.rule_model.specs.Trace.{trace}
 use Rattle.rule_model.specs.Transcript.{events_of}
-use Rattle.rule_trace.specs.Coverage.{hit_lines}
+use Rattle.plain_event.specs.Coverage.{hit_lines}
 use Rattle.play_transcript.specs.Printing.{AppendsBut}
 use Rattle.play_trace.specs.EachEntry.{text_left, end_left}
 use Rattle.play_trace.specs.RisingLines.{lines_of_tables}

@@ -1,5 +1,5 @@
 use Rattle.std.proofs.Common.{◌∙◌, ap, arith}
-use Rattle.context_cache.specs.Cached.{CacheValue}
+use Rattle.event_text.specs.Cached.{CacheValue}
 use Rattle.event_text.specs.Texts.{LeftValue}
 use Rattle.event_text.proofs.Lefts.{put_stands}
 use Rattle.event_text.proofs.left.Left.put.Goals as goal

@@ -1,6 +1,6 @@
 use Rattle.std.proofs.Common.{◌∙◌, ap, ℕ, length, arith}
 use Rattle.kmn_base.specs.Lists.{without_last}
-use Rattle.context_cache.specs.Cached.{CacheValue}
+use Rattle.event_text.specs.Cached.{CacheValue}
 use Rattle.event_text.specs.Texts.{LeftValue}
 use Rattle.event_text.proofs.Lefts.{taken_stands}
 use Rattle.event_text.proofs.left.Left.take.Goals as goal

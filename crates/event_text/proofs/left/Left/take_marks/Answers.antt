@@ -2,7 +2,7 @@ use Rattle.std.proofs.Common.{◌≡◌, ◌∙◌, ap, sym, ℕ, List, arith}
 use Rattle.std.specs.List.{suffix_len}
 use Rattle.kmn_base.specs.declared.items.Item.{Item}
 use Rattle.kmn_base.specs.Lists.{is_mark, without_last}
-use Rattle.context_cache.specs.Cached.{whole}
+use Rattle.event_text.specs.Cached.{whole}
 use Rattle.event_text.specs.Texts.{LeftValue}
 use Rattle.event_text.proofs.Lefts.{marks_at_hand}
 use Rattle.event_text.proofs.left.Left.take_marks.Goals as goal

@@ -1,9 +1,0 @@
-use Rattle.std.proofs.Common.{◌≡◌, ◌++◌, length, take, drop}
-use Rattle.call_numbers.specs.Numbers.{written}
-use Rattle.call_numbers.proofs.put_characters.Given as goal
-
-abbrev pub invariant-loop-place : goal.invariant-loop-place
-invariant-loop-place l = record {
-  room : length l.room ≡ length l.fn.room;
-  same : take l.place l.room ++ written (drop l.place l.text) (drop l.place l.room) ≡ written l.text l.fn.room;
-}

@@ -1,3 +1,0 @@
-pub mod Counts
-pub mod SavedOnce
-pub mod Sets

@@ -1,8 +1,0 @@
-use Rattle.std.proofs.Common.{ℕ, List, ap, ◌∙◌}
-use Rattle.std.specs.Prelude.{slice_get}
-use Rattle.core_differences.specs.Saves.{saving_lines, saving_line}
-use Rattle.core_differences.proofs.saves.saving_line.Goals as goal
-
-pub returns : goal.returns
-unfolding saving_line
-returns c = c.first.ensures ∙ ap (λ (lines : List ℕ). slice_get lines 0) (c.in_ok-lines.ensures ∙ ap saving_lines c.as_slice.ensures)

@@ -1,0 +1,77 @@
+-- Sets of lines, and what was found of each construct.
+use Rattle.std.proofs.Common.{◌≡◌, ℕ, ◌+◌, ◌-◌, ◌<◌, ◌≤◌, ◌||◌, Bool, true, false, if◌then◌else◌, List, [], ◌∷◌, ◌++◌, filter, flat_map, map, drop, length, get_or, drop-cons, add-one, refl, ap, sym, ◌∙◌, arith}
+use Rattle.std.specs.Prelude.{nat_eq, nat_lt}
+use Rattle.std.specs.Ordering.{nat_cmp}
+use Rattle.std.specs.BTreeMap.{is_at}
+use Rattle.std.specs.List.{fold, list_any}
+use Rattle.std.specs.BTreeSet.{insert_key}
+use Rattle.rule_model.specs.declared.tables.Group.{Group}
+use Rattle.std.proofs.lemmas.Bool.Decides.{nat_tests}
+use Rattle.std.proofs.lemmas.List.Sums.{fold-append}
+use Rattle.rule_model.specs.declared.tables.Tables.{Tables}
+use Rattle.core_export.specs.declared.construct.Construct.{Construct}
+use Rattle.core_export.specs.Constructs.{constructs}
+use Rattle.core_export.specs.declared.construct.Difference.{Difference}
+use Rattle.core_export.specs.declared.differing.ConstructLines.{ConstructLines}
+use Rattle.core_export.specs.Differences.{rising, is_among, lines_with, difference_at, differences}
+use Rattle.core_export.specs.Saves.{group_saving_lines}
+use Rattle.core_export.specs.Found.{found_of, found_lines, found_construct, found_at, told_at}
+
+-- a line compares equal to itself alone
+at_is : (line other : ℕ) → is_at (nat_cmp line) other ≡ nat_eq line other
+at_is line other = grind (arith, nat_tests)
+
+pub among_is : (line : ℕ) (lines : List ℕ) → list_any (is_at (nat_cmp line)) lines ≡ is_among line lines
+among_is line [] = refl
+among_is line (other ∷ lines) = λ i. at_is line other i || among_is line lines i
+
+-- what is left of the units that are kept
+pub fewer_left : (left units rest : ℕ) → units ≤ left → nat_lt left (units + rest) ≡ nat_lt (left - units) rest
+fewer_left left units rest few = grind (arith, nat_tests)
+
+pub none_left : (left units rest : ℕ) → left < units → nat_lt left (units + rest) ≡ true
+none_left left units rest many = grind (arith, nat_tests)
+
+pub ruleset folds = fold-append
+
+-- the constructs that were found at a line are those whose lines have it
+found_is : (tables : Tables) (line : ℕ) (some : List Construct) → found_at (map (found_of tables) some) line ≡ filter (λ construct. is_among line (lines_with tables construct)) some
+found_is tables line [] = refl
+found_is tables line (construct ∷ some) = by (is_among line (lines_with tables construct)) (found_is tables line some)
+  where
+    by : (b : Bool) → found_at (map (found_of tables) some) line ≡ filter (λ construct. is_among line (lines_with tables construct)) some
+        → map found_construct (if b then found_of tables construct ∷ filter (λ found. is_among line (found_lines found)) (map (found_of tables) some) else filter (λ found. is_among line (found_lines found)) (map (found_of tables) some))
+        ≡ (if b then construct ∷ filter (λ construct. is_among line (lines_with tables construct)) some else filter (λ construct. is_among line (lines_with tables construct)) some)
+    by true rest = ap (λ list. construct ∷ list) rest
+    by false rest = rest
+
+lines_are : (tables : Tables) (some : List Construct) → flat_map found_lines (map (found_of tables) some) ≡ flat_map (lines_with tables) some
+lines_are tables [] = refl
+lines_are tables (construct ∷ some) = ap (λ list. lines_with tables construct ++ list) (lines_are tables some)
+
+told_is : (tables : Tables) (line : ℕ) → told_at (map (found_of tables) constructs) line ≡ difference_at tables line
+told_is tables line = λ i. record { line = line; constructs = found_is tables line constructs i }
+
+-- so what is told are the differences
+pub told_differences : (tables : Tables) → map (told_at (map (found_of tables) constructs)) (rising (flat_map found_lines (map (found_of tables) constructs))) ≡ map (difference_at tables) (rising (flat_map (lines_with tables) constructs))
+told_differences tables = λ i. map (λ line. told_is tables line i) (rising (lines_are tables constructs i))
+
+pub told_so : (tables : Tables) (all some others : List ConstructLines) (lines listed told_of : List ℕ) (told : List Difference)
+    → all ≡ map (found_of tables) constructs → some ≡ all → lines ≡ rising (flat_map found_lines some) → listed ≡ lines → others ≡ all → told_of ≡ listed
+    → told ≡ map (told_at others) told_of → told ≡ differences tables
+unfolding differences
+told_so tables all some others lines listed told_of told is_all is_some are_lines are_listed is_others are_told_of is_told =
+    let same : List ConstructLines = map (found_of tables) constructs in
+    let at : told_of ≡ rising (flat_map found_lines same) = are_told_of ∙ are_listed ∙ are_lines ∙ ap (λ (xs : List ConstructLines). rising (flat_map found_lines xs)) (is_some ∙ is_all) in
+    is_told ∙ ap (λ (xs : List ConstructLines). map (told_at xs) told_of) (is_others ∙ is_all) ∙ ap (λ (xs : List ℕ). map (told_at same) xs) at ∙ told_differences tables
+
+-- the lines of one group more
+pub lines_more : (saving used : List Bool) (groups : List Group) (i : ℕ) (d group : Group) (before after : List ℕ) → i < length groups → group ≡ get_or groups i d → used ≡ saving
+    → after ≡ fold (insert_key nat_cmp) before (group_saving_lines used group)
+    → fold (insert_key nat_cmp) after (flat_map (group_saving_lines saving) (drop (i + 1) groups)) ≡ fold (insert_key nat_cmp) before (flat_map (group_saving_lines saving) (drop i groups))
+lines_more saving used groups i d group before after within at same is =
+    let first : drop i groups ≡ get_or groups i d ∷ drop (i + 1) groups = rw add-one (drop-cons groups i d within) in
+    let rest : List ℕ = flat_map (group_saving_lines saving) (drop (i + 1) groups) in
+    ap (λ (xs : List ℕ). fold (insert_key nat_cmp) xs rest) (is ∙ ap (λ (flags : List Bool). fold (insert_key nat_cmp) before (group_saving_lines flags group)) same)
+    ∙ sym (fold-append (insert_key nat_cmp) before (group_saving_lines saving group) rest)
+    ∙ sym (ap (λ (gs : List Group). fold (insert_key nat_cmp) before (flat_map (group_saving_lines saving) gs)) (first ∙ ap (λ (x : Group). x ∷ drop (i + 1) groups) (sym at)))

@@ -1,0 +1,40 @@
+-- Where Keyman's own engine does something else, by lines of the source.
+use Rattle.std.specs.Prelude.{ℕ, Bool, nat_eq, List, [], filter, flat_map, map}
+use Rattle.std.specs.List.{fold, list_any}
+use Rattle.std.specs.Ordering.{nat_cmp}
+use Rattle.std.specs.BTreeSet.{insert_key}
+use Rattle.rule_model.specs.declared.tables.Rule.{Rule}
+use Rattle.rule_model.specs.declared.tables.Group.{Group}
+use Rattle.rule_model.specs.declared.tables.Tables.{Tables}
+use Rattle.core_export.specs.declared.construct.Construct.{Construct}
+use Rattle.core_export.specs.declared.construct.Difference.{Difference}
+use Rattle.core_export.specs.Constructs.{constructs, has_construct}
+
+-- lines, each once, rising
+abbrev pub rising : List ℕ → List ℕ
+rising lines = fold (insert_key nat_cmp) [] lines
+
+abbrev pub is_among : ℕ → List ℕ → Bool
+is_among line lines = list_any (nat_eq line) lines
+
+abbrev pub line_of : Rule → ℕ
+line_of rule = rule.line
+
+-- the lines of the records of a group that have a construct
+abbrev pub group_lines : Construct → Group → List ℕ
+group_lines construct group = map line_of (filter (has_construct construct group) group.rules)
+
+-- those of all groups, each once
+abbrev pub lines_with : Tables → Construct → List ℕ
+lines_with tables construct = rising (flat_map (group_lines construct) tables.groups)
+
+-- what the records of a line have
+abbrev pub constructs_at : Tables → ℕ → List Construct
+constructs_at tables line = filter (λ construct. is_among line (lines_with tables construct)) constructs
+
+abbrev pub difference_at : Tables → ℕ → Difference
+difference_at tables line = record { line = line; constructs = constructs_at tables line }
+
+-- the lines whose records have something, rising, each with all that they have
+unfoldable pub differences : Tables → List Difference
+differences tables = map (difference_at tables) (rising (flat_map (lines_with tables) constructs))

@@ -1,0 +1,24 @@
+-- What was found of each construct.
+use Rattle.std.specs.Prelude.{ℕ, List, filter, map}
+use Rattle.rule_model.specs.declared.tables.Tables.{Tables}
+use Rattle.core_export.specs.declared.construct.Construct.{Construct}
+use Rattle.core_export.specs.declared.construct.Difference.{Difference}
+use Rattle.core_export.specs.declared.differing.ConstructLines.{ConstructLines}
+use Rattle.core_export.specs.Differences.{is_among, lines_with}
+
+-- the lines of the records that have a construct
+abbrev pub found_of : Tables → Construct → ConstructLines
+found_of tables construct = record { construct = construct; lines = lines_with tables construct }
+
+abbrev pub found_lines : ConstructLines → List ℕ
+found_lines found = found.lines
+
+abbrev pub found_construct : ConstructLines → Construct
+found_construct found = found.construct
+
+-- the constructs that were found at a line
+abbrev pub found_at : List ConstructLines → ℕ → List Construct
+found_at all line = map found_construct (filter (λ (found : ConstructLines). is_among line found.lines) all)
+
+abbrev pub told_at : List ConstructLines → ℕ → Difference
+told_at all line = record { line = line; constructs = found_at all line }

@@ -1,0 +1,12 @@
+-- What it means that no line is told at which an event may save twice.
+use Rattle.std.specs.Prelude.{◌≡◌, ◌≤◌, List, None}
+use Rattle.std.specs.List.{All}
+use Rattle.kmn_base.specs.declared.events.Event.{Event}
+use Rattle.rule_model.specs.declared.tables.Tables.{Tables}
+use Rattle.rule_model.specs.Tab.{tab}
+use Rattle.rule_model.specs.Trace.{Step, trace}
+use Rattle.core_export.specs.Saves.{saving_line}
+
+-- then no event saves twice, whatever the events
+abbrev pub NoEventSavesTwice : Type 0
+NoEventSavesTwice = (tables : Tables) → saving_line tables ≡ None → (events : List Event) → All (λ (step : Step). step.happened.outcome.saved ≤ 1) (trace (tab tables) events).done

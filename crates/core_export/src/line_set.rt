@@ -1,0 +1,81 @@
+//! Lines, each once, rising.
+
+ghost use Rattle.std.specs.Prelude.{◌≡◌, [], slice_get, OnOk, IfOk};
+ghost use Rattle.std.specs.List.{fold};
+ghost use Rattle.std.specs.Ordering.{nat_cmp};
+ghost use Rattle.std.specs.BTreeSet.{insert_key};
+ghost use Rattle.core_export.specs.Differences.{is_among};
+
+use kmn_base::{Memory, Seq};
+use std::alloc::Global;
+use std::collections::BTreeSet;
+use std::marker::Model;
+
+/// Lines, each once. Contracts see them as the list of them, rising.
+#[derive(Drop)]
+pub(crate) struct LineSet {
+    lines: BTreeSet<u32>,
+}
+
+impl Model for LineSet {
+    ghost use Rattle.std.specs.Prelude.{List, ℕ};
+
+    ghost Value = { List ℕ };
+
+    ghost view = { λ set. set.lines.keys };
+}
+
+impl LineSet {
+    /// No lines.
+    pub fn new(alloc: Global) -> LineSet
+        ensures { result ≡ [] }
+    {
+        LineSet {
+            lines: BTreeSet::new(alloc),
+        }
+    }
+
+    /// With one line more.
+    pub fn add(&mut self, line: u32) -> Result<(), Memory>
+        ensures { OnOk result (self.new ≡ insert_key nat_cmp self.old line) }
+    {
+        self.lines.insert(line)?;
+        Ok(())
+    }
+
+    /// With the lines of another.
+    pub fn add_all(&mut self, other: &LineSet) -> Result<(), Memory>
+        ensures { OnOk result (self.new ≡ fold (insert_key nat_cmp) self.old other.now) }
+    {
+        for line in other.lines.iter() {
+            self.lines.insert(*line)?;
+        }
+        Ok(())
+    }
+
+    /// Whether a line is among them.
+    #[tactic(auto, using(crate::proofs::Sets::among_is))]
+    pub fn has(&self, line: u32) -> bool
+        ensures { result ≡ is_among line self.now }
+    {
+        self.lines.contains(&line)
+    }
+
+    /// The first of them.
+    pub fn first(&self) -> Option<u32>
+        ensures { result ≡ slice_get self.now 0 }
+    {
+        self.lines.first().copied()
+    }
+
+    /// All of them.
+    pub fn listed(&self, alloc: Global) -> Result<Seq<u32>, Memory>
+        ensures { IfOk result (λ list. list ≡ self.now) }
+    {
+        let mut list = Seq::new(alloc);
+        for line in self.lines.iter() {
+            list.add(*line)?;
+        }
+        Ok(list)
+    }
+}

@@ -1,0 +1,140 @@
+ghost use Rattle.std.specs.Prelude.{◌≡◌, ◌≤◌, ◌++◌, length, take, drop, encode_utf8, encode_utf8_all, IfOk};
+ghost use Rattle.curlew_calls.specs.Numbers.{written, item_number, item_numbers, element_number, element_numbers, text_of, rule_number};
+
+use kmn_base::{Code, Element, Item, Memory, Seq};
+use std::alloc::Global;
+
+/// What the number of a deadkey's mark begins at, past all characters.
+pub const MARK: u32 = 0x8000_0000;
+/// What the number of a virtual key begins at, which an option's value may have and no text.
+pub const KEY: u32 = 0x9000_0000;
+
+/// The text that numbers are; None exactly where one of them is no character.
+pub fn characters(alloc: Global, numbers: &[u32]) -> Result<Option<Seq<char>>, Memory>
+    ensures { IfOk result (λ text. text ≡ text_of numbers.now) }
+{
+    let mut text = Vec::with_capacity(alloc, numbers.len())?;
+    for number in numbers {
+        match char::from_u32(*number) {
+            Some(c) => text.push(c)?,
+            None => return Ok(None),
+        }
+    }
+    Ok(Some(Seq::from_vec(text)))
+}
+
+/// The number of an item.
+fn item_number(item: Item) -> u32
+    ensures { result ≡ item_number item }
+{
+    match item {
+        Item::Char(c) => c as u32,
+        Item::Mark(mark) => MARK + u32::from(mark),
+    }
+}
+
+/// The number of an element.
+fn element_number(element: Element) -> u32
+    ensures { result ≡ element_number element }
+{
+    match element {
+        Element::Char(c) => c as u32,
+        Element::Mark(mark) => MARK + u32::from(mark),
+        Element::Key { code, .. } => KEY + u32::from(code),
+    }
+}
+
+/// Writes a text over the beginning of the room, as much as it has place for, and tells the length of the whole.
+pub fn put_characters(room: &mut [u32], text: &[char]) -> usize
+    ensures length { result ≡ length text.now }
+    ensures room { room.new ≡ written text.now room.old }
+{
+    for place in 0..text.len().min(room.len()) {
+        room[place] = text[place] as u32;
+    }
+    text.len()
+}
+
+/// Writes items over the beginning of the room likewise.
+pub fn put_items(room: &mut [u32], items: &[Item]) -> usize
+    ensures length { result ≡ length items.now }
+    ensures room { room.new ≡ written (item_numbers items.now) room.old }
+{
+    for place in 0..items.len().min(room.len()) {
+        room[place] = item_number(items[place]);
+    }
+    items.len()
+}
+
+/// Writes elements over the beginning of the room likewise.
+pub fn put_elements(room: &mut [u32], elements: &[Element]) -> usize
+    ensures length { result ≡ length elements.now }
+    ensures room { room.new ≡ written (element_numbers elements.now) room.old }
+{
+    for place in 0..elements.len().min(room.len()) {
+        room[place] = element_number(elements[place]);
+    }
+    elements.len()
+}
+
+/// Writes bytes over the beginning of the room likewise.
+pub fn put_bytes(room: &mut [u8], bytes: &[u8]) -> usize
+    ensures length { result ≡ length bytes.now }
+    ensures room { room.new ≡ written bytes.now room.old }
+{
+    let count = bytes.len().min(room.len());
+    room[..count].copy_from_slice(&bytes[..count]);
+    bytes.len()
+}
+
+/// Writes a text as UTF-8 over the beginning of the room, byte by byte, and tells how many bytes the whole has.
+pub fn put_utf8(room: &mut [u8], text: &[char]) -> usize
+    ensures length { result ≡ length (encode_utf8_all text.now) }
+    ensures room { room.new ≡ written (encode_utf8_all text.now) room.old }
+{
+    let mut end = 0;
+    for c in text {
+        end += put_character(room, end, *c);
+    }
+    end
+}
+
+/// Writes the bytes of a character from a place on, where the room has it, and tells how many they are.
+fn put_character(room: &mut [u8], place: usize, c: char) -> usize
+    ensures length { result ≡ length (encode_utf8 c) }
+    ensures few { result ≤ 4 }
+    ensures room { room.new ≡ take place room.old ++ written (encode_utf8 c) (drop place room.old) }
+{
+    let mut bytes = [0; 4];
+    let utf8 = c.encode_utf8(&mut bytes).as_bytes();
+    if place < room.len() {
+        put_bytes(&mut room[place..], utf8);
+    }
+    utf8.len()
+}
+
+/// The number of a rule of compiled files, as 14 for V14; 0 for every other.
+#[tactic(auto, unfolding(crate::specs::Numbers::rule_number))]
+pub fn rule_number(code: Code) -> u32
+    ensures { result ≡ rule_number code }
+{
+    match code {
+        Code::V01 => 1,
+        Code::V02 => 2,
+        Code::V03 => 3,
+        Code::V04 => 4,
+        Code::V05 => 5,
+        Code::V06 => 6,
+        Code::V07 => 7,
+        Code::V08 => 8,
+        Code::V09 => 9,
+        Code::V10 => 10,
+        Code::V11 => 11,
+        Code::V12 => 12,
+        Code::V13 => 13,
+        Code::V14 => 14,
+        Code::V15 => 15,
+        Code::V16 => 16,
+        _ => 0,
+    }
+}

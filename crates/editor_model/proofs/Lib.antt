@@ -1,2 +1,0 @@
-mod Moves
-pub mod Places

@@ -1,2 +1,0 @@
-pub mod BracketLaws
-pub mod LineLaws

@@ -1,4 +1,0 @@
-pub mod FirstItems
-pub mod Results
-pub mod Operands
-pub mod Sizes

@@ -1,0 +1,39 @@
+-- What is printed before a run ends.
+use Rattle.std.specs.Prelude.{◌≡◌, ℕ, IsTrue, List, ◌++◌, Result, IfOk, IfErr}
+use Rattle.kmn_outside.specs.Outside.{Rose}
+use Rattle.kmn_outside.specs.declared.traits.WriteError.{WriteError}
+use Rattle.kmn_outside.specs.declared.traits.WriteError.TheVariants as write
+use Rattle.play_transcript.specs.Printing.{IsBegun}
+use Rattle.keyman_words.specs.declared.status.Status.{Status}
+use Rattle.keyman_words.specs.declared.status.Status.TheVariants as status
+use Rattle.keyman_words.specs.Seen.{SinkView}
+
+-- the count of faults of a sink that something is printed to before a run ends well with a status
+abbrev pub SinkCounts : Status → ℕ → ℕ → Status → Type 0
+SinkCounts good before after status.WriteFault = Rose before after
+SinkCounts good before after status.Memory = after ≡ before
+SinkCounts good before after status.Words = ⊥
+SinkCounts good before after status.ReadFault = ⊥
+SinkCounts good before after other = (other ≡ good) × (after ≡ before)
+
+-- what was printed before a run ends well with a status: all bytes, or where printing broke off a first part
+abbrev pub PrintsBy : List ℕ → List ℕ → List ℕ → Status → Type 0
+PrintsBy bytes before after status.WriteFault = IsBegun before after bytes
+PrintsBy bytes before after status.Memory = IsBegun before after bytes
+PrintsBy bytes before after other = after ≡ before ++ bytes
+
+-- bytes are printed, and then the run ends with a good status, unless the printing breaks off
+pub record Tells {S : Type 0} (good : Status) (bytes : List ℕ) (sinks : SinkView S) (out out_after : S) (how : Status) : Type 0 where
+  pub counts : SinkCounts good (sinks.faults out) (sinks.faults out_after) how
+  pub told : sinks.told out_after ≡ sinks.told out
+  pub prints : IsTrue (sinks.told out) → PrintsBy bytes (sinks.written out) (sinks.written out_after) how
+
+-- bytes that were made are printed so; where there was no memory to make them, nothing is printed
+pub record TellsMade {S E : Type 0} (good : Status) (made : Result (List ℕ) E) (sinks : SinkView S) (out out_after : S) (how : Status) : Type 0 where
+  pub printed : IfOk made (λ bytes. Tells good bytes sinks out out_after how)
+  pub silent : IfErr made (λ _. (how ≡ status.Memory) × (out_after ≡ out))
+
+-- the status of a run that ends with a write or a put that didn't succeed
+abbrev pub write_status : WriteError → Status
+write_status write.Failed = status.WriteFault
+write_status write.Memory = status.Memory

@@ -1,0 +1,44 @@
+ghost use Rattle.std.specs.Prelude.{◌≡◌};
+ghost use Rattle.std.specs.Process.{exit_status};
+ghost use Rattle.keyman_words.specs.Status.{status_number};
+
+use std::process::ExitCode;
+
+/// How a run ended.
+#[derive(Clone, Copy, Debug, PartialEq, Eq)]
+pub enum Status {
+    Done,
+    /// A named rule was broken, or a file isn't exported, and the line of that was printed.
+    Refused,
+    /// The words are no command, or not the names of two files.
+    Words,
+    ReadFault,
+    WriteFault,
+    Memory,
+    /// An expected text differed.
+    ExpectFailed,
+}
+
+impl Status {
+    /// The exit status of the process.
+    pub fn number(self) -> u8
+        ensures { result ≡ status_number self }
+    {
+        match self {
+            Status::Done => 0,
+            Status::Refused => 1,
+            Status::Words => 2,
+            Status::ReadFault => 3,
+            Status::WriteFault => 4,
+            Status::Memory => 5,
+            Status::ExpectFailed => 6,
+        }
+    }
+
+    /// What the process ends with after a run that ended so.
+    pub fn exit_code(self) -> ExitCode
+        ensures { exit_status result ≡ status_number self }
+    {
+        ExitCode::from(self.number())
+    }
+}

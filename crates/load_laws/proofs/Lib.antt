@@ -1,8 +1,0 @@
-pub mod LoadChecks
-pub mod LoadFiles
-pub mod LoadPlays
-pub mod LoadPrograms
-mod LoadRules
-pub mod LoadScripts
-mod LoadSteps
-mod LoadTexts

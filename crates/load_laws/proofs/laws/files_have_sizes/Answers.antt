@@ -1,5 +1,0 @@
-use Rattle.load_laws.proofs.LoadFiles.{files_have_sizes}
-use Rattle.load_laws.proofs.laws.files_have_sizes.Goals as goal
-
-pub returns : goal.returns
-returns c = files_have_sizes

@@ -1,5 +1,0 @@
-use Rattle.load_laws.proofs.LoadPlays.{files_play}
-use Rattle.load_laws.proofs.laws.files_play.Goals as goal
-
-pub returns : goal.returns
-returns c = files_play

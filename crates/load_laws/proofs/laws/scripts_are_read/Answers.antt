@@ -1,5 +1,0 @@
-use Rattle.load_laws.proofs.LoadScripts.{scripts_are_read}
-use Rattle.load_laws.proofs.laws.scripts_are_read.Goals as goal
-
-pub returns : goal.returns
-returns c = scripts_are_read

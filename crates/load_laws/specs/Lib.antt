@@ -1,5 +1,0 @@
-pub mod Files
-pub mod Keyboards
-pub mod Plays
-pub mod Programs
-pub mod Scripts

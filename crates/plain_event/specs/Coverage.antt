@@ -1,0 +1,47 @@
+-- How often each line of a record was chosen.
+use Rattle.std.specs.Prelude.{ℕ, ◌+◌, ◌-◌, ◌^◌, ◌↔◌, min, nat_eq, List, map, flat_map}
+use Rattle.std.specs.List.{Contains, count_by}
+use Rattle.std.specs.List.Sorted.{IsStrictlyIncreasing}
+use Rattle.rule_model.specs.declared.tables.Rule.{Rule}
+use Rattle.rule_model.specs.declared.tables.Group.{Group}
+use Rattle.rule_model.specs.declared.tables.Tables.{Tables}
+use Rattle.plain_event.specs.declared.coverage.Hit.{Hit}
+
+abbrev pub rule_lines : List Rule → List ℕ
+rule_lines rules = map (λ (rule : Rule). rule.line) rules
+
+-- the lines of the records of tables, group by group
+abbrev pub record_lines : Tables → List ℕ
+record_lines tables = flat_map (λ (group : Group). rule_lines group.rules) tables.groups
+
+abbrev pub hit_lines : List Hit → List ℕ
+hit_lines hits = map (λ (hit : Hit). hit.line) hits
+
+-- hits rise, and a line has one exactly where a record has that line
+pub record AreLinesOf (tables : Tables) (hits : List Hit) : Type 0 where
+  pub rising : IsStrictlyIncreasing (hit_lines hits)
+  pub lines : (line : ℕ) → Contains (hit_lines hits) line ↔ Contains (record_lines tables) line
+
+-- a line that wasn't chosen yet
+abbrev pub not_chosen : ℕ → Hit
+not_chosen line = record { line = line; count = 0 }
+
+-- how often a line stands in a list
+abbrev pub times : ℕ → List ℕ → ℕ
+times line lines = count_by (nat_eq line) lines
+
+-- a count and so many more, which stays at the end of its type
+abbrev pub more : ℕ → ℕ → ℕ
+more count n = count + min n (2 ^ 32 - 1 - count)
+
+-- a hit with one more
+abbrev pub once_more : Hit → Hit
+once_more hit = record hit { count = more hit.count 1 }
+
+-- a hit and how often its line stands in a list
+abbrev pub with_times : List ℕ → Hit → Hit
+with_times lines hit = record hit { count = more hit.count (times hit.line lines) }
+
+-- hits, each with how often its line stands in a list
+unfoldable pub with_lines : List ℕ → List Hit → List Hit
+with_lines lines hits = map (with_times lines) hits

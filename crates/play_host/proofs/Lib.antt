@@ -1,4 +1,0 @@
-pub mod EntryLaws
-pub mod FieldLaws
-pub mod Fields
-pub mod Pieces

@@ -1,6 +1,0 @@
-pub mod EachEntry
-pub mod Fields
-pub mod HostCalls
-pub mod HostPieces
-pub mod HostText
-pub mod Playing
