@@ -5,7 +5,7 @@
 //! text of each field, does one event after the other, and tells what a key would do.
 #![tactic(auto)]
 
-ghost use Rattle.std.specs.Prelude.{◌≡◌, IfOk, encode_utf8_all};
+ghost use Rattle.std.specs.Prelude.{◌≡◌, ◌++◌, OnOk, encode_utf8_all};
 ghost use Rattle.std.specs.String.{string_bytes};
 
 use kmn_base::limits::FILE_BYTES;
@@ -32,15 +32,14 @@ enum TypingError {
     Memory(#[from] Memory),
 }
 
-/// A text as UTF-8.
-fn utf8(alloc: Global, text: &[char]) -> Result<String, Memory>
-    ensures { IfOk result (λ utf8. string_bytes utf8 ≡ encode_utf8_all text.now) }
+/// Appends a text as UTF-8.
+fn put_text(out: &mut String, text: &[char]) -> Result<(), Memory>
+    ensures { OnOk result (string_bytes out.new ≡ string_bytes out.old ++ encode_utf8_all text.now) }
 {
-    let mut utf8 = String::new(alloc);
     for c in text {
-        utf8.push(*c)?;
+        out.push(*c)?;
     }
-    Ok(utf8)
+    Ok(())
 }
 
 /// Types keys in a field of a form. A key that the keyboard passes on is the application's own.
@@ -54,59 +53,56 @@ fn type_in(alloc: Global, form: &mut Host, field: u32, keys: &[&str]) -> Result<
 }
 
 /// Appends a cap behind a blank.
-fn put_cap(caps: &mut String, cap: &[char]) -> Result<(), Memory> {
-    caps.push(' ')?;
-    for c in cap {
-        caps.push(*c)?;
-    }
-    Ok(())
+fn put_cap(out: &mut String, cap: &[char]) -> Result<(), Memory> {
+    put_text(out, &[' '])?;
+    put_text(out, cap)
 }
 
-/// The caps of an on-screen keyboard while a field has the focus: what each key would put there now.
-fn caps(alloc: Global, form: &Host, field: u32, keys: &[&str]) -> Result<String, TypingError> {
-    let mut caps = utf8(alloc, &['c', 'a', 'p', 's'])?;
+/// Appends a line with the caps of an on-screen keyboard while a field has the focus: what each key would put there now.
+fn put_caps(
+    alloc: Global,
+    out: &mut String,
+    form: &Host,
+    field: u32,
+    keys: &[&str],
+) -> Result<(), TypingError> {
+    put_text(out, &['c', 'a', 'p', 's'])?;
     for key in keys {
         if let Some(code) = key_named(key.as_bytes()) {
             let preview = form.preview(alloc, field, KeyPress { code, mods: 0 })?;
-            put_cap(&mut caps, preview.inserted.as_slice())?;
+            put_cap(out, preview.inserted.as_slice())?;
         }
     }
-    Ok(caps)
+    Ok(put_text(out, &['\n'])?)
 }
 
-/// What stands before the caret of a field.
-fn text_of(alloc: Global, form: &Host, field: u32) -> Result<String, TypingError> {
-    match form.field(field) {
-        Some(session) => Ok(utf8(alloc, session.editor().left())?),
-        None => Err(TypingError::Field(HostError::NoField)),
-    }
+/// Appends a line with what stands before the caret of a field.
+fn put_field(out: &mut String, form: &Host, field: u32) -> Result<(), TypingError> {
+    let session = form.field(field).ok_or(HostError::NoField)?;
+    put_text(out, session.editor().left())?;
+    Ok(put_text(out, &['\n'])?)
 }
 
-/// The caps in both fields and the texts of both, each in a line.
-fn shown(alloc: Global, caps: [&str; 2], texts: [&str; 2]) -> Result<String, Memory> {
-    Ok(format!(in alloc; "{}\n{}\n{}\n{}", caps[0], caps[1], texts[0], texts[1])?)
-}
-
-/// Types in the two fields of a form: an accent in the first one, of which the caps there tell, and then a vowel in each.
-fn filled(alloc: Global, form: &mut Host) -> Result<String, TypingError> {
+/// Types in the two fields of a form, an accent in the first one and then a vowel in each, and appends the caps in both before the
+/// vowels and the texts of both in the end.
+fn fill(alloc: Global, form: &mut Host, out: &mut String) -> Result<(), TypingError> {
     let name = form.add(alloc)?;
     let town = form.add(alloc)?;
     type_in(alloc, form, name, &["K_QUOTE"])?;
-    let name_caps = caps(alloc, form, name, &["K_A", "K_E", "K_X"])?;
-    let town_caps = caps(alloc, form, town, &["K_A", "K_E", "K_X"])?;
+    put_caps(alloc, out, form, name, &["K_A", "K_E", "K_X"])?;
+    put_caps(alloc, out, form, town, &["K_A", "K_E", "K_X"])?;
     type_in(alloc, form, town, &["K_A"])?;
     type_in(alloc, form, name, &["K_A", "K_X"])?;
-    let name_text = text_of(alloc, form, name)?;
-    let town_text = text_of(alloc, form, town)?;
-    let caps = [name_caps.as_str(), town_caps.as_str()];
-    Ok(shown(alloc, caps, [name_text.as_str(), town_text.as_str()])?)
+    put_field(out, form, name)?;
+    put_field(out, form, town)
 }
 
 /// What a form tells on the keyboard of a file.
 fn typed(alloc: Global, file: &[u8]) -> Result<String, TypingError> {
+    let mut out = String::new(alloc);
     let keyboard = verify(alloc, file)?;
-    let mut form = Host::over(alloc, &keyboard);
-    filled(alloc, &mut form)
+    fill(alloc, &mut Host::over(alloc, &keyboard), &mut out)?;
+    Ok(out)
 }
 
 /// Types on the keyboard in the current folder.
@@ -117,7 +113,7 @@ fn typed_here(rt: &(impl Files + Alloc<A = Global>)) -> Result<String, TypingErr
 
 fn main(rt: HostRuntime) -> io::Result<()> {
     match typed_here(&rt) {
-        Ok(text) => println!(rt; "{text}"),
+        Ok(text) => print!(rt; "{text}"),
         Err(error) => println!(rt; "{error}"),
     }
 }
