@@ -1,12 +1,14 @@
-//! What several tests take: the first lines of a keyboard, the file of one rule, a text that gets a line more, and tables of
-//! one group.
+//! What several tests take: the first lines of a keyboard, the file of a source and that of one rule, a text that gets a line more,
+//! and tables of one group.
 
 ghost use Rattle.std.specs.Prelude.{◌≡◌, ◌∷◌, ◌++◌, [], IfOk};
 ghost use Rattle.kmx_format.specs.WorkedFiles.{main_tables};
 
 use kmn_base::{Memory, Seq, Text};
+use kmn_compiler::compile;
 use rule_model::{Group, Rule, Store, Tables};
 use std::alloc::{AllocError, Global};
+use std::test::Fail;
 
 /// The two lines of a keyboard with the group `main`, which uses keys.
 pub const KEYBOARD: &str = "begin Unicode > use(main)\ngroup(main) using keys\n";
@@ -20,6 +22,11 @@ pub const ONE_RULE: [u8; 122] = [
     0, 0, 0, 1, 0, 0, 0, 0x61, 0, 0, 0, 3, 0, 0, 0, 0, 0, 0, 0, 0x76, 0, 0, 0, 0, 0, 0, 0, 0x6D, 0,
     0x61, 0, 0x69, 0, 0x6E, 0, 0, 0, 0x62, 0, 0, 0,
 ];
+
+/// The file of a source.
+pub fn compiled(alloc: Global, source: &str) -> Result<Seq<u8>, Fail> {
+    Ok(compile(alloc, source.as_bytes(), &[])?.bytes)
+}
 
 /// A text with a line behind it.
 pub fn with_line(alloc: Global, text: &[u8], line: &[u8]) -> Result<Vec<u8>, AllocError>

@@ -5,7 +5,7 @@
 //! They stand here because a crate with tests is proved twice, once with them and once without: so each of those crates is
 //! proved once, and the tests are proved over them, beside those of `source_tests`. `rows` has the sources of rows, `sources`
 //! the tables of small ones, and `fixtures` what the tests of compiling take: the tests of files, sessions and runs take of it
-//! the file of one rule, and `file_tests` and `meaning_tests` the tables of one group.
+//! the file of one rule or of a source, and `file_tests` and `engine_tests` the tables of one group.
 #![tactic(auto)]
 
 #[cfg(test)]

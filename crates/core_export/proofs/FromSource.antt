@@ -12,9 +12,9 @@ use Rattle.rule_model.specs.declared.tables.Tables.{Tables}
 use Rattle.kmn_parser.specs.ProgramLaws.{IsName, IsReadGroup, IsReadProgram}
 use Rattle.kmn_parser.proofs.ReadPrograms.{programs_are_read}
 use Rattle.kmx_format.specs.FileUnits.{name_units}
-use Rattle.compile_laws.specs.Compiles.{file_group}
-use Rattle.compile_laws.specs.Numbers.{numbers_of}
-use Rattle.compile_laws.specs.Ordered.{ordered_group, compiled_tables}
+use Rattle.kmx_format.specs.Compiles.{file_group}
+use Rattle.kmx_format.specs.Numbers.{numbers_of}
+use Rattle.kmx_format.specs.Ordered.{ordered_group, compiled_tables}
 use Rattle.kmn_compiler.specs.Source.{IsCompiledFrom}
 use Rattle.rule_checker.proofs.Sources.{accepted_parts}
 use Rattle.core_export.specs.Export.{zero_unit}

@@ -15,8 +15,8 @@ use Rattle.kmn_base.specs.declared.keys.KeyPress.{KeyPress}
 use Rattle.kmn_base.specs.declared.events.Event.{Event}
 use Rattle.kmn_base.specs.declared.events.Event.TheVariants as event
 use Rattle.kmn_base.specs.Lists.{put, without_last}
-use Rattle.virtual_keys.specs.Fits.{char_of_press}
-use Rattle.virtual_keys.specs.Dictionary.{name_chars, name_in}
+use Rattle.rule_model.specs.Fits.{char_of_press}
+use Rattle.rule_model.specs.Dictionary.{name_chars, name_in}
 use Rattle.rule_model.specs.declared.event_state.Caught.{Caught}
 use Rattle.rule_model.specs.declared.event_state.EventState.{EventState}
 use Rattle.rule_model.specs.declared.tables.Out.{Out}

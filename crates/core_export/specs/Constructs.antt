@@ -3,7 +3,7 @@ use Rattle.std.specs.Prelude.{ℕ, ◌-◌, Bool, true, false, not, ◌&&◌, �
 use Rattle.std.specs.List.{list_any}
 use Rattle.kmn_base.specs.declared.keys.RuleKey.{RuleKey}
 use Rattle.kmn_base.specs.declared.keys.RuleKey.TheVariants as key
-use Rattle.virtual_keys.specs.Fits.{has, has_either, left_control, right_control, either_control, left_alt, right_alt, either_alt}
+use Rattle.rule_model.specs.Fits.{has, has_either, left_control, right_control, either_control, left_alt, right_alt, either_alt}
 use Rattle.rule_model.specs.Patterns.{is_condition, is_nul}
 use Rattle.rule_model.specs.declared.tables.Pat.{Pat}
 use Rattle.rule_model.specs.declared.tables.Pat.TheVariants as pattern

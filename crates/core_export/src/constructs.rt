@@ -11,8 +11,7 @@ use kmn_base::keys::{
     EITHER_ALT, EITHER_CONTROL, LEFT_ALT, LEFT_CONTROL, RIGHT_ALT, RIGHT_CONTROL,
 };
 use kmn_base::slices::{before, behind};
-use rule_model::{Group, Out, Pat, Rule};
-use virtual_keys::{has, has_either};
+use rule_model::{Group, Out, Pat, Rule, has, has_either};
 
 /// How many units that engine keeps of what stands before the caret.
 const KEPT_UNITS: usize = 63;

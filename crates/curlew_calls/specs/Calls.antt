@@ -5,8 +5,8 @@ use Rattle.std.specs.Option.{option_or}
 use Rattle.kmn_base.specs.declared.events.Event.{Event}
 use Rattle.kmn_base.specs.declared.events.Event.TheVariants as event
 use Rattle.kmn_base.specs.Lists.{characters}
-use Rattle.virtual_keys.specs.Dictionary.{code_in}
-use Rattle.virtual_keys.specs.Keys.{key_code}
+use Rattle.rule_model.specs.Dictionary.{code_in}
+use Rattle.rule_model.specs.Keys.{key_code}
 use Rattle.rule_model.specs.declared.tables.Tables.{Tables}
 use Rattle.rule_model.specs.Event.{State, Happening, event_refusal, has_name}
 use Rattle.rule_model.specs.Tab.{tab}

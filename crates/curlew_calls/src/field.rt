@@ -6,7 +6,7 @@ ghost use Rattle.kmn_base.specs.declared.limits.TheConstants.{TEXT_CHARS};
 ghost use Rattle.kmn_base.specs.Lists.{characters, window};
 ghost use Rattle.kmx_format.specs.TablesOf.{tables_of};
 ghost use Rattle.kmx_verifier.specs.FaultOf.{fault_of, IsRefusal};
-ghost use Rattle.virtual_keys.specs.Keys.{key_code};
+ghost use Rattle.rule_model.specs.Keys.{key_code};
 ghost use Rattle.rule_model.specs.Event.{event_refusal};
 ghost use Rattle.rule_model.specs.Plain.{option_numbers};
 ghost use Rattle.rule_model.specs.Tab.{tab};
@@ -23,9 +23,9 @@ use kmn_base::names::same_name;
 use kmn_base::{Event, KeyPress, Memory, Seq};
 use kmx_verifier::{VerifyError, verify};
 use play_session::{Change, Session};
+use rule_model::key_named;
 use std::alloc::Global;
 use std::marker::Model;
-use virtual_keys::key_named;
 
 /// What a press told.
 #[repr(C)]

@@ -1,7 +1,7 @@
 //! The exports that press keys, and tell what keys do and which codes they have.
 
 ghost use Rattle.std.specs.Prelude.{◌≡◌, length, [], None, Some, unwrap_or, encode_utf8_all, MatchOption};
-ghost use Rattle.virtual_keys.specs.Keys.{key_code};
+ghost use Rattle.rule_model.specs.Keys.{key_code};
 ghost use Rattle.rule_model.specs.Event.{event_refusal};
 ghost use Rattle.play_session.specs.Session.{happened, after_step};
 ghost use Rattle.curlew_calls.specs.Numbers.{written};

@@ -1,7 +1,7 @@
 -- How many stores stand in front of those of a file.
 use Rattle.std.proofs.Common.{◌≡◌, ℕ, zero, suc, true, false, nat_eq, nat_lt, if◌then◌else◌, List, [], ◌∷◌, length, refl, arith}
 use Rattle.std.proofs.lemmas.Bool.Decides.{nat_tests}
-use Rattle.decompile_laws.specs.Back.{mark_store, key_store}
+use Rattle.decompile_program.specs.Back.{mark_store, key_store}
 
 some : (n : ℕ) → nat_lt 0 (suc n) ≡ true
 some n = grind (arith, nat_tests)

@@ -3,8 +3,8 @@ use Rattle.std.proofs.Common.{◌≡◌, ℕ, List, [], length, refl, ap, ◌∙
 use Rattle.std.specs.Prelude.{unwrap_or, slice_get}
 use Rattle.rule_model.specs.declared.tables.Tables.{Tables}
 use Rattle.rule_model.specs.Tab.{tab_dictionary}
-use Rattle.decompile_laws.specs.Marks.{greatest_mark}
-use Rattle.decompile_laws.specs.Back.{free_stores, mark_stores}
+use Rattle.decompile_program.specs.Marks.{greatest_mark}
+use Rattle.decompile_program.specs.Back.{free_stores, mark_stores}
 use Rattle.decompile_text.specs.declared.page.Page.{Page}
 use Rattle.decompile_text.specs.declared.writing.Front.{Front}
 use Rattle.decompile_text.specs.Pages.{with_text}

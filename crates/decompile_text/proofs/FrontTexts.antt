@@ -18,11 +18,11 @@ use Rattle.kmn_parser.specs.Statements.{store_pieces, begin_pieces}
 use Rattle.kmn_parser.specs.Programs.{program_text, group_lines}
 use Rattle.kmn_parser.proofs.Stores.{chars-back}
 use Rattle.kmn_parser.proofs.Lengths.{sheet_append}
-use Rattle.decompile_laws.specs.Items.{Names, group_called}
-use Rattle.decompile_laws.specs.Marks.{greatest_mark}
-use Rattle.decompile_laws.specs.Names.{named_stores}
+use Rattle.decompile_program.specs.Items.{Names, group_called}
+use Rattle.decompile_program.specs.Marks.{greatest_mark}
+use Rattle.decompile_program.specs.Names.{named_stores}
 use Rattle.kmx_format.specs.Versions.{version_text}
-use Rattle.decompile_laws.specs.Back.{back, names_for, numbered, version_store, key_store, mark_stores, key_stores, front_stores, free_stores, back_stores, written_stores, written_begins, written_groups}
+use Rattle.decompile_program.specs.Back.{back, names_for, numbered, version_store, key_store, mark_stores, key_stores, front_stores, free_stores, back_stores, written_stores, written_begins, written_groups}
 use Rattle.decompile_text.specs.Texts.{call_text, version_line, marks_text, mark_line, keys_line, key_line, stores_text, begin_text, begins_text, groups_text}
 use Rattle.decompile_text.specs.Whole.{front_text, tables_text}
 use Rattle.decompile_text.proofs.LineTexts.{printed_marks, printed_keys}

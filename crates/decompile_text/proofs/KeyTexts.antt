@@ -2,14 +2,14 @@
 use Rattle.std.proofs.Common.{◌≡◌, ℕ, Bool, true, false, not, nat_eq, nat_lt, if◌then◌else◌, List, [], ◌∷◌, ◌++◌, Option, Some, map, filter, refl, sym, ap, ◌∙◌, append_assoc, arith}
 use Rattle.std.specs.Prelude.{bit_and, bit_or, unwrap_or}
 use Rattle.std.proofs.lemmas.Bool.Decides.{nat_tests}
-use Rattle.virtual_keys.specs.Dictionary.{name_in}
-use Rattle.virtual_keys.specs.Keys.{key_codes, key_name, shift_flags}
+use Rattle.rule_model.specs.Dictionary.{name_in}
+use Rattle.rule_model.specs.Keys.{key_codes, key_name, shift_flags}
 use Rattle.rule_model.specs.declared.program.KeyName.{KeyName}
 use Rattle.kmn_items.specs.TokenTexts.{LineToken}
 use Rattle.kmn_parser.specs.Printed.{printed}
 use Rattle.kmn_parser.specs.Texts.{word, bracket_closing}
 use Rattle.kmn_parser.specs.Items.{spaced_words, key_text, key_pieces}
-use Rattle.decompile_laws.specs.Items.{Names}
+use Rattle.decompile_program.specs.Items.{Names}
 use Rattle.decompile_text.specs.Texts.{flags_text, virtual_text}
 
 row_step : (row : List ℕ × ℕ) (rows : List (List ℕ × ℕ)) (more : List (Option LineToken)) (tail : List ℕ) (unset : Bool)

@@ -3,7 +3,7 @@ use Rattle.std.proofs.Common.{◌≡◌, ℕ, ◌+◌, List, [], ◌∷◌, ◌+
 use Rattle.std.specs.Fmt.{decimal}
 use Rattle.kmn_base.specs.declared.items.Element.{Element}
 use Rattle.kmn_base.specs.declared.keys.RuleKey.TheVariants as key
-use Rattle.virtual_keys.specs.Keys.{shift_flags}
+use Rattle.rule_model.specs.Keys.{shift_flags}
 use Rattle.rule_model.specs.declared.program.SrcItem.{SrcItem}
 use Rattle.rule_model.specs.declared.program.SrcItem.TheVariants as source
 use Rattle.rule_model.specs.declared.program.RuleKind.TheVariants.{OnMatch, OnNoMatch}
@@ -17,8 +17,8 @@ use Rattle.kmn_parser.specs.Items.{item_pieces, key_pieces, spaced_items, joined
 use Rattle.kmn_parser.specs.Statements.{key_part}
 use Rattle.kmn_parser.specs.Programs.{rule_line}
 use Rattle.kmn_parser.proofs.Lengths.{printed_append}
-use Rattle.decompile_laws.specs.Items.{Names, back_element, back_pattern, back_output, back_key, key_called, some_items}
-use Rattle.decompile_laws.specs.Back.{back_rule, back_rules, back_statement}
+use Rattle.decompile_program.specs.Items.{Names, back_element, back_pattern, back_output, back_key, key_called, some_items}
+use Rattle.decompile_program.specs.Back.{back_rule, back_rules, back_statement}
 use Rattle.decompile_text.specs.Texts.{element_text, elements_text, pattern_text, context_text, output_text, outputs_text, some_outputs_text, key_text, virtual_text, rule_text, rules_text, statement_text, marks_text, keys_line}
 
 -- the elements of a store

@@ -7,7 +7,7 @@ use Rattle.rule_model.specs.declared.tables.Out.{Out}
 use Rattle.rule_model.specs.declared.tables.Rule.{Rule}
 use Rattle.rule_model.specs.declared.tables.Store.{Store}
 use Rattle.rule_model.specs.declared.tables.Group.{Group}
-use Rattle.decompile_laws.specs.Items.{Names, group_called}
+use Rattle.decompile_program.specs.Items.{Names, group_called}
 use Rattle.decompile_text.specs.declared.page.Page.{Page}
 use Rattle.decompile_text.specs.Pages.{with_text}
 use Rattle.decompile_text.specs.Texts.{flag_text, flags_text, element_text, elements_text, pattern_text, context_text, output_text, outputs_text, rule_text, rules_text, group_text, groups_text, if_called, stores_text, keys_line}

@@ -6,9 +6,9 @@ use Rattle.std.proofs.lemmas.Bool.Decides.{nat_tests}
 use Rattle.rule_model.specs.declared.tables.Store.{Store}
 use Rattle.kmn_parser.specs.Printed.{printed, sheet}
 use Rattle.kmn_parser.specs.Statements.{store_pieces, system_name}
-use Rattle.decompile_laws.specs.Items.{Names, back_element}
-use Rattle.decompile_laws.specs.Names.{is_written, written_ids, keeps_store_name, store_names}
-use Rattle.decompile_laws.specs.Back.{back_stores}
+use Rattle.decompile_program.specs.Items.{Names, back_element}
+use Rattle.decompile_program.specs.Names.{is_written, written_ids, keeps_store_name, store_names}
+use Rattle.decompile_program.specs.Back.{back_stores}
 use Rattle.decompile_text.specs.Texts.{elements_text, store_text, stores_text, if_called}
 use Rattle.decompile_text.proofs.LineTexts.{printed_elements}
 use Rattle.decompile_text.proofs.WholeTexts.{first_left, one_less}

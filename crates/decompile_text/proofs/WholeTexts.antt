@@ -11,8 +11,8 @@ use Rattle.kmn_parser.specs.Printed.{printed, sheet}
 use Rattle.kmn_parser.specs.Statements.{group_pieces}
 use Rattle.kmn_parser.specs.Programs.{rule_line, group_lines}
 use Rattle.kmn_parser.proofs.Lengths.{sheet_append}
-use Rattle.decompile_laws.specs.Items.{Names, group_called}
-use Rattle.decompile_laws.specs.Back.{back_rules, back_statement, back_group, back_groups, match_line, nomatch_line}
+use Rattle.decompile_program.specs.Items.{Names, group_called}
+use Rattle.decompile_program.specs.Back.{back_rules, back_statement, back_group, back_groups, match_line, nomatch_line}
 use Rattle.decompile_text.specs.Texts.{rules_text, statement_text, group_text, groups_text, call_text}
 use Rattle.decompile_text.proofs.LineTexts.{printed_rules, printed_match, printed_nomatch}
 

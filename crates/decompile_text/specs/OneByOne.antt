@@ -6,7 +6,7 @@ use Rattle.rule_model.specs.declared.tables.Out.{Out}
 use Rattle.rule_model.specs.declared.tables.Rule.{Rule}
 use Rattle.rule_model.specs.declared.tables.Store.{Store}
 use Rattle.rule_model.specs.declared.tables.Group.{Group}
-use Rattle.decompile_laws.specs.Items.{Names, group_called}
+use Rattle.decompile_program.specs.Items.{Names, group_called}
 use Rattle.decompile_text.specs.declared.page.Page.{Page}
 use Rattle.decompile_text.specs.Pages.{with_text}
 use Rattle.decompile_text.specs.Texts.{flag_text, element_text, pattern_text, output_text, rule_text, group_text, if_called}

@@ -15,7 +15,7 @@ use Rattle.kmn_parser.specs.Printed.{printed}
 use Rattle.kmn_parser.specs.Items.{item_pieces, key_pieces, value_token}
 use Rattle.kmn_parser.specs.Statements.{key_part, system_name}
 use Rattle.kmx_format.specs.Versions.{version_text}
-use Rattle.decompile_laws.specs.Items.{Names, group_called, key_called, back_element, back_pattern, back_output, back_key}
+use Rattle.decompile_program.specs.Items.{Names, group_called, key_called, back_element, back_pattern, back_output, back_key}
 
 -- the characters of a value in the quotes that they have not
 unfoldable pub quoted_text : List Element → List ℕ

@@ -2,8 +2,8 @@
 use Rattle.std.specs.Prelude.{◌≡◌, ℕ, List, [], ◌++◌, length, unwrap_or, slice_get}
 use Rattle.rule_model.specs.declared.tables.Tables.{Tables}
 use Rattle.rule_model.specs.Tab.{tab_dictionary}
-use Rattle.decompile_laws.specs.Marks.{greatest_mark}
-use Rattle.decompile_laws.specs.Back.{names_for, free_stores, mark_stores}
+use Rattle.decompile_program.specs.Marks.{greatest_mark}
+use Rattle.decompile_program.specs.Back.{names_for, free_stores, mark_stores}
 use Rattle.decompile_text.specs.declared.writing.Front.{Front}
 use Rattle.decompile_text.specs.Texts.{version_line, mark_line, key_line, stores_text, begins_text, groups_text}
 

@@ -8,7 +8,7 @@ ghost use Rattle.decompile_text.specs.Pages.{with_text};
 ghost use Rattle.decompile_text.specs.Texts.{quoted_text};
 
 use crate::page::Page;
-use decompile_names::has_character;
+use decompile_program::has_character;
 use indexed_tables::element_text;
 use kmn_base::{Element, Memory};
 

@@ -3,7 +3,7 @@
 ghost use Rattle.std.specs.Prelude.{◌≡◌, ◌++◌, ◌∷◌, [], map, bit_or, OnOk};
 ghost use Rattle.std.specs.Fmt.{decimal};
 ghost use Rattle.kmn_base.specs.declared.keys.TheConstants.{VIRTUAL_KEY};
-ghost use Rattle.virtual_keys.specs.Keys.{shift_flags};
+ghost use Rattle.rule_model.specs.Keys.{shift_flags};
 ghost use Rattle.kmn_parser.specs.Items.{option_name};
 ghost use Rattle.decompile_text.specs.Pages.{with_text};
 ghost use Rattle.decompile_text.specs.OneByOne.{with_flag_words};
@@ -11,12 +11,11 @@ ghost use Rattle.decompile_text.specs.Texts.{call_text, index_text, compared_tex
 
 use crate::characters::{put_character, put_quoted};
 use crate::page::Page;
-use decompile_names::Called;
+use decompile_program::Called;
 use kmn_base::keys::VIRTUAL_KEY;
 use kmn_base::{Element, Memory, RuleKey};
 use rule_model::system::PLATFORM;
-use rule_model::{Out, Pat};
-use virtual_keys::modifiers;
+use rule_model::{Out, Pat, modifiers};
 
 /// The name of a system option by its id, with its `&`.
 fn option_name(id: u32) -> &'static [u8]

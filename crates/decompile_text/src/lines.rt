@@ -9,7 +9,7 @@ ghost use Rattle.decompile_text.specs.Texts.{outputs_text, some_outputs_text, ru
 
 use crate::items::{put_call, put_element, put_key_part, put_output, put_pattern};
 use crate::page::Page;
-use decompile_names::Called;
+use decompile_program::Called;
 use kmn_base::{Element, Memory};
 use kmn_parser::system_store_name;
 use rule_model::system::NO_GROUP;

@@ -4,14 +4,14 @@ ghost use Rattle.std.specs.Prelude.{◌≡◌, ◌≤◌, ◌++◌, [], false, l
 ghost use Rattle.kmn_base.specs.declared.limits.TheConstants.{KEY_NAMES, TEXT_BYTES};
 ghost use Rattle.rule_model.specs.Tab.{tab_dictionary};
 ghost use Rattle.kmn_parser.specs.Programs.{program_text};
-ghost use Rattle.decompile_laws.specs.Back.{back, names_for, free_stores, mark_stores, key_stores};
+ghost use Rattle.decompile_program.specs.Back.{back, names_for, free_stores, mark_stores, key_stores};
 ghost use Rattle.decompile_text.specs.Pages.{with_text};
 ghost use Rattle.decompile_text.specs.Whole.{front_text, tables_text, IsFront};
 
 use crate::front::{put_key_store, put_mark_store, put_version};
 use crate::lines::{put_begins, put_groups, put_stores};
 use crate::page::Page;
-use decompile_names::{Called, greatest_mark, own_keys};
+use decompile_program::{Called, greatest_mark, own_keys};
 use indexed_tables::IndexedTables;
 use kmn_base::{Memory, Text};
 use rule_model::Tables;

@@ -1,10 +1,9 @@
 //! The lines of the rules that the events of a session choose.
 
-use crate::fixtures::key;
+use crate::events::event;
+use compile_tests::fixtures::compiled;
 use kmn_base::Memory;
 use kmx_verifier::verify;
-use meaning_tests::events::event;
-use meaning_tests::fixtures::compiled;
 use play_session::Session;
 use std::alloc::Global;
 use std::fmt::Write;
@@ -16,11 +15,13 @@ const KEYBOARD: &str = "begin Unicode > use(main)\nstore(o) '0'\ngroup(main) usi
     match > use(last)\ngroup(more)\n'x' > 'y' use(last)\ngroup(last)\n'y' > 'z'\ngroup(round)\n'x' > 'x' use(round)\n";
 
 /// On each line the steps of a session, each with the lines of the rules that it chooses, `-` where there are none. A refused
-/// step leaves those of the step before.
+/// step leaves those of the step before. A press whose rule enters a group that enters itself tells a line for each group that may
+/// be entered.
 const CASES: &str = "\
 K_A 4,11,13 ; K_E - ; K_A 4,11,13 ; @0 -
 K_D 6 ; K_D 5,13 ; K_D 6 ; -0,0,u - ; K_D 5,13
 K_S - ; o=1 - ; K_S 8 ; o=0 -
+K_R 7,15,15,15,15,15,15,15,15,15,15,15,15,15,15,15,15,15,15,15,15,15,15,15,15,15,15,15,15,15,15,15,15,15,15,15,15,15,15,15,15,15,15,15,15,15,15,15,15,15
 K_A 4,11,13 ; @9 4,11,13 ; x=1 -";
 
 /// The lines that a session tells.
@@ -80,31 +81,14 @@ fn wrong_in(alloc: Global, session: &Session) -> Result<Option<&'static str>, Fa
     Ok(None)
 }
 
-/// What is wrong with a session: the press that enters all groups, or a step of the cases.
-fn wrong_of(alloc: Global, session: &mut Session) -> Result<Option<&'static str>, Fail> {
-    if !tells_all(alloc, session)? {
-        return Ok(Some("K_R"));
-    }
-    wrong_in(alloc, session)
-}
-
-/// Whether a press whose rule enters a group that enters itself tells a line for each group that may be entered.
-fn tells_all(alloc: Global, session: &mut Session) -> Result<bool, Fail> {
-    let begins = session.chosen().is_empty();
-    session.step(alloc, &key(b"K_R"))?;
-    let mut lines = [15u32; 50];
-    lines[0] = 7;
-    Ok(begins && session.chosen() == lines.as_slice())
-}
-
-/// What is wrong with a session on a file's bytes.
+/// The first wrong step of the cases with a session on a file's bytes.
 fn wrong_in_file(alloc: Global, bytes: &[u8]) -> Result<Option<&'static str>, Fail> {
     let file = verify(alloc, bytes)?;
-    let mut session = Session::start(alloc, &file)?;
-    wrong_of(alloc, &mut session)
+    let session = Session::start(alloc, &file)?;
+    wrong_in(alloc, &session)
 }
 
-/// What is wrong with a session on that keyboard.
+/// The first wrong step of the cases with that keyboard.
 fn wrong_with_keyboard(alloc: Global) -> Result<Option<&'static str>, Fail> {
     let bytes = compiled(alloc, KEYBOARD)?;
     wrong_in_file(alloc, bytes.as_slice())

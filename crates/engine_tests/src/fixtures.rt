@@ -1,25 +1,20 @@
-//! What several tests take: a cache with a mark, and the event of a key.
+//! What several tests take: the press of a key, and its event.
 
-ghost use Rattle.std.specs.Prelude.{◌≡◌, ◌∷◌, [], IfOk, unwrap_or};
-ghost use Rattle.virtual_keys.specs.Keys.{key_code};
+ghost use Rattle.std.specs.Prelude.{◌≡◌, unwrap_or};
+ghost use Rattle.rule_model.specs.Keys.{key_code};
 ghost use Rattle.kmn_base.specs.declared.events.Event.TheVariants as event;
-ghost use Rattle.kmn_base.specs.declared.items.Item.TheVariants as item;
-ghost use Rattle.kmn_base.specs.declared.limits.TheConstants.{WINDOW_ITEMS};
 
-use event_text::Cache;
-use kmn_base::Item::{Char, Mark};
-use kmn_base::{Event, Memory};
-use meaning_tests::events::press;
-use std::alloc::Global;
+use kmn_base::{Event, KeyPress};
+use rule_model::key_named;
 
-/// A character and a mark at the end of the text before the caret.
-pub fn marked(alloc: Global) -> Result<Cache, Memory>
-    ensures { IfOk result (λ cache. cache ≡ record { items = item.Char 97 ∷ item.Mark 1 ∷ []; room = WINDOW_ITEMS }) }
+/// A press of the key of a name, without modifiers.
+pub fn press(name: &[u8]) -> KeyPress
+    ensures { result ≡ record { code = unwrap_or (key_code name.now) 0; mods = 0 } }
 {
-    let mut cache = Cache::with_room(alloc)?;
-    cache.put(Char('a'));
-    cache.put(Mark(1));
-    Ok(cache)
+    KeyPress {
+        code: key_named(name).unwrap_or(0),
+        mods: 0,
+    }
 }
 
 /// The press of the key of a name, without modifiers, as an event.

@@ -1,67 +1,26 @@
 //! Presses of keys on an engine, texts that it reads again, and the options that it finds by name.
 
-use kmn_base::{Item, Memory, Outcome, Seq};
+use crate::fixtures::press;
+use crate::keyboards::keyboard;
+use compile_tests::fixtures::compiled;
+use kmn_base::{Item, Memory, Outcome};
 use kmx_verifier::verify;
-use meaning_tests::events::{press, sign};
-use meaning_tests::fixtures::compiled;
 use rule_engine::Engine;
-use source_tests::fixtures::parted;
+use source_tests::fixtures::{parted, put_items};
 use std::alloc::Global;
 use std::fmt::Write;
 use std::test::Fail;
 
-/// On each line a keyboard's records, each with its context, a comma, its key and its output, and behind ` ⇒ ` its steps, parted
-/// by ` ; `. A step is a key, and how many characters it deletes, what it inserts, whether it is passed on, and the context
-/// then; or `=` and a text that is read again, and the context then. `*` is a mark.
+/// On each line the statements of a keyboard behind its first two lines, and behind ` ⇒ ` its steps, parted by ` ; `. A step is a
+/// key, and how many characters it deletes, what it inserts, whether it is passed on, and the context then; or `=` and a text
+/// that is read again, and the context then. `*` is a mark.
 const CASES: &str = "\
-a,c>y ,c>x ⇒ K_A 0 a 0 a ; K_C 1 y 0 y ; K_F5 0  1 y
-,`>* *,a>à ⇒ K_BKQUOTE 0  0 * ; K_A 0 à 0 à
-,`>* *,a>à ⇒ K_X 0 x 0 x ; K_BKQUOTE 0  0 x* ; = ; =x x ; K_A 0 a 0 xa
-,`>* ⇒ K_X 0 x 0 x ; K_BKQUOTE 0  0 x* ; =x x* ; =yx yx
-,s>\u{1F600} \u{1F600},a>\u{10FFFF} ⇒ K_S 0 \u{1F600} 0 \u{1F600} ; K_A 1 \u{10FFFF} 0 \u{10FFFF}
-a,b>ab ⇒ K_A 0 a 0 a ; K_B 0 b 0 ab";
-
-/// Appends the items of a context or an output.
-fn put_items(text: &mut String, items: &str) -> Result<(), Memory> {
-    for c in items.chars() {
-        if c == '*' {
-            text.push_str("dk(1) ")?;
-        } else {
-            write!(text, "U+{:04X} ", c as u32)?;
-        }
-    }
-    Ok(())
-}
-
-/// Appends the statement of a record.
-fn put_rule(text: &mut String, record: &str) -> Result<(), Memory> {
-    let (input, output) = record.split_once('>').unwrap_or((record, ""));
-    let (context, key) = input.split_once(',').unwrap_or(("", input));
-    put_items(text, context)?;
-    text.push_str("+ ")?;
-    put_items(text, key)?;
-    text.push_str("> ")?;
-    put_items(text, output)?;
-    text.push('\n')?;
-    Ok(())
-}
-
-/// The file of a keyboard of one group, which uses keys, with these records.
-fn keyboard(alloc: Global, records: &str) -> Result<Seq<u8>, Fail> {
-    let mut text = String::from_str(alloc, "begin Unicode > use(main)\ngroup(main) using keys\n")?;
-    for record in records.split(' ') {
-        put_rule(&mut text, record)?;
-    }
-    compiled(alloc, text.as_str())
-}
-
-/// Appends the context.
-fn show_context(text: &mut String, engine: &Engine) -> Result<(), Memory> {
-    for item in engine.context() {
-        text.push(sign(*item))?;
-    }
-    Ok(())
-}
+'a' + 'c' > 'y'¶+ 'c' > 'x' ⇒ K_A 0 a 0 a ; K_C 1 y 0 y ; K_F5 0  1 y
++ '`' > dk(1)¶dk(1) + 'a' > 'à' ⇒ K_BKQUOTE 0  0 * ; K_A 0 à 0 à
++ '`' > dk(1)¶dk(1) + 'a' > 'à' ⇒ K_X 0 x 0 x ; K_BKQUOTE 0  0 x* ; = ; =x x ; K_A 0 a 0 xa
++ '`' > dk(1) ⇒ K_X 0 x 0 x ; K_BKQUOTE 0  0 x* ; =x x* ; =yx yx
++ 's' > U+1F600¶U+1F600 + 'a' > U+10FFFF ⇒ K_S 0 \u{1F600} 0 \u{1F600} ; K_A 1 \u{10FFFF} 0 \u{10FFFF}
+'a' + 'b' > 'ab' ⇒ K_A 0 a 0 a ; K_B 0 b 0 ab";
 
 /// What a press did, as the table writes it.
 fn shown(alloc: Global, outcome: Outcome, engine: &Engine) -> Result<String, Memory> {
@@ -71,7 +30,7 @@ fn shown(alloc: Global, outcome: Outcome, engine: &Engine) -> Result<String, Mem
         text.push(*c)?;
     }
     write!(text, " {} ", u8::from(outcome.pass))?;
-    show_context(&mut text, engine)?;
+    put_items(&mut text, engine.context())?;
     Ok(text)
 }
 
@@ -86,7 +45,7 @@ fn read_again(
     *text = new.chars().collect(alloc)?;
     if text.len() < 0x1_0000_0000 {
         engine.sync(text.as_slice());
-        show_context(&mut line, engine)?;
+        put_items(&mut line, engine.context())?;
     }
     Ok(line)
 }
@@ -145,8 +104,8 @@ fn started(alloc: Global, bytes: &[u8]) -> Result<Engine<'_>, Fail> {
 
 /// The first step of a case that ends otherwise.
 fn wrong_in_case(alloc: Global, case: &'static str) -> Result<Option<&'static str>, Fail> {
-    let (records, steps) = parted(case)?;
-    let bytes = keyboard(alloc, records)?;
+    let (statements, steps) = parted(case)?;
+    let bytes = keyboard(alloc, statements)?;
     let mut engine = started(alloc, bytes.as_slice())?;
     wrong_step(alloc, &mut engine, steps)
 }

@@ -1,13 +1,12 @@
 //! Sessions with compiled keyboards, event by event.
 
-use crate::files::with_system_options;
+use crate::events::event;
 use crate::fixtures::key;
-use compile_tests::fixtures::ONE_RULE;
+use compile_tests::fixtures::{ONE_RULE, compiled};
 use kmn_base::{Element, Event, Item, KeyPress, Memory, Seq};
 use kmx_verifier::{Verified, verify};
-use meaning_tests::events::{event, put_items};
-use meaning_tests::fixtures::compiled;
 use play_session::{Change, Session, StepError};
+use source_tests::fixtures::put_items;
 use std::alloc::{AllocError, Global};
 use std::str;
 use std::test::Fail;
@@ -27,14 +26,14 @@ K_X x,x, ; K_BKQUOTE ,x*, ; -0,0,uu ,uux, ; @9 E1 ; -2,1, E1 ; -3,4, E1
 K_X x,x, ; K_BKQUOTE ,x*, ; -1,1,u ,x*,
 K_BKQUOTE ,*, ; K_Q à,à,";
 
-/// Keyboards that look at the layer and the platform in place of their first two stores, each with the steps of sessions.
-/// The second has an option that is called as the layer is.
+/// Keyboards that look at the layer and the platform, each with the steps of sessions. They have stores that are called so too, and
+/// the option `~layer` of the second gets the name `&layer`, which no source can give it.
 const ON_SYSTEM_OPTIONS: &[(&str, &str)] = &[
     (
         "store(layer) 'l'\nstore(platform) 'p'\nstore(o) '0'\nbegin Unicode > use(main)\ngroup(main) using keys\n\
-        if(layer = 's') + 'a' > 'x'\nif(platform = 'WEB') + 'a' > 'w'\nif(o = '1') + 'a' > 'o'\n+ 'a' > 'y'\n\
-        + 's' > set(layer = 's')\n+ 'd' > set(layer = 'default')\n+ 'e' > set(layer = '')\nif(layer != '') + 'f' > 'n'\n\
-        + 'o' > set(layer = 's') set(o = '1') save(o)\n+ 'r' > reset(o)\n",
+        if(&layer = 's') + 'a' > 'x'\nif(&platform = 'WEB') + 'a' > 'w'\nif(o = '1') + 'a' > 'o'\n+ 'a' > 'y'\n\
+        + 's' > set(&layer = 's')\n+ 'd' > set(&layer = 'default')\n+ 'e' > set(&layer = '')\nif(&layer != '') + 'f' > 'n'\n\
+        + 'o' > set(&layer = 's') set(o = '1') save(o)\n+ 'r' > reset(o)\n",
         "\
 K_A y,y, ; K_S ,y,&layers ; K_A x,yx, ; K_S ,yx, ; K_D ,yx,&layerdefault ; K_A y,yxy,
 K_F n,n, ; K_E ,n,&layer ; K_F f,nf, ; K_D ,nf,&layerdefault ; K_E ,nf,&layer
@@ -46,7 +45,7 @@ K_O ,,o1!o1&layers ; K_A x,x, ; K_D ,x,&layerdefault ; K_A o,xo, ; o=0 ,xo,o0!o0
     ),
     (
         "store(layer) 'l'\nstore(platform) 'p'\nstore(~layer) '0'\nbegin Unicode > use(main)\ngroup(main) using keys\n\
-        if(~layer = '1') + 'a' > 'o'\nif(layer = 'default') + 'a' > 'd'\n+ 'a' > 'y'\n+ 's' > set(layer = 's')\n",
+        if(~layer = '1') + 'a' > 'o'\nif(&layer = 'default') + 'a' > 'd'\n+ 'a' > 'y'\n+ 's' > set(&layer = 's')\n",
         "\
 K_A d,d, ; &layer=1 ,d,&layer1!&layer1 ; K_A o,do, ; &Layer=s ,do,&layers!&layers ; K_A d,dod, ; K_S ,dod,&layers ; K_A y,dody,",
     ),
@@ -114,12 +113,17 @@ fn shown(alloc: Global, session: &Session) -> Result<String, Memory> {
     Ok(text)
 }
 
+/// Whether a session tells this of its last step.
+fn tells(alloc: Global, session: &Session, wanted: &str) -> Result<bool, Fail> {
+    Ok(shown(alloc, session)?.as_str() == wanted)
+}
+
 /// Does one step; whether it shows what is wanted.
 fn shows(alloc: Global, session: &mut Session, step: &str) -> Result<bool, Fail> {
     let (word, wanted) = step.split_once(' ').unwrap_or((step, ""));
     let event = event(alloc, word)?;
     match session.step(alloc, &event) {
-        Ok(_) => Ok(shown(alloc, session)?.as_str() == wanted),
+        Ok(_) => tells(alloc, session, wanted),
         Err(StepError::Place) => Ok(wanted == "E1"),
         Err(StepError::Length) => Ok(wanted == "E2"),
         Err(error) => Err(error.into()),
@@ -221,10 +225,15 @@ fn events_of_every_kind(rt: HostRuntime) -> Result<(), Fail> {
     Ok(())
 }
 
-/// The file of a keyboard that looks at system options.
-fn on_system_options(alloc: Global, keyboard: &str) -> Result<Vec<u8>, Fail> {
-    let bytes = compiled(alloc, keyboard)?;
-    Ok(with_system_options(alloc, bytes.as_slice())?)
+/// The file of a keyboard with `&` for each `~`.
+fn with_ampersands(alloc: Global, keyboard: &str) -> Result<Seq<u8>, Fail> {
+    let mut bytes = compiled(alloc, keyboard)?;
+    for byte in bytes.as_mut_slice() {
+        if *byte == b'~' {
+            *byte = b'&';
+        }
+    }
+    Ok(bytes)
 }
 
 /// The first wrong step of cases with such a keyboard.
@@ -233,7 +242,7 @@ fn wrong_with_system_options(
     keyboard: &str,
     cases: &'static str,
 ) -> Result<Option<&'static str>, Fail> {
-    let bytes = on_system_options(alloc, keyboard)?;
+    let bytes = with_ampersands(alloc, keyboard)?;
     wrong_in_file(alloc, bytes.as_slice(), cases)
 }
 

@@ -1,5 +1,5 @@
 //! The tests of the crates that write and open files and of those below them: `codec` of `kmx_format`, `views` and
-//! `parts` of `kmx_parts`, `candidates` of `rule_index`, `writing` of `kmx_writer`, `verifying` of `kmx_verifier`, `sources` of
+//! `parts` of `kmx_parts`, `candidates` of `rule_index`, `writing` of `kmn_compiler`, `verifying` of `kmx_verifier`, `sources` of
 //! `kmx_decompiler`, which makes its texts by `decompile_text`, `layouts` of `touch_layout`, and `exporting` of `core_export`.
 //!
 //! They stand here because a crate with tests is proved twice, once with them and once without: so each of those crates is

@@ -1,7 +1,8 @@
 //! The sources of files, and why some have none.
 
 use crate::files::changed;
-use kmx_decompiler::decompile;
+use kmn_base::Seq;
+use kmx_decompiler::{DecompileError, decompile};
 use kmx_verifier::verify;
 use source_tests::fixtures::parted;
 use std::alloc::{AllocError, Global};
@@ -40,14 +41,18 @@ const TWO_TEXT: &str =
     "store(&version) \"10.0\"\nstore(s2) dk(1) dk(2)\nstore(k2) U+0069 U+0062\nbegin Unicode > use(main)\n\
     group(main) using keys\nnotany(k2) dk(1) dk(2) + U+0062 > U+0062 U+0062\n+ U+0062 > U+0062 U+0069\n";
 
+/// Appends a source, or why there is none.
+fn put_answer(out: &mut String, answer: Result<Seq<u8>, DecompileError>) -> Result<(), AllocError> {
+    match answer {
+        Ok(source) => out.push_str(str::from_utf8(source.as_slice()).unwrap_or("?")),
+        Err(error) => write!(out, "{error}"),
+    }
+}
+
 /// Appends the source of a valid file, or why it has none.
 fn write_source(alloc: Global, out: &mut String, bytes: &[u8]) -> Result<(), Fail> {
     let file = verify(alloc, bytes)?;
-    match decompile(alloc, &file) {
-        Ok(source) => out.push_str(str::from_utf8(source.as_slice()).unwrap_or("?"))?,
-        Err(error) => write!(out, "{error}")?,
-    }
-    Ok(())
+    Ok(put_answer(out, decompile(alloc, &file))?)
 }
 
 /// The source of the file that changes state, or why it has none.

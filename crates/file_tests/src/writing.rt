@@ -1,13 +1,14 @@
 //! The two worked files, each from its tables.
 
-ghost use Rattle.std.specs.Prelude.{◌≡◌, IfOk};
-ghost use Rattle.kmx_format.specs.WorkedFiles.{one_rule, two_keys};
+ghost use Rattle.std.specs.Prelude.{◌≡◌, ◌∷◌, [], IfOk};
+ghost use Rattle.kmn_base.specs.declared.keys.RuleKey.TheVariants as key;
+ghost use Rattle.kmx_format.specs.WorkedFiles.{one_rule, plain_rule, two_keys};
 
 use crate::fixtures::{TWO_KEYS, rule};
 use compile_tests::fixtures::{ONE_RULE, tables};
 use kmn_base::{Code, CompileError, Element, Memory, RuleKey, Seq, Text};
-use kmx_writer::write;
-use rule_model::{Store, Tables};
+use kmn_compiler::write;
+use rule_model::{Rule, Store, Tables};
 use std::alloc::Global;
 use std::test::Fail;
 
@@ -40,27 +41,37 @@ fn one_rule(alloc: Global) -> Result<Tables, Memory>
     tables(alloc, Seq::new(alloc), Seq::from_vec(vec![in alloc; rule]?))
 }
 
+fn store(alloc: Global, name: &[u8], elements: &[Element]) -> Result<Store, Memory>
+    ensures { IfOk result (λ store. store ≡ record { system = 0; name = name.now; elements = elements.now }) }
+{
+    Ok(Store {
+        system: 0,
+        name: Text::from_slice(alloc, name)?,
+        elements: Seq::from_slice(alloc, elements)?,
+    })
+}
+
+fn two_stores(alloc: Global) -> Result<Seq<Store>, Memory>
+    ensures { IfOk result (λ stores. stores ≡ two_keys.stores) }
+{
+    let keys = store(alloc, b"k", &KEYS)?;
+    let letters = store(alloc, b"o", &[Element::Char('x'), Element::Char('y')])?;
+    Ok(Seq::from_vec(vec![in alloc; keys, letters]?))
+}
+
+fn two_rules(alloc: Global) -> Result<Seq<Rule>, Memory>
+    ensures { IfOk result (λ rules. rules ≡ plain_rule 5 (key.Virtual 0x4000 0x41) 0x78 ∷ plain_rule 5 (key.Virtual 0x4010 0x41) 0x79 ∷ []) }
+{
+    let plain = rule(alloc, 5, PLAIN, 'x')?;
+    let shifted = rule(alloc, 5, SHIFTED, 'y')?;
+    Ok(Seq::from_vec(vec![in alloc; plain, shifted]?))
+}
+
 fn two_keys(alloc: Global) -> Result<Tables, Memory>
     ensures { IfOk result (λ tables. tables ≡ two_keys) }
 {
-    let first = Store {
-        system: 0,
-        name: Text::from_slice(alloc, b"k")?,
-        elements: Seq::from_slice(alloc, &KEYS)?,
-    };
-    let second = Store {
-        system: 0,
-        name: Text::from_slice(alloc, b"o")?,
-        elements: Seq::from_slice(alloc, &[Element::Char('x'), Element::Char('y')])?,
-    };
-    let plain = rule(alloc, 5, PLAIN, 'x')?;
-    let shifted = rule(alloc, 5, SHIFTED, 'y')?;
-    let stores = Seq::from_vec(vec![in alloc; first, second]?);
-    tables(
-        alloc,
-        stores,
-        Seq::from_vec(vec![in alloc; plain, shifted]?),
-    )
+    let stores = two_stores(alloc)?;
+    tables(alloc, stores, two_rules(alloc)?)
 }
 
 fn write_one_rule(alloc: Global, picture: &[u8]) -> Result<Seq<u8>, CompileError> {

@@ -4,3 +4,4 @@ pub mod OptionFlags
 pub mod PlatformWords
 pub mod SystemNumbers
 pub mod Words
+pub mod Sets

@@ -1,3 +1,4 @@
 pub mod OptionFlags
 pub mod OwnNames
 pub mod Words
+pub mod Numbers

@@ -24,7 +24,7 @@ use Rattle.kmn_names.specs.First.{or_else, broken, first_code, at_line, earlier,
 use Rattle.kmn_names.specs.Known.{Known, known, brought, statement_elements}
 use Rattle.kmn_names.specs.Names.{is_named}
 use Rattle.rule_model.specs.declared.system.TheConstants.{CASED_KEYS, MNEMONIC_LAYOUT, VERSION, BITMAP, LEFT_OUT}
-use Rattle.virtual_keys.specs.declared.dictionary.TheConstants.{FIRST_OWN_CODE}
+use Rattle.rule_model.specs.declared.dictionary.TheConstants.{FIRST_OWN_CODE}
 
 -- some rule uses the store of a name as an option
 abbrev pub is_option : Known → List ℕ → Bool

@@ -11,11 +11,11 @@ use Rattle.kmn_outside.specs.Outside.{Files, Rose, Writes}
 use Rattle.kmn_outside.specs.declared.traits.Call.{Call}
 use Rattle.kmn_outside.specs.declared.traits.WriteError.{WriteError}
 use Rattle.kmn_outside.specs.declared.traits.WriteError.TheVariants as write
-use Rattle.kmx_writer.specs.Excess.{excess}
+use Rattle.kmn_compiler.specs.Excess.{excess}
 use Rattle.rule_model.specs.declared.program.Program.{Program}
 use Rattle.rule_model.specs.declared.script.Entry.{Entry}
-use Rattle.compile_laws.specs.Means.{Means}
-use Rattle.compile_laws.specs.Ordered.{compiled_tables}
+use Rattle.kmx_format.specs.Means.{Means}
+use Rattle.kmx_format.specs.Ordered.{compiled_tables}
 use Rattle.rule_model.specs.Src.{src}
 use Rattle.rule_model.specs.Tab.{tab}
 use Rattle.rule_model.specs.Transcript.{events_of}

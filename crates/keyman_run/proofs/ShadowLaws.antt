@@ -3,8 +3,8 @@ use Rattle.std.proofs.Common.{◌≡◌, ℕ, List, Option, Some, None, Result, 
 use Rattle.std.specs.List.{All}
 use Rattle.kmn_outside.specs.Outside.{Files}
 use Rattle.rule_model.specs.declared.tables.Tables.{Tables}
-use Rattle.compile_laws.specs.Ordered.{compiled_tables}
-use Rattle.compile_laws.proofs.Ordered.{program_compiles}
+use Rattle.kmx_format.specs.Ordered.{compiled_tables}
+use Rattle.kmx_format.proofs.Ordered.{program_compiles}
 use Rattle.kmn_compiler.specs.declared.compiling.Compiled.{Compiled}
 use Rattle.kmn_compiler.proofs.Accepted.{IsAccepted}
 use Rattle.kmn_compiler.proofs.Checks.{checked_accepted}

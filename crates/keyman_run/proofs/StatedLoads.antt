@@ -8,9 +8,9 @@ use Rattle.kmn_base.specs.declared.events.Event.{Event}
 use Rattle.kmn_base.specs.declared.limits.TheConstants.{FILE_BYTES}
 use Rattle.kmn_base.specs.declared.refusals.Refusal.{Refusal}
 use Rattle.kmn_compiler.specs.declared.compiling.Compiled.{Compiled}
-use Rattle.compile_laws.specs.Ordered.{compiled_tables}
+use Rattle.kmx_format.specs.Ordered.{compiled_tables}
 use Rattle.kmx_format.specs.File.{all_rules}
-use Rattle.kmx_writer.specs.Excess.{excess}
+use Rattle.kmn_compiler.specs.Excess.{excess}
 use Rattle.rule_model.specs.Src.{src}
 use Rattle.rule_model.specs.Tab.{tab}
 use Rattle.rule_model.specs.Trace.{Trace, trace}

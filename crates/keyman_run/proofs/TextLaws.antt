@@ -11,9 +11,9 @@ use Rattle.kmx_verifier.specs.FaultOf.{fault_of, IsRefusal}
 use Rattle.kmx_verifier.proofs.Playing.{valid_playable}
 use Rattle.rule_model.specs.declared.tables.Tables.{Tables}
 use Rattle.kmn_parser.specs.Programs.{program_text}
-use Rattle.decompile_laws.specs.Back.{back}
-use Rattle.decompile_causes.specs.Unspelled.{unspelled}
-use Rattle.decompile_causes.proofs.Texts.{texts_compile}
+use Rattle.decompile_program.specs.Back.{back}
+use Rattle.kmx_decompiler.specs.Unspelled.{unspelled}
+use Rattle.kmx_decompiler.proofs.Texts.{texts_compile}
 use Rattle.keyman_run.specs.declared.preparing.Stop.{Stop}
 use Rattle.keyman_run.specs.declared.preparing.Stop.TheVariants as stop
 use Rattle.keyman_words.specs.declared.reason.Reason.{Reason}

@@ -14,19 +14,19 @@ use Rattle.rule_model.specs.Src.{src}
 use Rattle.rule_model.specs.Tab.{tab}
 use Rattle.rule_model.specs.Trace.{trace}
 use Rattle.rule_model.specs.Transcript.{events_of}
-use Rattle.compile_laws.specs.Ordered.{compiled_tables}
-use Rattle.compile_laws.proofs.Ordered.{program_compiles}
+use Rattle.kmx_format.specs.Ordered.{compiled_tables}
+use Rattle.kmx_format.proofs.Ordered.{program_compiles}
 use Rattle.rule_checker.specs.Refused.{checked}
 use Rattle.plain_event.specs.declared.coverage.Hit.{Hit}
 use Rattle.plain_event.specs.Coverage.{AreLinesOf}
 use Rattle.plain_event.proofs.Lines.{choice_kept}
-use Rattle.play_trace.proofs.KeyboardLines.{covers_other, same_lines_of_tables}
-use Rattle.play_trace.proofs.TraceLaws.{same_text}
-use Rattle.play_trace.specs.RisingLines.{lines_of_tables}
-use Rattle.play_trace.specs.TraceEnds.{trace_end}
-use Rattle.play_trace.specs.TraceText.{trace_text}
-use Rattle.play_trace.specs.declared.following.TraceEnd.{TraceEnd}
-use Rattle.play_trace.specs.declared.following.TraceEnd.TheVariants as followed
+use Rattle.play_transcript.proofs.KeyboardLines.{covers_other, same_lines_of_tables}
+use Rattle.play_transcript.proofs.TraceLaws.{same_text}
+use Rattle.play_transcript.specs.RisingLines.{lines_of_tables}
+use Rattle.play_transcript.specs.TraceEnds.{trace_end}
+use Rattle.play_transcript.specs.TraceText.{trace_text}
+use Rattle.play_transcript.specs.declared.following.TraceEnd.{TraceEnd}
+use Rattle.play_transcript.specs.declared.following.TraceEnd.TheVariants as followed
 use Rattle.play_transcript.specs.Printing.{Prints}
 use Rattle.kmx_format.specs.TablesOf.{tables_of}
 use Rattle.kmn_compiler.proofs.Checks.{checked_accepted, checked_steps}

@@ -16,10 +16,10 @@ use Rattle.keyman_run.specs.Asked.{Ask, write_of}
 use Rattle.play_transcript.specs.Ends.{play_end}
 use Rattle.play_transcript.specs.declared.playing.PlayEnd.{PlayEnd}
 use Rattle.play_transcript.specs.declared.playing.PlayEnd.TheVariants as ended
-use Rattle.play_trace.specs.TraceEnds.{trace_end}
-use Rattle.play_trace.specs.TraceText.{trace_text}
-use Rattle.play_trace.specs.declared.following.TraceEnd.{TraceEnd}
-use Rattle.play_trace.specs.declared.following.TraceEnd.TheVariants as followed
+use Rattle.play_transcript.specs.TraceEnds.{trace_end}
+use Rattle.play_transcript.specs.TraceText.{trace_text}
+use Rattle.play_transcript.specs.declared.following.TraceEnd.{TraceEnd}
+use Rattle.play_transcript.specs.declared.following.TraceEnd.TheVariants as followed
 use Rattle.shadow_text.specs.DeadLines.{dead_text}
 use Rattle.play_script.specs.declared.entries.HostEntry.{HostEntry}
 use Rattle.play_transcript.specs.HostText.{host_end, host_text}

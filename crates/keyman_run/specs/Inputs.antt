@@ -7,9 +7,9 @@ use Rattle.kmn_base.specs.declared.refusals.Refusal.{Refusal}
 use Rattle.rule_model.specs.declared.program.Program.{Program}
 use Rattle.rule_model.specs.declared.script.Entry.{Entry}
 use Rattle.rule_model.specs.declared.tables.Tables.{Tables}
-use Rattle.compile_laws.specs.Ordered.{compiled_tables}
+use Rattle.kmx_format.specs.Ordered.{compiled_tables}
 use Rattle.kmx_format.specs.File.{all_rules, file_of}
-use Rattle.kmx_writer.specs.Excess.{excess}
+use Rattle.kmn_compiler.specs.Excess.{excess}
 use Rattle.rule_checker.specs.Refused.{checked}
 use Rattle.kmn_compiler.specs.declared.compiling.Compiled.{Compiled}
 use Rattle.play_script.specs.Entries.{entries}
@@ -19,10 +19,10 @@ use Rattle.kmx_format.specs.TablesOf.{tables_of}
 use Rattle.kmx_verifier.specs.declared.faults.Fault.{Fault}
 use Rattle.kmx_verifier.specs.FaultOf.{fault_of}
 use Rattle.kmn_parser.specs.Programs.{program_text}
-use Rattle.decompile_laws.specs.Back.{back}
-use Rattle.decompile_causes.specs.Laws.{HasText}
-use Rattle.decompile_causes.specs.Unspelled.{unspelled}
-use Rattle.decompile_causes.specs.declared.no_spelling.NoSpelling.{NoSpelling}
+use Rattle.decompile_program.specs.Back.{back}
+use Rattle.kmx_decompiler.specs.Laws.{HasText}
+use Rattle.kmx_decompiler.specs.Unspelled.{unspelled}
+use Rattle.kmx_decompiler.specs.declared.no_spelling.NoSpelling.{NoSpelling}
 use Rattle.shadow_text.specs.declared.printing.TheConstants.{SHADOW_RECORDS}
 use Rattle.touch_layout.specs.Faults.{fault, whole_layout}
 use Rattle.touch_layout.specs.Layout.{key_count, layout_fault}

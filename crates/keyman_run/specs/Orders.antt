@@ -6,10 +6,10 @@ use Rattle.rule_model.specs.Tab.{tab}
 use Rattle.rule_model.specs.declared.program.Program.{Program}
 use Rattle.rule_model.specs.declared.script.Entry.{Entry}
 use Rattle.rule_model.specs.declared.tables.Tables.{Tables}
-use Rattle.compile_laws.specs.Ordered.{compiled_tables}
+use Rattle.kmx_format.specs.Ordered.{compiled_tables}
 use Rattle.kmn_compiler.specs.Picture.{picture_name}
 use Rattle.kmn_compiler.specs.declared.compiling.Compiled.{Compiled}
-use Rattle.play_trace.specs.RisingLines.{lines_of_tables}
+use Rattle.play_transcript.specs.RisingLines.{lines_of_tables}
 use Rattle.keyman_words.specs.Beside.{beside}
 use Rattle.keyman_words.specs.Command.{Request}
 use Rattle.keyman_words.specs.Command.Request.{Compile, Decompile, Host, Layout, Load, Play, Shadow, Test, Trace, Verify}

@@ -4,12 +4,12 @@ use Rattle.kmn_base.specs.declared.refusals.CompileError.{CompileError}
 use Rattle.kmn_outside.specs.Outside.{Files, Rose, SameFiles, SameOthers}
 use Rattle.rule_model.specs.Tab.{tab}
 use Rattle.rule_model.specs.declared.tables.Tables.{Tables}
-use Rattle.compile_laws.specs.Means.{Means}
-use Rattle.compile_laws.specs.Ordered.{compiled_tables}
+use Rattle.kmx_format.specs.Means.{Means}
+use Rattle.kmx_format.specs.Ordered.{compiled_tables}
 use Rattle.rule_checker.specs.Refused.{checked}
 use Rattle.kmn_compiler.specs.Source.{CompilesTo}
 use Rattle.kmn_compiler.specs.declared.compiling.Compiled.{Compiled}
-use Rattle.decompile_causes.specs.RoundTrips.{TakesStepsOf}
+use Rattle.kmx_decompiler.specs.RoundTrips.{TakesStepsOf}
 use Rattle.shadow_text.specs.DeadLines.{IsDeadLine, dead_lines}
 use Rattle.play_script.specs.declared.entries.HostEntry.{HostEntry}
 use Rattle.play_transcript.specs.Fields.{FieldsAreTraces}

@@ -17,11 +17,10 @@ use kmn_base::{Code, Seq};
 use kmn_outside::{Folder, Sink};
 use kmx_verifier::{Verified, verify};
 use play_script::{HostEntry, read_host};
-use play_session::Session;
+use play_session::{Host, Session};
 use play_transcript::play_host;
+use rule_model::KeyDictionary;
 use std::alloc::Global;
-use text_host::Host;
-use virtual_keys::KeyDictionary;
 
 /// Plays a script in the fields of a host over a compiled file.
 pub fn host_on_file<F: Folder, S: Sink>(

@@ -1,8 +1,8 @@
 //! A run: one command over a folder and a sink. Ten commands are built: `compile`, `decompile`, `verify`, `play`, `test`,
 //! `layout`, `load`, `trace`, `shadow` and `host`.
 //!
-//! It stands on the compiler, the verifier, the decompiler, the check of touch layouts, `play_transcript`, `play_trace` and
-//! `shadow_text`, on `keyman_words` for the command that words ask for, for the lines that are printed of reasons and endings and
+//! It stands on the compiler, the verifier, the decompiler, the check of touch layouts, `play_transcript` and `shadow_text`,
+//! on `keyman_words` for the command that words ask for, for the lines that are printed of reasons and endings and
 //! for how a run ends, on `load_maker` for `load`, and on `kmn_outside` for the folder and the sink. `specs/Orders` has the order of work of each command
 //! as a value: which file is read first, how it goes on by what came, and how it ends. `specs/Run` says once what a run of
 //! such work asks for, leaves and answers (`Does`); each command's contract is its row. The layer above calls `run`, whose clauses

@@ -25,9 +25,8 @@ use play_script::read_script;
 use play_session::Session;
 use play_transcript::refused_with;
 use rule_checker::Checked;
-use rule_model::Entry;
+use rule_model::{Entry, KeyDictionary};
 use std::alloc::{AllocError, Global};
-use virtual_keys::KeyDictionary;
 
 /// What a play comes to: the events that were done, the items that they put, and the length of the text in the end.
 #[derive(Clone, Copy)]

@@ -15,9 +15,8 @@ use load_maker::LoadError;
 use play_script::{ScriptError, read_script};
 use play_session::Session;
 use rule_checker::Checked;
-use rule_model::Entry;
+use rule_model::{Entry, KeyDictionary};
 use std::alloc::Global;
-use virtual_keys::KeyDictionary;
 
 /// Why a run stops before it writes.
 #[derive(Clone, Copy)]

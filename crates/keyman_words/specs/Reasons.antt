@@ -8,8 +8,8 @@ use Rattle.kmn_base.specs.declared.codes.Code.TheVariants.{G1, G2}
 use Rattle.kmx_verifier.specs.declared.faults.Fault.{Fault}
 use Rattle.rule_model.specs.Lines.{refusal_line}
 use Rattle.rule_model.specs.Transcript.{refused_event_line}
-use Rattle.decompile_causes.specs.declared.no_spelling.NoSpelling.{NoSpelling}
-use Rattle.decompile_causes.specs.Reasons.{reason_text}
+use Rattle.kmx_decompiler.specs.declared.no_spelling.NoSpelling.{NoSpelling}
+use Rattle.kmx_decompiler.specs.Reasons.{reason_text}
 use Rattle.touch_layout.specs.declared.faults.LayoutFault.{LayoutFault}
 use Rattle.keyman_words.specs.declared.reason.Reason.{Reason}
 use Rattle.keyman_words.specs.declared.reason.Reason.TheVariants as reason

@@ -2,7 +2,7 @@
 //! that it prints of a reason why work is refused and of work that comes to its end, and the status that it ends with.
 //!
 //! It stands on `kmn_outside` for the file of a name and for the sink, on `play_transcript`, which puts a line whole, and on
-//! the crates whose faults and results a line tells: `kmn_compiler`, `kmx_verifier`, `decompile_causes`, `play_script` and
+//! the crates whose faults and results a line tells: `kmn_compiler`, `kmx_verifier`, `kmx_decompiler`, `play_script` and
 //! `touch_layout`.
 //!
 //! A program calls `words` with what the system gave it, and takes what comes for the words behind its name. That they are

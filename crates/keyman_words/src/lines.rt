@@ -6,8 +6,8 @@ ghost use Rattle.keyman_words.specs.Reasons.{fault_line, named_code, number_line
 ghost use Rattle.rule_model.specs.Lines.{refusal_line};
 
 use crate::reason::Reason;
-use decompile_causes::NoSpelling;
 use kmn_base::{Code, Memory, Refusal, Seq, Text};
+use kmx_decompiler::NoSpelling;
 use kmx_verifier::Fault;
 use play_script::refused_event_line;
 use std::alloc::{AllocError, Global};

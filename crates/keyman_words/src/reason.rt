@@ -1,5 +1,5 @@
-use decompile_causes::NoSpelling;
 use kmn_base::{Code, Refusal};
+use kmx_decompiler::NoSpelling;
 use kmx_verifier::Fault;
 use touch_layout::LayoutFault;
 

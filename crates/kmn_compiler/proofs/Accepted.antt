@@ -24,14 +24,14 @@ use Rattle.rule_model.specs.Transcript.{transcript}
 use Rattle.kmx_format.specs.File.{file_of}
 use Rattle.kmx_format.specs.TablesOf.{tables_of, no_places}
 use Rattle.kmx_format.specs.Writable.{IsWritable, IsFile}
-use Rattle.kmx_writer.specs.Excess.{excess, IsExcess}
-use Rattle.compile_laws.specs.Compiles.{Compiles}
-use Rattle.compile_laws.specs.Law.{HasOwnLines}
-use Rattle.compile_laws.specs.Means.{Means}
-use Rattle.compile_laws.specs.Ordered.{compiled_tables}
-use Rattle.compile_laws.specs.WellNamed.{IsWellNamed, is_known_group, is_known_rule}
-use Rattle.compile_laws.proofs.Ordered.{tables_are_only_ones, program_compiles}
-use Rattle.compile_laws.proofs.Whole.{meaning_kept, transcript_kept}
+use Rattle.kmn_compiler.specs.Excess.{excess, IsExcess}
+use Rattle.kmx_format.specs.Compiles.{Compiles}
+use Rattle.kmx_format.specs.Law.{HasOwnLines}
+use Rattle.kmx_format.specs.Means.{Means}
+use Rattle.kmx_format.specs.Ordered.{compiled_tables}
+use Rattle.kmx_format.specs.WellNamed.{IsWellNamed, is_known_group, is_known_rule}
+use Rattle.kmx_format.proofs.Ordered.{tables_are_only_ones, program_compiles}
+use Rattle.kmx_format.proofs.Whole.{meaning_kept, transcript_kept}
 use Rattle.kmx_verifier.proofs.FileValid.{file_valid}
 use Rattle.kmn_compiler.specs.Source.{CompilesTo}
 use Rattle.kmn_compiler.specs.declared.compiling.Compiled.{Compiled}

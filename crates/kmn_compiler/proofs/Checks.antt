@@ -12,13 +12,13 @@ use Rattle.rule_model.specs.Tab.{tab}
 use Rattle.rule_model.specs.Trace.{trace}
 use Rattle.rule_model.specs.Transcript.{transcript}
 use Rattle.kmx_format.specs.File.{file_of}
-use Rattle.kmx_writer.specs.Excess.{excess}
-use Rattle.compile_laws.specs.Means.{Means}
-use Rattle.compile_laws.specs.Ordered.{compiled_tables}
+use Rattle.kmn_compiler.specs.Excess.{excess}
+use Rattle.kmx_format.specs.Means.{Means}
+use Rattle.kmx_format.specs.Ordered.{compiled_tables}
 use Rattle.kmn_parser.specs.Source.{parsed}
 use Rattle.kmn_names.specs.First.{or_refusal}
 use Rattle.rule_checker.specs.Refused.{IsRead, refused, checked}
-use Rattle.compile_laws.proofs.Ordered.{program_compiles}
+use Rattle.kmx_format.proofs.Ordered.{program_compiles}
 use Rattle.rule_checker.proofs.Named.{well_named}
 use Rattle.rule_checker.proofs.Written.{tables_written}
 use Rattle.rule_checker.proofs.Sources.{source_read, accepted_parts}

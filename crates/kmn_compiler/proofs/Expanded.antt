@@ -2,7 +2,7 @@
 use Rattle.std.proofs.Common.{◌≡◌, ◌∙◌, ap, subst}
 use Rattle.rule_model.specs.declared.program.Program.{Program}
 use Rattle.rule_model.specs.declared.tables.Tables.{Tables}
-use Rattle.compile_laws.specs.Compiles.{Compiles, AreOrderedGroups}
+use Rattle.kmx_format.specs.Compiles.{Compiles, AreOrderedGroups}
 use Rattle.kmn_compiler.specs.Order.{IsOrdered}
 use Rattle.rule_expand.specs.Expanded.{expanded_tables}
 

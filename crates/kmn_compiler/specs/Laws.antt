@@ -8,9 +8,9 @@ use Rattle.rule_model.specs.Tab.{tab}
 use Rattle.rule_model.specs.Trace.{trace}
 use Rattle.rule_model.specs.Transcript.{transcript}
 use Rattle.kmx_format.specs.File.{file_of}
-use Rattle.kmx_writer.specs.Excess.{excess}
-use Rattle.compile_laws.specs.Means.{Means}
-use Rattle.compile_laws.specs.Ordered.{compiled_tables}
+use Rattle.kmn_compiler.specs.Excess.{excess}
+use Rattle.kmx_format.specs.Means.{Means}
+use Rattle.kmx_format.specs.Ordered.{compiled_tables}
 use Rattle.rule_checker.specs.Refused.{checked}
 
 -- its tables take its steps, whatever the events

@@ -1,7 +1,7 @@
 -- Tables with the records of their groups in order.
 use Rattle.std.specs.Prelude.{◌≡◌}
 use Rattle.rule_model.specs.declared.tables.Tables.{Tables}
-use Rattle.compile_laws.specs.Compiles.{AreOrderedGroups}
+use Rattle.kmx_format.specs.Compiles.{AreOrderedGroups}
 
 -- tables have the records of each group of other tables, each once and in order, and are else the same
 pub record IsOrdered (expanded ordered : Tables) : Type 0 where

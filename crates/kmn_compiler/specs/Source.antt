@@ -8,10 +8,10 @@ use Rattle.rule_model.specs.Tab.{tab}
 use Rattle.kmx_format.specs.File.{file_of}
 use Rattle.kmx_format.specs.TablesOf.{tables_of}
 use Rattle.kmx_format.specs.Writable.{IsFile, IsWritable}
-use Rattle.kmx_writer.specs.Excess.{excess}
-use Rattle.compile_laws.specs.Compiles.{Compiles}
-use Rattle.compile_laws.specs.Means.{Means}
-use Rattle.compile_laws.specs.Ordered.{compiled_tables}
+use Rattle.kmn_compiler.specs.Excess.{excess}
+use Rattle.kmx_format.specs.Compiles.{Compiles}
+use Rattle.kmx_format.specs.Means.{Means}
+use Rattle.kmx_format.specs.Ordered.{compiled_tables}
 use Rattle.kmx_verifier.specs.FaultOf.{IsValid}
 use Rattle.kmn_compiler.specs.declared.compiling.Compiled.{Compiled}
 

@@ -1,13 +1,13 @@
 ghost use Rattle.std.specs.Prelude.{◌≡◌, None, Ok, IfOk};
 ghost use Rattle.kmn_base.specs.Answers.{Answers};
-ghost use Rattle.compile_laws.specs.Compiles.{Compiles};
+ghost use Rattle.kmx_format.specs.Compiles.{Compiles};
 ghost use Rattle.rule_checker.specs.Refused.{IsRead, checked, refused};
 ghost use Rattle.kmn_compiler.specs.Source.{CompilesTo};
 
 use crate::ordering::order;
 use kmn_base::{CompileError, Memory, Seq};
 use kmn_parser::parse;
-use kmx_writer::write;
+use crate::write;
 use rule_checker::{Checked, check};
 use rule_expand::expand;
 use rule_model::Tables;

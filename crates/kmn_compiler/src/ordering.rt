@@ -2,7 +2,7 @@
 //! store and, of the two records of a cased key, that of the half.
 
 ghost use Rattle.std.specs.List.Sorted.{IsPermutation, IsSortedBy};
-ghost use Rattle.compile_laws.specs.Compiles.{stands_before, IsOrderedGroup, AreOrderedGroups};
+ghost use Rattle.kmx_format.specs.Compiles.{stands_before, IsOrderedGroup, AreOrderedGroups};
 ghost use Rattle.kmn_compiler.specs.Order.{IsOrdered};
 
 use rule_model::{Group, Rule, Tables};

@@ -5,7 +5,7 @@ use Rattle.std.specs.List.{list_any}
 use Rattle.std.proofs.lemmas.Bool.Decides.{nat_tests}
 use Rattle.std.proofs.lemmas.List.{drop_more, take_all, take_at}
 use Rattle.kmn_base.specs.Names.{same_name}
-use Rattle.virtual_keys.specs.Dictionary.{with_name}
+use Rattle.rule_model.specs.Dictionary.{with_name}
 use Rattle.rule_model.specs.declared.program.SrcItem.{SrcItem}
 use Rattle.rule_model.specs.declared.program.StoreDef.{StoreDef}
 use Rattle.rule_model.specs.declared.program.RuleDef.{RuleDef}
@@ -19,7 +19,7 @@ use Rattle.kmn_names.specs.Names.{group_names, names_refusal, stated}
 use Rattle.kmn_base.specs.declared.limits.TheConstants.{KEY_NAMES}
 use Rattle.kmn_names.specs.First.{or_refusal}
 use Rattle.kmn_names.specs.Numbering.{lists_of, numbered, none_appeared, with_marks, with_key, with_keys, with_item, with_items}
-use Rattle.virtual_keys.proofs.NamePlaces.{with_name_new}
+use Rattle.rule_model.proofs.NamePlaces.{with_name_new}
 use Rattle.kmn_names.proofs.Naming.{names_of_stores}
 
 pub items_append : (appeared : Appeared) (xs ys : List SrcItem) → with_items appeared (xs ++ ys) ≡ with_items (with_items appeared xs) ys

@@ -11,13 +11,13 @@ use Rattle.std.specs.Str.{str_to_ascii_lowercase, bytes_eq}
 use Rattle.std.specs.Prelude.{IsSome}
 use Rattle.indexmap.specs.IndexMap.{insert_entry}
 use Rattle.kmn_base.specs.Names.{same_name}
-use Rattle.virtual_keys.specs.Dictionary.{place_in}
+use Rattle.rule_model.specs.Dictionary.{place_in}
 use Rattle.kmn_names.specs.First.{or_else}
 use Rattle.kmn_names.specs.Places.{written, ArePlaces, place_behind}
 use Rattle.std.proofs.Common.{suc, drop}
 use Rattle.std.specs.Prelude.{option_map}
 use Rattle.std.proofs.lemmas.List.{drop_more}
-use Rattle.virtual_keys.proofs.NamePlaces.{position_cons}
+use Rattle.rule_model.proofs.NamePlaces.{position_cons}
 
 pushed : (a b n m : ℕ) (passes : Bool) → a ≤ n → b ≡ cond (eqb a n) (n + cond passes 0 1) a → m ≡ n + 1
     → cond (nat_lt b m) (Some b) None ≡ or_else (cond (nat_lt a n) (Some a) None) (cond passes (Some n) None)

@@ -6,7 +6,7 @@ use Rattle.std.specs.Str.{bytes_eq}
 use Rattle.std.specs.Cmp.Lexicographic.{nat_list_eq_equiv}
 use Rattle.std.proofs.lemmas.List.{map-append}
 use Rattle.indexmap.specs.IndexSet.{insert_key}
-use Rattle.virtual_keys.proofs.PositionLemmas.{position-map}
+use Rattle.rule_model.proofs.PositionLemmas.{position-map}
 use Rattle.rule_model.specs.Tab.{distinct_onto}
 
 same_either_way : (a b : List ℕ) → bytes_eq a b ≡ bytes_eq b a

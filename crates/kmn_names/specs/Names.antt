@@ -4,7 +4,7 @@ use Rattle.std.specs.List.{list_any}
 use Rattle.kmn_base.specs.declared.codes.Code.{Code}
 use Rattle.kmn_base.specs.declared.codes.Code.TheVariants.{C02, C03, C04, C05, C06, C07, C15}
 use Rattle.kmn_base.specs.declared.refusals.Refusal.{Refusal}
-use Rattle.virtual_keys.specs.Dictionary.{place_in}
+use Rattle.rule_model.specs.Dictionary.{place_in}
 use Rattle.rule_model.specs.declared.program.SrcItem.{SrcItem}
 use Rattle.rule_model.specs.declared.program.SrcItem.TheVariants as source
 use Rattle.rule_model.specs.declared.program.StoreDef.{StoreDef}

@@ -2,7 +2,7 @@
 use Rattle.std.specs.Prelude.{ℕ, ◌+◌, ◌^◌, nat_lt, nat_le, if◌then◌else◌, List, [], ◌∷◌, length, map, take, Option, None, Some, option_map, Result}
 use Rattle.kmn_base.specs.declared.limits.TheConstants.{KEY_NAMES}
 use Rattle.kmn_base.specs.declared.refusals.Refusal.{Refusal}
-use Rattle.virtual_keys.specs.Dictionary.{place_in, with_name}
+use Rattle.rule_model.specs.Dictionary.{place_in, with_name}
 use Rattle.rule_model.specs.declared.program.SrcItem.{SrcItem}
 use Rattle.rule_model.specs.declared.program.Program.{Program}
 use Rattle.rule_model.specs.declared.tables.Store.{Store}

@@ -1,7 +1,7 @@
 //! The names of marks and keys by first appearance, over stores and rules in the order of their lines.
 
 ghost use Rattle.std.specs.Prelude.{◌≡◌, ◌++◌, List, [], flat_map, IfOk, OnOk, option_to_list};
-ghost use Rattle.virtual_keys.specs.Dictionary.{with_name};
+ghost use Rattle.rule_model.specs.Dictionary.{with_name};
 ghost use Rattle.rule_model.specs.declared.program.GroupDef.{GroupDef};
 ghost use Rattle.rule_model.specs.declared.program.RuleDef.{RuleDef};
 ghost use Rattle.rule_model.specs.Naming.{items_from, rule_items, source_items, store_items, stores_after, stores_before};
@@ -10,9 +10,8 @@ ghost use Rattle.kmn_names.specs.Numbering.{none_appeared, with_item, with_items
 use crate::by_line::parted_by_line;
 use crate::name_table::NameTable;
 use kmn_base::Memory;
-use rule_model::{GroupDef, Program, RuleDef, SrcItem, StoreDef};
+use rule_model::{GroupDef, KeyDictionary, Program, RuleDef, SrcItem, StoreDef};
 use std::alloc::Global;
-use virtual_keys::KeyDictionary;
 
 /// The names that appeared so far.
 #[derive(Drop)]

@@ -1,6 +1,6 @@
 //! The names of a program: what of them is refused, and which numbers they get in the file.
 //!
-//! It stands on `kmn_base`, `virtual_keys`, `rule_model` and `indexmap`. `specs/Names` says which refusal for names is
+//! It stands on `kmn_base`, `rule_model` and `indexmap`. `specs/Names` says which refusal for names is
 //! the first (`names_refusal`), by the words of `specs/First`, and `specs/Numbering` which numbers names get. The layer
 //! above calls `number`, which answers `numbered` of a program, and looks names up in the `ProgramNames` that it gives. The
 //! checkers above say their own refusals by the words of `specs/First` too, take `earlier` and `at_line` for them, and look

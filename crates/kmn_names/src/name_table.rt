@@ -1,7 +1,7 @@
 ghost use Rattle.std.specs.Prelude.{◌≡◌, ◌≤◌, ◌<◌, None, [], ◌∷◌, ◌++◌, length, MatchResult, IfOk, IfSome, IsSome};
 ghost use Rattle.std.specs.Str.{str_to_ascii_lowercase, bytes_eq};
 ghost use Rattle.std.specs.Map.{lookup};
-ghost use Rattle.virtual_keys.specs.Dictionary.{place_in};
+ghost use Rattle.rule_model.specs.Dictionary.{place_in};
 ghost use Rattle.kmn_names.specs.Names.{is_named};
 ghost use Rattle.kmn_names.specs.Places.{written};
 

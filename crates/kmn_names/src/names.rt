@@ -7,10 +7,9 @@ use crate::name_table::NameTable;
 use crate::refusing::names_refusal;
 use crate::stating::stated_names;
 use kmn_base::{CompileError, Refusal};
-use rule_model::Program;
+use rule_model::{KeyDictionary, Program};
 use std::alloc::Global;
 use std::marker::Model;
-use virtual_keys::KeyDictionary;
 
 /// The names of a program, which are found without ASCII case. Contracts see them as lists, each in the order of its
 /// numbers.

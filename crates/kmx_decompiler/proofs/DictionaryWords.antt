@@ -7,8 +7,8 @@ use Rattle.std.specs.Str.{is_utf8}
 use Rattle.std.proofs.lemmas.Str.{is_utf8-from_IsUtf8, IsUtf8-from_is_utf8}
 use Rattle.kmn_base.specs.Names.{same_name}
 use Rattle.kmn_names.specs.Names.{is_named}
-use Rattle.virtual_keys.proofs.NamePlaces.{some_place, same_either_way}
-use Rattle.decompile_causes.specs.Causes.{is_dictionary_name, are_repeated}
+use Rattle.rule_model.proofs.NamePlaces.{some_place, same_either_way}
+use Rattle.kmx_decompiler.specs.Causes.{is_dictionary_name, are_repeated}
 use Rattle.kmx_decompiler.specs.Words.{are_unfit, not_empty}
 
 -- bytes that are UTF-8, and others

@@ -19,15 +19,15 @@ use Rattle.rule_model.specs.Tab.{distinct_onto, element_char, elements_of as ele
 use Rattle.kmx_format.specs.Playable.{IsPlayable}
 use Rattle.kmx_format.specs.Writable.{elements_of}
 use Rattle.rule_checker.proofs.Lists.{All-distinct}
-use Rattle.decompile_laws.specs.Marks.{greatest_mark, table_marks}
-use Rattle.decompile_laws.specs.Items.{Names, value_called}
+use Rattle.decompile_program.specs.Marks.{greatest_mark, table_marks}
+use Rattle.decompile_program.specs.Items.{Names, value_called}
 use Rattle.kmx_format.specs.Versions.{version_text, version_numbers}
-use Rattle.decompile_laws.specs.Back.{names_for}
-use Rattle.decompile_laws.specs.WrittenOut.{table_values}
-use Rattle.decompile_laws.proofs.Choosing.{all_join}
-use Rattle.decompile_laws.proofs.SmallMarks.{IsSmall, small_marks}
-use Rattle.decompile_causes.proofs.DictionarySizes.{total, dictionary-total}
-use Rattle.decompile_causes.proofs.ShortValues.{IsShortValue, values_short}
+use Rattle.decompile_program.specs.Back.{names_for}
+use Rattle.decompile_program.specs.WrittenOut.{table_values}
+use Rattle.decompile_program.proofs.Choosing.{all_join}
+use Rattle.decompile_program.proofs.SmallMarks.{IsSmall, small_marks}
+use Rattle.kmx_decompiler.proofs.DictionarySizes.{total, dictionary-total}
+use Rattle.kmx_decompiler.proofs.ShortValues.{IsShortValue, values_short}
 use Rattle.kmx_decompiler.proofs.Refusing.{few_keys}
 use Rattle.kmx_decompiler.specs.Counting.{some_length, called_lengths, spaced_size, joined_length, text_lengths}
 use Rattle.kmx_decompiler.specs.Values.{with_values}

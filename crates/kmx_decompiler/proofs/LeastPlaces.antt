@@ -8,10 +8,10 @@ use Rattle.kmx_format.specs.declared.sizes.TheConstants.{GROUP_BYTES, RULE_BYTES
 use Rattle.rule_model.specs.declared.tables.Tables.{Tables}
 use Rattle.rule_model.specs.Tab.{tab_options}
 use Rattle.kmx_format.specs.TablesOf.{word_at, tables_of}
-use Rattle.decompile_laws.specs.Items.{Names}
-use Rattle.decompile_laws.specs.Back.{names_for}
-use Rattle.decompile_causes.specs.Causes.{is_unspelled_key}
-use Rattle.decompile_causes.specs.Places.{at_cause, cause_places, least, store_causes, rule_causes, group_causes}
+use Rattle.decompile_program.specs.Items.{Names}
+use Rattle.decompile_program.specs.Back.{names_for}
+use Rattle.kmx_decompiler.specs.Causes.{is_unspelled_key}
+use Rattle.kmx_decompiler.specs.Places.{at_cause, cause_places, least, store_causes, rule_causes, group_causes}
 use Rattle.kmx_decompiler.specs.Least.{lesser, lesser_of}
 
 -- of some places and others

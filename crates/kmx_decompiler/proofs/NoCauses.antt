@@ -7,12 +7,12 @@ use Rattle.std.proofs.lemmas.Str.{IsUtf8-from_is_utf8}
 use Rattle.rule_model.specs.Tab.{tab_dictionary}
 use Rattle.kmx_format.specs.TablesOf.{tables_of}
 use Rattle.kmx_format.specs.Playable.{IsPlayable}
-use Rattle.decompile_laws.specs.WrittenOut.{CanBeWrittenOut}
-use Rattle.decompile_causes.specs.Places.{cause_places, least}
-use Rattle.decompile_causes.specs.Unspelled.{disorder}
-use Rattle.decompile_causes.proofs.Sayable.{no_cause_holds}
-use Rattle.decompile_causes.proofs.WrittenOut.{no_cause_written_out}
-use Rattle.decompile_causes.proofs.SpelledKeys.{IsKeyName, no_cause_keys, own_name}
+use Rattle.decompile_program.specs.WrittenOut.{CanBeWrittenOut}
+use Rattle.kmx_decompiler.specs.Places.{cause_places, least}
+use Rattle.kmx_decompiler.specs.Unspelled.{disorder}
+use Rattle.kmx_decompiler.proofs.Sayable.{no_cause_holds}
+use Rattle.kmx_decompiler.proofs.WrittenOut.{no_cause_written_out}
+use Rattle.kmx_decompiler.proofs.SpelledKeys.{IsKeyName, no_cause_keys, own_name}
 
 pub written_without_cause : (bytes : List ℕ) → IsPlayable (tables_of bytes) → disorder 0 (tables_of bytes).groups ≡ None → least (cause_places bytes) ≡ None → CanBeWrittenOut (tables_of bytes)
 written_without_cause bytes can order places = no_cause_written_out (tables_of bytes) (no_cause_holds bytes order places) can

@@ -13,14 +13,14 @@ use Rattle.kmx_format.specs.File.{rules_of}
 use Rattle.kmx_format.specs.Playable.{IsPlayable, IsPlayableStore}
 use Rattle.kmx_format.specs.TablesOf.{tables_of}
 use Rattle.kmn_parser.specs.Programs.{program_text}
-use Rattle.decompile_laws.specs.Back.{back}
-use Rattle.decompile_laws.specs.WrittenOut.{CanBeWrittenOut}
-use Rattle.decompile_causes.specs.declared.no_spelling.NoSpelling.{NoSpelling}
-use Rattle.decompile_causes.specs.declared.no_spelling.NoSpelling.TheVariants.{TooLarge, Unspelled}
-use Rattle.decompile_causes.specs.Places.{cause_places, least}
-use Rattle.decompile_causes.specs.Excess.{excess, text_size, store_count, element_count}
-use Rattle.decompile_causes.specs.Unspelled.{disorder, unspelled}
-use Rattle.decompile_names.proofs.FewNames.{HasFewElements, few_names}
+use Rattle.decompile_program.specs.Back.{back}
+use Rattle.decompile_program.specs.WrittenOut.{CanBeWrittenOut}
+use Rattle.kmx_decompiler.specs.declared.no_spelling.NoSpelling.{NoSpelling}
+use Rattle.kmx_decompiler.specs.declared.no_spelling.NoSpelling.TheVariants.{TooLarge, Unspelled}
+use Rattle.kmx_decompiler.specs.Places.{cause_places, least}
+use Rattle.kmx_decompiler.specs.Excess.{excess, text_size, store_count, element_count}
+use Rattle.kmx_decompiler.specs.Unspelled.{disorder, unspelled}
+use Rattle.decompile_program.proofs.FewNames.{HasFewElements, few_names}
 use Rattle.kmx_decompiler.specs.Refusals.{too_many}
 use Rattle.kmx_decompiler.proofs.NoCauses.{written_without_cause, keys_without_cause}
 

@@ -17,15 +17,15 @@ use Rattle.rule_model.specs.declared.tables.Store.{Store}
 use Rattle.rule_model.specs.declared.tables.Tables.{Tables}
 use Rattle.rule_model.specs.Tab.{tab_dictionary}
 use Rattle.rule_model.specs.Naming.{SourceNames, item_elements, store_of}
-use Rattle.compile_laws.specs.Numbers.{dictionary_stores, value_store}
+use Rattle.kmx_format.specs.Numbers.{dictionary_stores, value_store}
 use Rattle.rule_checker.proofs.Sizes.{space_chars}
-use Rattle.decompile_laws.specs.Marks.{greatest_mark}
-use Rattle.decompile_laws.specs.Items.{Names, back_element}
+use Rattle.decompile_program.specs.Marks.{greatest_mark}
+use Rattle.decompile_program.specs.Items.{Names, back_element}
 use Rattle.kmx_format.specs.Versions.{version_text}
-use Rattle.decompile_laws.specs.Back.{back_stores, numbered, stated_marks, stated_key, mark_store, key_store, mark_stores, key_stores, front_stores, free_stores, names_for, written_stores}
+use Rattle.decompile_program.specs.Back.{back_stores, numbered, stated_marks, stated_key, mark_store, key_store, mark_stores, key_stores, front_stores, free_stores, names_for, written_stores}
 use Rattle.decompile_text.proofs.WholeTexts.{first_left, one_less}
 use Rattle.kmx_decompiler.specs.Counting.{some_length, called_lengths, spaced_size, joined_length}
-use Rattle.decompile_causes.proofs.ShortStores.{singles, element-single}
+use Rattle.kmx_decompiler.proofs.ShortStores.{singles, element-single}
 
 abbrev pub length_of : Store → ℕ
 length_of store = length store.elements

@@ -12,15 +12,15 @@ use Rattle.rule_model.specs.Tab.{tab_dictionary}
 use Rattle.rule_model.specs.Naming.{names_of, stores_of}
 use Rattle.kmx_format.specs.Writable.{elements_of}
 use Rattle.kmx_format.specs.Playable.{IsPlayable}
-use Rattle.compile_laws.specs.Numbers.{dictionary_stores, value_store, values_of, compiled_stores}
-use Rattle.decompile_laws.specs.Marks.{greatest_mark}
+use Rattle.kmx_format.specs.Numbers.{dictionary_stores, value_store, values_of, compiled_stores}
+use Rattle.decompile_program.specs.Marks.{greatest_mark}
 use Rattle.kmx_format.specs.Versions.{version_text}
-use Rattle.decompile_laws.specs.Back.{names_for, written_stores, back}
-use Rattle.decompile_laws.specs.WrittenOut.{table_values, CanBeWrittenOut}
-use Rattle.decompile_laws.proofs.Linking.{stores-mapped}
-use Rattle.decompile_laws.proofs.Numbering.{keys-are}
-use Rattle.decompile_causes.specs.Excess.{store_count, element_count}
-use Rattle.decompile_causes.proofs.CountedSizes.{simple}
+use Rattle.decompile_program.specs.Back.{names_for, written_stores, back}
+use Rattle.decompile_program.specs.WrittenOut.{table_values, CanBeWrittenOut}
+use Rattle.decompile_program.proofs.Linking.{stores-mapped}
+use Rattle.decompile_program.proofs.Numbering.{keys-are}
+use Rattle.kmx_decompiler.specs.Excess.{store_count, element_count}
+use Rattle.kmx_decompiler.proofs.CountedSizes.{simple}
 use Rattle.kmx_decompiler.specs.declared.counts.WrittenCounts.{WrittenCounts}
 use Rattle.kmx_decompiler.specs.Values.{with_values}
 use Rattle.kmx_decompiler.specs.Counting.{none_counted, with_lengths, some_length, called_lengths, joined_length, text_lengths}

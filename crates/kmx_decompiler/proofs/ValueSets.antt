@@ -7,8 +7,8 @@ use Rattle.rule_model.specs.declared.tables.Rule.{Rule}
 use Rattle.rule_model.specs.declared.tables.Group.{Group}
 use Rattle.rule_model.specs.Tab.{distinct_onto}
 use Rattle.kmn_names.proofs.TextSets.{inserted}
-use Rattle.decompile_laws.specs.Items.{Names, value_called}
-use Rattle.decompile_laws.specs.WrittenOut.{rule_values, group_values}
+use Rattle.decompile_program.specs.Items.{Names, value_called}
+use Rattle.decompile_program.specs.WrittenOut.{rule_values, group_values}
 use Rattle.kmx_decompiler.specs.Values.{with_values}
 
 module _ {A : Type 0} where

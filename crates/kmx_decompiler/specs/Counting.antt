@@ -4,10 +4,10 @@ use Rattle.kmn_base.specs.Texts.{character_count}
 use Rattle.rule_model.specs.declared.tables.Store.{Store}
 use Rattle.rule_model.specs.declared.tables.Tables.{Tables}
 use Rattle.rule_model.specs.Tab.{tab_dictionary}
-use Rattle.decompile_laws.specs.Marks.{greatest_mark}
+use Rattle.decompile_program.specs.Marks.{greatest_mark}
 use Rattle.kmx_format.specs.Versions.{version_text}
-use Rattle.decompile_laws.specs.Back.{names_for}
-use Rattle.decompile_laws.specs.WrittenOut.{table_values}
+use Rattle.decompile_program.specs.Back.{names_for}
+use Rattle.decompile_program.specs.WrittenOut.{table_values}
 use Rattle.kmx_decompiler.specs.declared.counts.WrittenCounts.{WrittenCounts}
 use Rattle.kmx_decompiler.specs.Values.{with_values}
 

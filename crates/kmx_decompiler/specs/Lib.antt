@@ -4,3 +4,11 @@ pub mod RecordPlaces
 pub mod Refusals
 pub mod Values
 pub mod Words
+pub mod Causes
+pub mod Excess
+pub mod Laws
+pub mod Places
+pub mod Reasons
+pub mod Unspelled
+pub mod Written
+pub mod RoundTrips

@@ -1,8 +1,8 @@
 -- What a refusal of the decompiler tells.
 use Rattle.std.specs.Prelude.{ℕ, nat_lt, if◌then◌else◌, Option, Some, None}
 use Rattle.kmn_base.specs.declared.limits.TheConstants.{STORES, ALL_ELEMENTS}
-use Rattle.decompile_causes.specs.declared.no_spelling.NoSpelling.{NoSpelling}
-use Rattle.decompile_causes.specs.declared.no_spelling.NoSpelling.TheVariants as spelling
+use Rattle.kmx_decompiler.specs.declared.no_spelling.NoSpelling.{NoSpelling}
+use Rattle.kmx_decompiler.specs.declared.no_spelling.NoSpelling.TheVariants as spelling
 use Rattle.kmx_decompiler.specs.declared.refusals.DecompileError.{DecompileError}
 use Rattle.kmx_decompiler.specs.declared.refusals.DecompileError.TheVariants.{Refused, Memory}
 

@@ -2,7 +2,7 @@
 use Rattle.std.specs.Prelude.{ℕ, List, [], ◌∷◌}
 use Rattle.std.specs.Str.{bytes_eq}
 use Rattle.rule_model.specs.Tab.{distinct_onto}
-use Rattle.decompile_laws.specs.Items.{Names, value_called}
+use Rattle.decompile_program.specs.Items.{Names, value_called}
 
 -- values, with the characters of these stores, each put where it isn't among them
 abbrev pub with_values : Names → List (List ℕ) → List ℕ → List (List ℕ)

@@ -2,7 +2,7 @@
 use Rattle.std.specs.Prelude.{ℕ, Bool, false, not, ◌||◌, nat_eq, List, [], ◌∷◌, ◌++◌, length, filter}
 use Rattle.std.specs.List.{list_any}
 use Rattle.kmn_base.specs.Names.{same_name}
-use Rattle.decompile_causes.specs.Causes.{is_dictionary_name}
+use Rattle.kmx_decompiler.specs.Causes.{is_dictionary_name}
 
 -- the words among texts, which are those that aren't empty
 abbrev pub not_empty : List (List ℕ) → List (List ℕ)

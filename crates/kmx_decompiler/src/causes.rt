@@ -3,14 +3,14 @@
 ghost use Rattle.std.specs.Prelude.{◌≡◌, filter_map, option_to_list, slice_get};
 ghost use Rattle.std.specs.List.{list_any};
 ghost use Rattle.rule_model.specs.Tab.{element_char};
-ghost use Rattle.decompile_laws.specs.WrittenOut.{has_key_name};
-ghost use Rattle.decompile_causes.specs.Causes.{has_unspelled_value, have_both_quotes, is_system_store, is_unspelled_context, is_unspelled_element, is_unspelled_key, is_unspelled_output, is_unspelled_pattern, is_unspelled_value, names_system_store};
+ghost use Rattle.decompile_program.specs.WrittenOut.{has_key_name};
+ghost use Rattle.kmx_decompiler.specs.Causes.{has_unspelled_value, have_both_quotes, is_system_store, is_unspelled_context, is_unspelled_element, is_unspelled_key, is_unspelled_output, is_unspelled_pattern, is_unspelled_value, names_system_store};
 
 use crate::items::{
     are_inner, are_shift_flags, has_no_character, is_far_mark, is_far_output, is_far_pattern,
     is_nameable, nul_count, output_value, pattern_value, stands_behind_match,
 };
-use decompile_names::{Called, has_character, named_by_output, named_by_pattern};
+use decompile_program::{Called, has_character, named_by_output, named_by_pattern};
 use kmn_base::{Element, RuleKey};
 use rule_model::{Out, Pat};
 

@@ -4,16 +4,16 @@ ghost use Rattle.std.specs.Prelude.{◌≡◌, ◌+◌, ◌<◌, ◌^◌, ◌∷
 ghost use Rattle.std.specs.Str.{IsUtf8};
 ghost use Rattle.rule_model.specs.Tab.{tab_dictionary};
 ghost use Rattle.kmx_format.specs.Playable.{IsPlayable};
-ghost use Rattle.decompile_laws.specs.Back.{back, names_for};
-ghost use Rattle.decompile_laws.specs.WrittenOut.{CanBeWrittenOut};
-ghost use Rattle.decompile_causes.specs.Excess.{store_count, element_count};
+ghost use Rattle.decompile_program.specs.Back.{back, names_for};
+ghost use Rattle.decompile_program.specs.WrittenOut.{CanBeWrittenOut};
+ghost use Rattle.kmx_decompiler.specs.Excess.{store_count, element_count};
 ghost use Rattle.decompile_text.specs.Whole.{IsFront};
 ghost use Rattle.kmx_decompiler.specs.Refusals.{too_many};
 ghost use Rattle.kmx_decompiler.specs.Counting.{capped, none_counted, with_lengths, some_length, called_lengths, spaced_size, joined_length, text_lengths};
 
+use crate::NoSpelling;
 use crate::values::{WrittenValues, values_of};
-use decompile_causes::NoSpelling;
-use decompile_names::Called;
+use decompile_program::Called;
 use decompile_text::Front;
 use kmn_base::limits::{ALL_ELEMENTS, STORES};
 use kmn_base::texts::character_count;
@@ -124,7 +124,7 @@ fn with_values(counts: WrittenCounts, values: &WrittenValues) -> WrittenCounts
 }
 
 /// What the stores of tables' text come to, by their lengths.
-#[tactic(auto, using(crate::proofs::Lengths::with_lengths_append), unfolding(decompile_laws::specs::WrittenOut::table_values))]
+#[tactic(auto, using(crate::proofs::Lengths::with_lengths_append), unfolding(decompile_program::specs::WrittenOut::table_values))]
 fn count_lengths(
     alloc: Global,
     front: &Front,

@@ -6,10 +6,10 @@ ghost use Rattle.std.specs.Str.{is_utf8};
 ghost use Rattle.kmn_base.specs.Names.{same_name};
 ghost use Rattle.kmn_items.specs.Words.{is_own_key};
 ghost use Rattle.rule_model.specs.Tab.{words};
-ghost use Rattle.decompile_causes.specs.Causes.{is_dictionary_name, is_unspelled_dictionary};
+ghost use Rattle.kmx_decompiler.specs.Causes.{is_dictionary_name, is_unspelled_dictionary};
 ghost use Rattle.kmx_decompiler.specs.Words.{are_unfit, not_empty};
 
-use decompile_names::is_source_name;
+use decompile_program::is_source_name;
 use indexed_tables::{element_text, first_word};
 use kmn_base::{Element, Memory};
 use kmn_items::is_own_key;

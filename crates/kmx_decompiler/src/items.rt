@@ -3,12 +3,12 @@
 ghost use Rattle.std.specs.Prelude.{◌≡◌, bit_and, false, filter, filter_map, length, nat_eq, option_to_list};
 ghost use Rattle.std.specs.List.{list_all, list_any};
 ghost use Rattle.kmn_parser.specs.Names.{is_inner};
-ghost use Rattle.virtual_keys.specs.Dictionary.{is_nameable};
+ghost use Rattle.rule_model.specs.Dictionary.{is_nameable};
 ghost use Rattle.rule_model.specs.Tab.{element_char};
 ghost use Rattle.rule_model.specs.Patterns.{is_nul};
 ghost use Rattle.item_checker.specs.Items.{is_no_character};
-ghost use Rattle.decompile_laws.specs.WrittenOut.{output_values, pattern_values};
-ghost use Rattle.decompile_causes.specs.Causes.{is_far_mark, is_far_output, is_far_pattern, stands_behind_match};
+ghost use Rattle.decompile_program.specs.WrittenOut.{output_values, pattern_values};
+ghost use Rattle.kmx_decompiler.specs.Causes.{is_far_mark, is_far_output, is_far_pattern, stands_behind_match};
 
 use kmn_base::limits::DEADKEYS;
 use kmn_base::texts::is_forbidden;

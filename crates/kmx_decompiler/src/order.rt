@@ -1,9 +1,9 @@
 //! Records whose context is longer than that of the record before.
 
 ghost use Rattle.std.specs.Prelude.{◌≡◌, ◌<◌, ◌^◌, All, length};
-ghost use Rattle.decompile_causes.specs.Unspelled.{longer_behind, first_longer, disorder};
+ghost use Rattle.kmx_decompiler.specs.Unspelled.{longer_behind, first_longer, disorder};
 
-use decompile_causes::NoSpelling;
+use crate::NoSpelling;
 use rule_model::{Group, Rule};
 
 /// The number of the first of records, which count from 1, that has a longer context than the one before it. The length of

@@ -6,15 +6,15 @@ ghost use Rattle.kmx_format.specs.declared.places.TheConstants.{GROUP_RULES_AT};
 ghost use Rattle.kmx_format.specs.declared.sizes.TheConstants.{GROUP_BYTES, RULE_BYTES, STORE_BYTES};
 ghost use Rattle.kmx_format.specs.TablesOf.{tables_of, word_at};
 ghost use Rattle.kmx_verifier.specs.FaultOf.{IsValid};
-ghost use Rattle.decompile_laws.specs.Back.{names_for};
-ghost use Rattle.decompile_causes.specs.Causes.{is_number};
-ghost use Rattle.decompile_causes.specs.Places.{at_cause, cause_places, group_causes, least, rule_causes, store_causes};
+ghost use Rattle.decompile_program.specs.Back.{names_for};
+ghost use Rattle.kmx_decompiler.specs.Causes.{is_number};
+ghost use Rattle.kmx_decompiler.specs.Places.{at_cause, cause_places, group_causes, least, rule_causes, store_causes};
 ghost use Rattle.kmx_decompiler.specs.Least.{lesser};
 ghost use Rattle.kmx_decompiler.specs.RecordPlaces.{HaveNearRecords};
 
 use crate::causes::{are_unspelled_outputs, is_unspelled_context, is_unspelled_key};
 use crate::store_causes::{NumberedStore, is_unspelled_store};
-use decompile_names::Called;
+use decompile_program::Called;
 use indexed_tables::IndexedTables;
 use kmn_base::Memory;
 use kmx_format::places::{

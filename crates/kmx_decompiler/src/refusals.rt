@@ -1,4 +1,4 @@
-use decompile_causes::NoSpelling;
+use crate::NoSpelling;
 use kmn_base::Memory;
 use thiserror::Error;
 

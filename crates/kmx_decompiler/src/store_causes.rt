@@ -4,12 +4,12 @@ ghost use Rattle.std.specs.Prelude.{◌≡◌, ◌<◌, ◌&&◌, ◌||◌, IfOk
 ghost use Rattle.std.specs.List.{list_any};
 ghost use Rattle.rule_model.specs.Tab.{tab_options};
 ghost use Rattle.item_checker.specs.Items.{is_layout_text};
-ghost use Rattle.decompile_causes.specs.Causes.{is_first_dictionary, is_unspelled_option, is_unspelled_store, is_unspelled_system};
+ghost use Rattle.kmx_decompiler.specs.Causes.{is_first_dictionary, is_unspelled_option, is_unspelled_store, is_unspelled_system};
 
 use crate::causes::has_unspelled_element;
 use crate::dictionary::is_unspelled_dictionary;
 use crate::items::has_no_character;
-use decompile_names::Called;
+use decompile_program::Called;
 use indexed_tables::IndexedTables;
 use kmn_base::{Element, Memory};
 use rule_model::Store;

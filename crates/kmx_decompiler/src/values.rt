@@ -3,11 +3,11 @@
 ghost use Rattle.std.specs.Prelude.{◌≡◌, [], ◌∷◌, length, flat_map, filter_map, option_to_list, option_copied, slice_get, IfOk, OnOk};
 ghost use Rattle.std.specs.Str.{bytes_eq};
 ghost use Rattle.rule_model.specs.Tab.{distinct_onto, element_char};
-ghost use Rattle.decompile_laws.specs.WrittenOut.{pattern_values, output_values, rule_values, group_values};
+ghost use Rattle.decompile_program.specs.WrittenOut.{pattern_values, output_values, rule_values, group_values};
 ghost use Rattle.kmx_decompiler.specs.Values.{with_values};
 
 use crate::items::{output_value, pattern_value};
-use decompile_names::Called;
+use decompile_program::Called;
 use indexmap::IndexSet;
 use kmn_base::{Element, Memory};
 use rule_model::{Group, Out, Pat, Rule};

@@ -8,3 +8,9 @@ pub mod WorkedFiles
 pub mod Writable
 pub mod Walk
 pub mod ItemLaws
+pub mod Compiles
+pub mod Law
+pub mod Means
+pub mod Numbers
+pub mod Ordered
+pub mod WellNamed

@@ -16,16 +16,16 @@ use Rattle.kmn_names.specs.First.{at_line, earlier, first_of, or_else, or_refusa
 use Rattle.kmn_names.specs.Names.{is_named, names_refusal, rule_refusal, stated}
 use Rattle.kmn_names.specs.declared.stating.Stated.{Stated}
 use Rattle.kmn_names.specs.Known.{Known, known}
-use Rattle.limit_checker.specs.Counting.{capped, no_counts, virtual_count_of}
-use Rattle.limit_checker.specs.KeyCodes.{no_codes}
+use Rattle.rule_checker.specs.Counting.{capped, no_counts, virtual_count_of}
+use Rattle.rule_checker.specs.KeyCodes.{no_codes}
 use Rattle.item_checker.specs.Items.{items_refusal, rule_refusal as items_rule_refusal}
-use Rattle.limit_checker.specs.Limits.{Statement, in_line_order, limits_refusal}
+use Rattle.rule_checker.specs.Limits.{Statement, in_line_order, limits_refusal}
 use Rattle.rule_checker.specs.Refused.{checked, refused}
-use Rattle.limit_checker.specs.Walking.{no_totals, walked}
-use Rattle.limit_checker.specs.declared.counting.StoreCounts.{StoreCounts}
-use Rattle.limit_checker.specs.declared.totals.Totals.{Totals}
-use Rattle.limit_checker.specs.declared.walking.Walk.{Walk}
-use Rattle.limit_checker.proofs.FirstPassed.{first_passed}
+use Rattle.rule_checker.specs.Walking.{no_totals, walked}
+use Rattle.rule_checker.specs.declared.counting.StoreCounts.{StoreCounts}
+use Rattle.rule_checker.specs.declared.totals.Totals.{Totals}
+use Rattle.rule_checker.specs.declared.walking.Walk.{Walk}
+use Rattle.rule_checker.proofs.FirstPassed.{first_passed}
 use Rattle.load_maker.specs.Files.{SourcesAreChecked}
 use Rattle.load_maker.specs.Programs.{load_program, rule_def, rule_defs}
 use Rattle.load_maker.proofs.LoadTexts.{program_spelled, text_is}

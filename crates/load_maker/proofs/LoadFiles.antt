@@ -16,10 +16,10 @@ use Rattle.kmx_format.specs.File.{all_rules, file_of, group_strings, rule_string
 use Rattle.kmx_format.specs.FileUnits.{item_units, name_units, output_units}
 use Rattle.kmx_format.proofs.FileItems.{char_units_low}
 use Rattle.kmx_format.proofs.FileLaw.{length-file_of}
-use Rattle.compile_laws.specs.Compiles.{rule_records, statement_outputs}
-use Rattle.compile_laws.specs.Numbers.{Numbers, compiled_stores, dictionary_stores, item_values, numbers_of, value_store, values_of}
-use Rattle.compile_laws.specs.Ordered.{compiled_tables, in_order}
-use Rattle.compile_laws.proofs.Ordered.{in_order_permutes}
+use Rattle.kmx_format.specs.Compiles.{rule_records, statement_outputs}
+use Rattle.kmx_format.specs.Numbers.{Numbers, compiled_stores, dictionary_stores, item_values, numbers_of, value_store, values_of}
+use Rattle.kmx_format.specs.Ordered.{compiled_tables, in_order}
+use Rattle.kmx_format.proofs.Ordered.{in_order_permutes}
 use Rattle.load_maker.specs.Files.{FilesHaveSizes}
 use Rattle.load_maker.specs.Programs.{load_program, rule_defs}
 use Rattle.load_maker.proofs.LoadPrograms.{no_dictionary, no_match, no_nomatch}

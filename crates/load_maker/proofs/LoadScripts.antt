@@ -9,7 +9,7 @@ use Rattle.kmn_base.specs.declared.events.Event.{Event}
 use Rattle.kmn_base.specs.declared.events.Event.TheVariants as event
 use Rattle.kmn_base.specs.declared.limits.TheConstants.{TEXT_BYTES, SCRIPT_EVENTS}
 use Rattle.kmn_base.specs.declared.refusals.Refusal.{Refusal}
-use Rattle.virtual_keys.specs.Keys.{key_codes}
+use Rattle.rule_model.specs.Keys.{key_codes}
 use Rattle.rule_model.specs.Transcript.{events_of}
 use Rattle.rule_model.specs.declared.script.Entry.{Entry}
 use Rattle.rule_model.specs.declared.script.Entry.TheVariants.{Act}

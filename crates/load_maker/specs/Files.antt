@@ -1,6 +1,6 @@
 -- What the source of a load compiles to, and what its script comes to on the compiled tables.
 use Rattle.std.specs.Prelude.{◌≡◌, ℕ, ◌+◌, ◌*◌, ◌≤◌, [], length, Ok}
-use Rattle.compile_laws.specs.Ordered.{compiled_tables}
+use Rattle.kmx_format.specs.Ordered.{compiled_tables}
 use Rattle.kmx_format.specs.File.{all_rules, file_of}
 use Rattle.rule_checker.specs.Refused.{checked}
 use Rattle.rule_model.specs.Tab.{tab}

@@ -23,7 +23,7 @@ use Rattle.rule_model.specs.Enter.{nothing, chosen_in, enter_group}
 use Rattle.rule_model.specs.KeyEvent.{begin_event}
 use Rattle.rule_model.specs.Tab.{tab, tab_rule, tab_group}
 use Rattle.rule_model.specs.ChosenLines.{Adding, lines_of_one, lines_of, lines_if_any, taken_by, lines_of_group, lines_in_group, add_lines, lines_of_press}
-use Rattle.compile_laws.proofs.Keyboards.{tab_choice, tab_groups}
+use Rattle.kmx_format.proofs.Keyboards.{tab_choice, tab_groups}
 use Rattle.plain_event.specs.Coverage.{rule_lines, record_lines}
 use Rattle.plain_event.specs.Laws.{ChosenLinesAreLines}
 use Rattle.plain_event.proofs.Lines.{press-adds}

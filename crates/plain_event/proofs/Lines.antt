@@ -32,17 +32,17 @@ use Rattle.rule_model.specs.KeyEvent.{begin_event}
 use Rattle.rule_model.specs.Naming.{names_of, stores_of, elements_named}
 use Rattle.rule_model.specs.Tab.{tab, tab_group, tab_output, output_if_any}
 use Rattle.rule_model.specs.Src.{src, src_group, src_output, src_outputs, is_plain, is_on_match, is_on_nomatch, is_unicode, start_named}
-use Rattle.compile_laws.specs.Numbers.{numbers_of, item_values, number_of_store, number_of_group, number_of_start}
-use Rattle.compile_laws.specs.Compiles.{Compiles, IsOrderedGroup, file_group, file_output, file_outputs, statement_outputs, or_nul, element_outs, element_outs_if_any}
-use Rattle.compile_laws.specs.WellNamed.{IsWellNamed, is_group, is_known_start, is_known_output}
-use Rattle.compile_laws.proofs.Keyboards.{src_start, tab_start}
-use Rattle.compile_laws.proofs.Linked.{Linked, is_value}
-use Rattle.compile_laws.proofs.Known.{KnownGroup, KnownStatement}
-use Rattle.compile_laws.proofs.Outputs.{SameEntry, lost, one-same, outputs-same}
-use Rattle.compile_laws.proofs.Choices.{ChosenRule, best_now, best_known, BestKnown, src_chosen, tab_chosen}
-use Rattle.compile_laws.proofs.Groups.{some_output, with_table, ordered_group, chosen_src, chosen_tab, group_place, level-same}
-use Rattle.compile_laws.proofs.Stores.{linked}
-use Rattle.compile_laws.proofs.Dictionary.{dictionary-same}
+use Rattle.kmx_format.specs.Numbers.{numbers_of, item_values, number_of_store, number_of_group, number_of_start}
+use Rattle.kmx_format.specs.Compiles.{Compiles, IsOrderedGroup, file_group, file_output, file_outputs, statement_outputs, or_nul, element_outs, element_outs_if_any}
+use Rattle.kmx_format.specs.WellNamed.{IsWellNamed, is_group, is_known_start, is_known_output}
+use Rattle.kmx_format.proofs.Keyboards.{src_start, tab_start}
+use Rattle.kmx_format.proofs.Linked.{Linked, is_value}
+use Rattle.kmx_format.proofs.Known.{KnownGroup, KnownStatement}
+use Rattle.kmx_format.proofs.Outputs.{SameEntry, lost, one-same, outputs-same}
+use Rattle.kmx_format.proofs.Choices.{ChosenRule, best_now, best_known, BestKnown, src_chosen, tab_chosen}
+use Rattle.kmx_format.proofs.Groups.{some_output, with_table, ordered_group, chosen_src, chosen_tab, group_place, level-same}
+use Rattle.kmx_format.proofs.Stores.{linked}
+use Rattle.kmx_format.proofs.Dictionary.{dictionary-same}
 use Rattle.rule_model.specs.ChosenLines.{Adding, lines_of_one, lines_of, lines_if_any, lines_of_group, lines_in_group, add_lines, lines_of_press}
 use Rattle.plain_event.specs.Laws.{ChoiceIsKept}
 

@@ -8,8 +8,8 @@ use Rattle.rule_model.specs.Event.{State}
 use Rattle.rule_model.specs.Src.{src}
 use Rattle.rule_model.specs.Tab.{tab}
 use Rattle.rule_model.specs.ChosenLines.{chosen}
-use Rattle.compile_laws.specs.WellNamed.{IsWellNamed}
-use Rattle.compile_laws.specs.Compiles.{Compiles}
+use Rattle.kmx_format.specs.WellNamed.{IsWellNamed}
+use Rattle.kmx_format.specs.Compiles.{Compiles}
 use Rattle.plain_event.specs.Coverage.{record_lines}
 
 -- the tables that a well-named program compiles to choose the lines that the program chooses, at every state and event

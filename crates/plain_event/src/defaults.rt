@@ -1,7 +1,7 @@
 ghost use Rattle.std.specs.Prelude.{◌≡◌, ◌<◌, OnOk, length, map, nat_lt};
 ghost use Rattle.kmn_base.specs.Lists.{characters};
-ghost use Rattle.virtual_keys.specs.Dictionary.{name_chars};
-ghost use Rattle.virtual_keys.specs.Fits.{char_of_press};
+ghost use Rattle.rule_model.specs.Dictionary.{name_chars};
+ghost use Rattle.rule_model.specs.Fits.{char_of_press};
 ghost use Rattle.rule_model.specs.Act.{put_items};
 ghost use Rattle.rule_model.specs.Enter.{delete_or_pass, put_press, put_named, by_default};
 ghost use Rattle.rule_model.specs.Tab.{tab};
@@ -10,10 +10,9 @@ use crate::left::take_character;
 use crate::outputs::put_item;
 use indexed_tables::IndexedTables;
 use kmn_base::{Item, KeyPress, Memory};
-use rule_model::EventState;
+use rule_model::codes::K_BKSP;
+use rule_model::{EventState, char_of, is_plain, named_chars};
 use std::alloc::Global;
-use virtual_keys::codes::K_BKSP;
-use virtual_keys::{char_of, is_plain, named_chars};
 
 /// Whether a list has a character.
 fn has_character(items: &[Item]) -> bool

@@ -3,8 +3,8 @@ ghost use Rattle.rule_model.specs.Event.{editor_left, editor_right};
 
 use kmn_base::Memory;
 use kmn_base::slices::{before, behind};
+use rule_model::codes::{K_DEL, K_END, K_ENTER, K_HOME, K_LEFT, K_RIGHT, K_TAB};
 use std::alloc::Global;
-use virtual_keys::codes::{K_DEL, K_END, K_ENTER, K_HOME, K_LEFT, K_RIGHT, K_TAB};
 
 /// Two texts, one after the other.
 pub fn joined(alloc: Global, text: &[char], more: &[char]) -> Result<Vec<char>, Memory>

@@ -14,9 +14,8 @@ use crate::texts::{characters, read_again};
 use crate::values::{copies, picked, set_value, spread};
 use indexed_tables::IndexedTables;
 use kmn_base::{Element, Event, Item, KeyPress, Memory, Outcome, Seq};
-use rule_model::{EventState, Tables, common_prefix, moved_caret};
+use rule_model::{EventState, Tables, common_prefix, is_plain, moved_caret};
 use std::alloc::Global;
-use virtual_keys::is_plain;
 
 /// An event begins on a state, with nothing done.
 #[tactic(auto, using(crate::proofs::SpreadValues::picked_options))]

@@ -1,8 +1,8 @@
 //! What the tables of a compiled file do with an event, computed as their meaning says it, and which rules of a keyboard
 //! fire: the source lines of the rules that each event chooses, and how often each line of a keyboard was chosen.
 //!
-//! It stands on `kmn_base`, `virtual_keys`, `rule_model`, whose meaning of an event it computes, `indexed_tables`, which have
-//! what events look up, `plain_matching`, which chooses the record that goes first, and for its laws on `compile_laws`. It is
+//! It stands on `kmn_base`, `rule_model`, whose meaning of an event it computes, `indexed_tables`, which have
+//! what events look up, `plain_matching`, which chooses the record that goes first, and for its laws on `kmx_format`. It is
 //! clear and not fast: a list is made anew where an item is put. `plain_event` does an event on a `PlainState`, whose values
 //! stand by store number, those of the system options behind the others; `specs/PlainStates` says what such a state means.
 //! `traced_event` does the same and tells the lines of the rules that the event chose; both are called by tests of the

@@ -15,9 +15,8 @@ use indexed_tables::{IndexedTables, has_words};
 use kmn_base::{Element, Item, KeyPress, Memory, RuleKey, Seq};
 use rule_model::system::PLATFORM;
 use rule_model::{
-    Catch, Caught, EventState, Group, Pat, Rule, is_element, is_item, is_same, place_of,
+    Catch, Caught, EventState, Group, Pat, Pressed, Rule, is_element, is_item, is_same, place_of,
 };
-use virtual_keys::Pressed;
 
 /// Whether a pattern looks at an item of the text, whatever the stores are.
 fn takes_item(pattern: Pat) -> bool

@@ -11,7 +11,7 @@ use Rattle.kmn_base.specs.declared.codes.Code.TheVariants.{P03, P08}
 use Rattle.kmn_base.specs.declared.events.Event.TheVariants as event
 use Rattle.kmn_base.specs.declared.keys.KeyPress.{KeyPress}
 use Rattle.kmn_base.specs.declared.refusals.Refusal.{Refusal}
-use Rattle.virtual_keys.proofs.PositionLemmas.{not_below}
+use Rattle.rule_model.proofs.PositionLemmas.{not_below}
 use Rattle.rule_model.specs.declared.script.Entry.TheVariants.{Act}
 use Rattle.play_script.specs.Found.{Found, Reads, Breaks}
 use Rattle.play_script.specs.Lines.{text_lines}

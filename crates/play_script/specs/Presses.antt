@@ -1,9 +1,9 @@
 -- The key presses that words in brackets are.
 use Rattle.std.specs.Prelude.{ℕ, nat_eq, if◌then◌else◌, List, [], ◌∷◌, option_map, option_and_then, bit_or, Option, Some, None}
 use Rattle.kmn_base.specs.declared.keys.KeyPress.{KeyPress}
-use Rattle.virtual_keys.specs.Dictionary.{code_in}
-use Rattle.virtual_keys.specs.Fits.{left_control, left_alt, either_control, either_alt, no_caps}
-use Rattle.virtual_keys.specs.Keys.{key_code, shift_flag}
+use Rattle.rule_model.specs.Dictionary.{code_in}
+use Rattle.rule_model.specs.Fits.{left_control, left_alt, either_control, either_alt, no_caps}
+use Rattle.rule_model.specs.Keys.{key_code, shift_flag}
 
 -- the bit that a shift flag has in a press: control and alt without a side are the left ones, and no press lacks caps lock
 -- by a word

@@ -12,9 +12,8 @@ use crate::{
 };
 use kmn_base::limits::SCRIPT_EVENTS;
 use kmn_base::{Code, Memory, Seq};
-use rule_model::Entry;
+use rule_model::{Entry, KeyDictionary};
 use std::alloc::Global;
-use virtual_keys::KeyDictionary;
 
 /// What a line is that a script for one field hasn't.
 #[derive(Clone, Copy)]

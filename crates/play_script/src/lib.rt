@@ -1,7 +1,7 @@
 //! Scripts of events, for one field or for many over one keyboard, and the lines of a transcript.
 //!
-//! It stands on `virtual_keys` for the names of keys and on `rule_model`, whose `Entry` is what a script has and whose
-//! definitions say what is printed. `specs/Entries` defines the entries of a script, or its first refusal, line by line over
+//! It stands on `rule_model`, which has the names of keys, whose `Entry` is what a script has, and whose definitions say what is
+//! printed. `specs/Entries` defines the entries of a script, or its first refusal, line by line over
 //! the words of each line. The layer above uses `read_script`, which answers exactly these, and a function for each line of a
 //! transcript. A script for many fields has all these lines and three of its own: `open` adds a field and turns to it,
 //! `field` turns to another, and `preview` shows what a key press would do there. `specs/HostEntries` defines its entries, or

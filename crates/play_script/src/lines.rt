@@ -15,9 +15,8 @@ use kmn_base::limits::TEXT_BYTES;
 use kmn_base::slices::behind;
 use kmn_base::texts::without_mark;
 use kmn_base::{Code, Seq};
-use rule_model::Entry;
+use rule_model::{Entry, KeyDictionary};
 use std::alloc::Global;
-use virtual_keys::KeyDictionary;
 
 /// What a line is that begins with a word.
 #[derive(Clone, Copy)]

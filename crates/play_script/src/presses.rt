@@ -15,7 +15,7 @@ use crate::text_words::{TextWords, words};
 use crate::words::without_blanks;
 use kmn_base::keys::{EITHER_ALT, EITHER_CONTROL, LEFT_ALT, LEFT_CONTROL, NO_CAPS};
 use kmn_base::{Code, Event, KeyPress};
-use virtual_keys::{KeyDictionary, key_named, modifier_named};
+use rule_model::{KeyDictionary, key_named, modifier_named};
 
 /// The bit that a shift flag has in a press.
 fn held_bit(flag: u16) -> Option<u16>

@@ -12,8 +12,8 @@ use crate::host_lines::{LinePart, line_part};
 use crate::{ScriptError, first_line, refused, script_text};
 use kmn_base::limits::FIELDS;
 use kmn_base::{Code, Seq};
+use rule_model::KeyDictionary;
 use std::alloc::Global;
-use virtual_keys::KeyDictionary;
 
 /// What was read of a script so far: the entries, how many events and previews are among them, and how many fields are open
 /// behind them.

@@ -6,11 +6,11 @@ use Rattle.std.specs.Prelude.{◌&&◌, if◌then◌else◌, length, slice_get, 
 use Rattle.std.specs.Option.{option_flatten}
 use Rattle.kmn_base.specs.declared.items.Element.{Element}
 use Rattle.kmn_base.specs.declared.items.Element.TheVariants as element
-use Rattle.option_store.specs.declared.options.Cell.{Cell}
-use Rattle.option_store.specs.declared.options.Held.{Held}
-use Rattle.option_store.specs.declared.options.Held.TheVariants.{Store, Host}
-use Rattle.option_store.specs.Cells.{cell_at, current_value, held_value, saved_value}
-use Rattle.option_store.specs.Meaning.{option_values, stated}
+use Rattle.engine_state.specs.declared.options.Cell.{Cell}
+use Rattle.engine_state.specs.declared.options.Held.{Held}
+use Rattle.engine_state.specs.declared.options.Held.TheVariants.{Store, Host}
+use Rattle.engine_state.specs.Cells.{cell_at, current_value, held_value, saved_value}
+use Rattle.engine_state.specs.Meaning.{option_values, stated}
 use Rattle.rule_model.specs.declared.tables.Tables.{Tables}
 use Rattle.rule_model.specs.Content.{content, option_number, options_before}
 use Rattle.rule_model.specs.Keyboard.{Numbered, StoreMeaning}

@@ -10,3 +10,6 @@ pub mod Rooms
 pub mod Stepping
 mod CaretMoves
 pub mod Places
+pub mod Alone
+mod Errors
+mod Fields

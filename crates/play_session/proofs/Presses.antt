@@ -9,7 +9,7 @@ use Rattle.kmn_base.specs.Lists.{characters, without_last, window, IsSound, read
 use Rattle.rule_model.specs.declared.event_state.EventState.{EventState}
 use Rattle.rule_model.specs.ChosenLines.{chosen, lines_of_press}
 use Rattle.rule_model.specs.KeyEvent.{begin_event, after_key, outcome_of, inserted}
-use Rattle.virtual_keys.specs.Fits.{is_plain}
+use Rattle.rule_model.specs.Fits.{is_plain}
 use Rattle.rule_model.specs.Event.{State, text_becomes, editor_left, editor_right, by_editor}
 use Rattle.rule_model.specs.Tab.{tab}
 use Rattle.rule_model.specs.Trace.{first_state}

@@ -10,7 +10,7 @@ use Rattle.kmn_base.specs.declared.items.Element.TheVariants as element
 use Rattle.kmn_base.specs.declared.events.Event.{Event}
 use Rattle.kmn_base.specs.declared.events.Event.TheVariants as event
 use Rattle.kmn_base.specs.declared.keys.KeyPress.{KeyPress}
-use Rattle.virtual_keys.specs.Fits.{is_plain}
+use Rattle.rule_model.specs.Fits.{is_plain}
 use Rattle.rule_model.specs.declared.event_state.EventState.{EventState}
 use Rattle.rule_model.specs.declared.tables.Tables.{Tables}
 use Rattle.rule_model.specs.Content.{option_number}

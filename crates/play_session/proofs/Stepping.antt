@@ -5,7 +5,7 @@ use Rattle.rule_model.specs.declared.tables.Tables.{Tables}
 use Rattle.rule_model.specs.Act.{one_more}
 use Rattle.rule_model.specs.ChosenLines.{chosen}
 use Rattle.rule_model.specs.Tab.{tab}
-use Rattle.option_store.specs.declared.options.Cell.{Cell}
+use Rattle.engine_state.specs.declared.options.Cell.{Cell}
 use Rattle.rule_engine.specs.Engine.{EngineState}
 use Rattle.play_session.specs.Text.{EditorText}
 use Rattle.play_session.specs.declared.changes.Change.{Change}

@@ -5,3 +5,5 @@ pub mod Printed
 pub mod Session
 pub mod EditAnswers
 pub mod Text
+pub mod Alone
+pub mod Host

@@ -1,7 +1,7 @@
 -- What contracts see of an editor, and what a passed key makes of its text.
 use Rattle.std.specs.Prelude.{◌≡◌, ℕ, List, ◌++◌, take, drop, if◌then◌else◌}
 use Rattle.kmn_base.specs.declared.keys.KeyPress.{KeyPress}
-use Rattle.virtual_keys.specs.Fits.{is_plain}
+use Rattle.rule_model.specs.Fits.{is_plain}
 use Rattle.rule_model.specs.Event.{editor_left, editor_right}
 
 -- the text before the caret, the text after it, and for how many more characters there is room

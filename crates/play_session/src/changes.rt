@@ -1,6 +1,6 @@
 ghost use Rattle.std.specs.Prelude.{◌≡◌, ◌+◌, ◌*◌, ◌<◌, ◌≤◌, [], ◌++◌, length, Some, option_map, vec_len, vec_capacity};
-ghost use Rattle.option_store.specs.Cells.{current_value, saved_value};
-ghost use Rattle.option_store.specs.Meaning.{stated};
+ghost use Rattle.engine_state.specs.Cells.{current_value, saved_value};
+ghost use Rattle.engine_state.specs.Meaning.{stated};
 ghost use Rattle.rule_model.specs.Content.{option_number};
 ghost use Rattle.rule_model.specs.Keyboard.{Numbered};
 ghost use Rattle.rule_model.specs.Match.{same_value};
@@ -8,7 +8,7 @@ ghost use Rattle.rule_model.specs.Tab.{tab};
 ghost use Rattle.rule_matching.specs.StoreValues.{elements_in};
 ghost use Rattle.play_session.specs.Changes.{option_stores, are_of_one_store, current_at, saved_at, is_newly_saved, current_change, saved_change, changes_between, values_in, values_now};
 
-use option_store::{Cell, Held};
+use engine_state::{Cell, Held};
 use rule_engine::{Engine, StoreValue};
 
 /// An option value that a step changed: the current or the saved value of a store.

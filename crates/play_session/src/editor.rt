@@ -7,11 +7,10 @@ ghost use Rattle.play_session.specs.EditAnswers.{caret_refusal, IsAnswerTo, Beco
 use crate::error::EditError;
 use kmn_base::limits::TEXT_CHARS;
 use kmn_base::{KeyPress, Memory};
-use rule_model::moved_caret;
+use rule_model::codes::{K_DEL, K_END, K_ENTER, K_HOME, K_LEFT, K_RIGHT, K_TAB};
+use rule_model::{is_plain, moved_caret};
 use std::alloc::Global;
 use std::marker::Model;
-use virtual_keys::codes::{K_DEL, K_END, K_ENTER, K_HOME, K_LEFT, K_RIGHT, K_TAB};
-use virtual_keys::is_plain;
 
 /// A text with a caret in it, and room at the caret.
 #[derive(Drop)]

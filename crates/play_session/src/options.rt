@@ -1,9 +1,9 @@
 ghost use Rattle.std.specs.Prelude.{◌≡◌, ◌<◌, ◌^◌, length, vec_len, IfOk};
-ghost use Rattle.option_store.specs.Cells.{cell_at};
+ghost use Rattle.engine_state.specs.Cells.{cell_at};
 ghost use Rattle.play_session.specs.Changes.{option_stores, values_in, values_now};
 
+use engine_state::{Cell, Options};
 use kmn_base::{Memory, Seq};
-use option_store::{Cell, Options};
 use rule_engine::Engine;
 use std::alloc::Global;
 

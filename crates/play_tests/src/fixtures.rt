@@ -1,13 +1,28 @@
-//! What several tests take: a keyboard, and copies of a text.
+//! What several tests take: a keyboard, a cache with a mark, and copies of a text.
 
-ghost use Rattle.std.specs.Prelude.{◌≡◌, ◌++◌, IfOk};
+ghost use Rattle.std.specs.Prelude.{◌≡◌, ◌∷◌, ◌++◌, [], IfOk};
 ghost use Rattle.std.specs.List.{repeat};
+ghost use Rattle.kmn_base.specs.declared.items.Item.TheVariants as item;
+ghost use Rattle.kmn_base.specs.declared.limits.TheConstants.{WINDOW_ITEMS};
 
+use engine_state::Cache;
+use kmn_base::Item::{Char, Mark};
+use kmn_base::Memory;
 use std::alloc::{AllocError, Global};
 
 /// A keyboard with an accent that waits for its vowel.
 pub const KEYBOARD: &[u8] =
     b"begin Unicode > use(main)\ngroup(main) using keys\n+ '`' > dk(g)\ndk(g) + 'a' > U+00E0\n";
+
+/// A character and a mark at the end of the text before the caret.
+pub fn marked(alloc: Global) -> Result<Cache, Memory>
+    ensures { IfOk result (λ cache. cache ≡ record { items = item.Char 97 ∷ item.Mark 1 ∷ []; room = WINDOW_ITEMS }) }
+{
+    let mut cache = Cache::with_room(alloc)?;
+    cache.put(Char('a'));
+    cache.put(Mark(1));
+    Ok(cache)
+}
 
 /// Appends so many copies of a text.
 pub fn put_copies(

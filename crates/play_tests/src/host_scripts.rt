@@ -3,10 +3,10 @@
 use crate::fixtures::put_copies;
 use kmn_base::{Event, Refusal};
 use play_script::{HostEntry, ScriptError, read_host};
+use rule_model::KeyDictionary;
 use source_tests::fixtures::parted;
 use std::alloc::Global;
 use std::test::Fail;
-use virtual_keys::KeyDictionary;
 
 /// A script in each row, and behind ` ⇒ ` its entries, each with its line, or the rule that it breaks. `¶` is a line feed. What
 /// stands between `|` are parts of the script, each once or as often as the number before its `×` says.

@@ -5,9 +5,9 @@ use kmn_base::limits::FIELDS;
 use kmn_base::{Event, KeyPress};
 use kmn_compiler::compile;
 use kmx_verifier::{Verified, verify};
+use play_session::{Host, HostError};
 use std::alloc::{AllocError, Global};
 use std::test::Fail;
-use text_host::{Host, HostError};
 
 /// The accent's key.
 const ACCENT: KeyPress = KeyPress { code: 192, mods: 0 };
@@ -57,13 +57,13 @@ fn inserts(
 ) -> Result<bool, HostError> {
     let preview = host.preview(alloc, field, press)?;
     let step = host.step(alloc, field, &Event::Key(press))?;
-    let inserted = host
-        .field(field)
-        .map(|session| session.inserted() == wanted);
+    let Some(session) = host.field(field) else {
+        return Ok(false);
+    };
     Ok(
         preview.outcome == step.outcome
             && preview.inserted.as_slice() == wanted
-            && inserted == Some(true),
+            && session.inserted() == wanted,
     )
 }
 
@@ -77,11 +77,16 @@ fn are_apart(alloc: Global, file: &Verified) -> Result<bool, HostError> {
     )
 }
 
+/// Whether all of it holds of a host over the keyboard of a file.
+fn is_right_over(alloc: Global, bytes: &[u8]) -> Result<bool, Fail> {
+    let file = verify(alloc, bytes)?;
+    Ok(has_two(alloc, &file)? && is_full(alloc, &file)? && are_apart(alloc, &file)?)
+}
+
 /// Whether all of it holds of a host over that keyboard.
 fn is_right(alloc: Global) -> Result<bool, Fail> {
     let compiled = compile(alloc, KEYBOARD, &[])?;
-    let file = verify(alloc, compiled.bytes.as_slice())?;
-    Ok(has_two(alloc, &file)? && is_full(alloc, &file)? && are_apart(alloc, &file)?)
+    is_right_over(alloc, compiled.bytes.as_slice())
 }
 
 #[test]

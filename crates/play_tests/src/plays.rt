@@ -6,11 +6,11 @@ use kmn_compiler::compile;
 use kmn_outside::MemorySink;
 use kmx_verifier::{Verified, verify};
 use play_script::read_host;
+use play_session::Host;
 use play_transcript::{PlayEnd, play_host};
+use rule_model::KeyDictionary;
 use std::alloc::Global;
 use std::test::Fail;
-use text_host::Host;
-use virtual_keys::KeyDictionary;
 
 /// A script, what its play prints, and how it ends. `¶` is a line feed.
 const PLAYS: &[(&str, &str, PlayEnd)] = &[
@@ -49,16 +49,21 @@ fn is_right(
     Ok(ended == end && out.written() == printed.as_bytes())
 }
 
-/// The first script whose play is another.
-fn wrong_play(alloc: Global) -> Result<Option<&'static str>, Fail> {
-    let compiled = compile(alloc, KEYBOARD, &[])?;
-    let file = verify(alloc, compiled.bytes.as_slice())?;
+/// The first script whose play with the keyboard of a file is another.
+fn wrong_over(alloc: Global, bytes: &[u8]) -> Result<Option<&'static str>, Fail> {
+    let file = verify(alloc, bytes)?;
     for &(script, printed, end) in PLAYS {
         if !is_right(alloc, &file, script, printed, end)? {
             return Ok(Some(script));
         }
     }
     Ok(None)
+}
+
+/// The first script whose play with that keyboard is another.
+fn wrong_play(alloc: Global) -> Result<Option<&'static str>, Fail> {
+    let compiled = compile(alloc, KEYBOARD, &[])?;
+    wrong_over(alloc, compiled.bytes.as_slice())
 }
 
 #[test]

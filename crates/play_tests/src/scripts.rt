@@ -6,11 +6,10 @@ use play_script::{
     ScriptError, end_line, expect_line, line_of, read_script, refused_event_line, text_line,
     value_line,
 };
-use rule_model::Entry;
+use rule_model::{Entry, KeyDictionary};
 use source_tests::fixtures::{is_refusal, parted};
 use std::alloc::{AllocError, Global};
 use std::test::Fail;
-use virtual_keys::KeyDictionary;
 
 /// A script in each row, and behind ` ⇒ ` its entries, each with its line, or the rule that it breaks. `¶` is a line feed, `␍` a
 /// carriage return, `␉` a tab, `⌖` U+FEFF, and a backquote the byte FF. A press has its code and its modifiers. The keyboard

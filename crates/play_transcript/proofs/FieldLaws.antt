@@ -22,8 +22,8 @@ use Rattle.play_transcript.specs.Playing.{happening_lines}
 use Rattle.play_transcript.specs.Printing.{AppendsBut, IsBegun}
 use Rattle.play_transcript.proofs.PlayingLaws.{step_of_stores, happened_prints}
 use Rattle.play_transcript.proofs.PrintingLaws.{begun_within}
-use Rattle.text_host.specs.Host.{HostState, field_of, with_field}
-use Rattle.text_host.proofs.Alone.{acted}
+use Rattle.play_session.specs.Host.{HostState, field_of, with_field}
+use Rattle.play_session.proofs.Alone.{acted}
 use Rattle.play_transcript.specs.declared.host_playing.Play.{Play}
 use Rattle.play_transcript.specs.EachEntry.{AreSessions, told_lines, TellsOfStores, is_text_of}
 use Rattle.play_transcript.specs.HostText.{front, preview_line, event_text, preview_text, expect_text, text_or_refusal, event_lines, preview_lines, field_text, field_texts}

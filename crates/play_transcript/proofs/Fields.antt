@@ -14,9 +14,9 @@ use Rattle.rule_model.specs.declared.tables.Tables.{Tables}
 use Rattle.rule_model.specs.Event.{event_refusal, unless_refused, whole_text}
 use Rattle.rule_model.specs.Trace.{Step}
 use Rattle.play_session.specs.Session.{SessionState, first_session, happened, after_step}
-use Rattle.text_host.specs.Host.{HostState, field_of, with_field, with_new_field}
-use Rattle.text_host.specs.Alone.{HostCall, Opens, Turns, answer_to, gone_on, with_answer, answered_from, session_after, turned, after_calls}
-use Rattle.text_host.proofs.Alone.{steps_are_those_alone, fields_begin, fields_are_apart, opened, acted, others_stay}
+use Rattle.play_session.specs.Host.{HostState, field_of, with_field, with_new_field}
+use Rattle.play_session.specs.Alone.{HostCall, Opens, Turns, answer_to, gone_on, with_answer, answered_from, session_after, turned, after_calls}
+use Rattle.play_session.proofs.Alone.{steps_are_those_alone, fields_begin, fields_are_apart, opened, acted, others_stay}
 use Rattle.play_script.specs.declared.entries.HostEntry.{HostEntry}
 use Rattle.play_script.specs.declared.entries.HostEntry.TheVariants.{Open, Field, Preview, Act, Expect}
 use Rattle.play_transcript.specs.declared.host_playing.Play.{Play}

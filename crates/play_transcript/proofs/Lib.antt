@@ -4,3 +4,8 @@ pub mod EntryLaws
 pub mod FieldLaws
 pub mod Fields
 pub mod Pieces
+pub mod ChosenLines
+pub mod Examples
+pub mod KeyboardLines
+pub mod RisingLaws
+pub mod TraceLaws

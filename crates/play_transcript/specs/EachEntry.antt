@@ -8,7 +8,7 @@ use Rattle.play_session.specs.declared.session.Step.{Step}
 use Rattle.play_session.specs.Printed.{IsSession}
 use Rattle.play_session.specs.Session.{SessionState}
 use Rattle.play_transcript.specs.Playing.{happened_lines, AreOfStores}
-use Rattle.text_host.specs.Host.{HostState, HostRefusal, NoField, Full, Refused}
+use Rattle.play_session.specs.Host.{HostState, HostRefusal, NoField, Full, Refused}
 use Rattle.play_script.specs.declared.entries.HostEntry.{HostEntry}
 use Rattle.play_transcript.specs.declared.host_playing.Play.{Play}
 use Rattle.play_transcript.specs.declared.host_playing.Played.{Played}

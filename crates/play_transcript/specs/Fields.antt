@@ -5,8 +5,8 @@ use Rattle.rule_model.specs.declared.tables.Tables.{Tables}
 use Rattle.rule_model.specs.Tab.{tab}
 use Rattle.rule_model.specs.Trace.{trace}
 use Rattle.play_session.specs.Session.{SessionState, first_session}
-use Rattle.text_host.specs.Host.{field_of}
-use Rattle.text_host.specs.Alone.{HostCall, alone_from, session_after}
+use Rattle.play_session.specs.Host.{field_of}
+use Rattle.play_session.specs.Alone.{HostCall, alone_from, session_after}
 use Rattle.play_script.specs.declared.entries.HostEntry.{HostEntry}
 use Rattle.play_transcript.specs.HostPlaying.{first_play, after_entries}
 use Rattle.play_transcript.specs.HostCalls.{calls_of, calls_behind, steps_of}

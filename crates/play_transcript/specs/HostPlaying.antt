@@ -9,7 +9,7 @@ use Rattle.rule_model.specs.declared.tables.Tables.{Tables}
 use Rattle.rule_model.specs.Act.{one_more}
 use Rattle.rule_model.specs.Event.{whole_text, event_refusal}
 use Rattle.play_session.specs.Session.{SessionState, after_step}
-use Rattle.text_host.specs.Host.{first_host, field_of, with_field, with_new_field}
+use Rattle.play_session.specs.Host.{first_host, field_of, with_field, with_new_field}
 use Rattle.play_script.specs.declared.entries.HostEntry.{HostEntry}
 use Rattle.play_script.specs.declared.entries.HostEntry.TheVariants.{Open, Field, Preview, Act, Expect}
 use Rattle.play_transcript.specs.declared.host_playing.Play.{Play}

@@ -8,3 +8,7 @@ pub mod HostCalls
 pub mod HostPieces
 pub mod HostText
 pub mod HostPlaying
+pub mod TraceEntry
+pub mod RisingLines
+pub mod TraceEnds
+pub mod TraceText

@@ -3,7 +3,7 @@ ghost use Rattle.kmn_outside.specs.Outside.{WriteCounts};
 ghost use Rattle.kmn_base.specs.declared.events.Event.TheVariants as event;
 ghost use Rattle.play_transcript.specs.Ends.{end_after};
 ghost use Rattle.play_transcript.specs.Printing.{Prints};
-ghost use Rattle.text_host.specs.Host.{first_host, field_of, refusal_of};
+ghost use Rattle.play_session.specs.Host.{first_host, field_of, refusal_of};
 ghost use Rattle.play_transcript.specs.EachEntry.{AreSessions, Plays, PlaysBy, code_in, played_by, told_lines, TellsOfStores, is_text_of};
 ghost use Rattle.play_transcript.specs.HostText.{host_text, host_end, entry_lines, event_lines, preview_lines, expect_text, text_or_refusal, field_text, field_texts, end_lines};
 ghost use Rattle.play_transcript.specs.HostPlaying.{first_play, turned_to, refusal_in, opened, shown, stepped, compared};
@@ -13,9 +13,8 @@ use crate::{PlayEnd, end_after, is_text, put_all, put_step};
 use kmn_base::{Code, Event, KeyPress, Memory};
 use kmn_outside::{Sink, WriteError};
 use play_script::{HostEntry, end_line, expect_line, refused_event_line, text_line};
-use play_session::{Session, Step};
+use play_session::{Host, HostError, Session, Step};
 use std::alloc::Global;
-use text_host::{Host, HostError};
 
 /// A play of a script for many fields: its host, and what was counted.
 #[derive(Drop)]

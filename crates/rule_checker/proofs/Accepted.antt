@@ -9,7 +9,7 @@ use Rattle.kmn_names.specs.First.{or_else, broken, earlier, first_of}
 use Rattle.kmn_names.specs.Names.{stated, begin_refusal, store_refusal, group_refusal, rules_refusal, names_refusal}
 use Rattle.kmn_names.specs.Known.{known}
 use Rattle.item_checker.specs.Items.{items_refusal, store_refusal as items_store_refusal, rules_refusal as items_rules_refusal}
-use Rattle.limit_checker.specs.Limits.{limits_refusal}
+use Rattle.rule_checker.specs.Limits.{limits_refusal}
 use Rattle.rule_checker.specs.Refused.{has_no_start, start_refusal, refused}
 use Rattle.rule_checker.proofs.Unrefused.{none_both, none_earlier, none_at_line, none_broken}
 

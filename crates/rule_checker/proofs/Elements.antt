@@ -13,7 +13,7 @@ use Rattle.kmn_base.specs.declared.keys.TheConstants.{SHIFT_FLAGS}
 use Rattle.kmn_base.specs.declared.limits.TheConstants.{STORE_ELEMENTS}
 use Rattle.kmn_base.specs.Names.{same_name}
 use Rattle.kmn_base.specs.Spelling.{char_units, IsOperand, IsSpellable}
-use Rattle.virtual_keys.specs.Dictionary.{code_in}
+use Rattle.rule_model.specs.Dictionary.{code_in}
 use Rattle.rule_model.specs.declared.program.KeyName.{KeyName}
 use Rattle.rule_model.specs.declared.program.SrcItem.{SrcItem}
 use Rattle.rule_model.specs.declared.program.SrcItem.TheVariants as source
@@ -22,7 +22,7 @@ use Rattle.rule_model.specs.declared.program.Program.{Program}
 use Rattle.rule_model.specs.declared.tables.Store.{Store}
 use Rattle.rule_model.specs.Tab.{store_elements}
 use Rattle.rule_model.specs.Naming.{names_of, stores_of, stores_onto, store_of, is_dropped, rule_items, all_rules, mark_number, key_number, elements_named, item_elements}
-use Rattle.compile_laws.specs.Numbers.{item_values, values_of, value_store, dictionary_stores, compiled_stores}
+use Rattle.kmx_format.specs.Numbers.{item_values, values_of, value_store, dictionary_stores, compiled_stores}
 use Rattle.kmx_format.specs.FileUnits.{unit_item_of_element, name_units}
 use Rattle.kmx_format.specs.Writable.{IsWritableName, IsWritableStore}
 use Rattle.kmx_format.proofs.WritableParts.{writable_name}

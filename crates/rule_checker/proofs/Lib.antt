@@ -14,8 +14,16 @@ pub mod Contexts
 pub mod Outputs
 pub mod Halves
 pub mod Records
-pub mod Cased
+pub mod CasedPrograms
 pub mod RecordCounts
 pub mod Written
 pub mod Sources
 pub mod Placeless
+pub mod CasedCodes
+pub mod Counted
+pub mod FirstPassed
+pub mod Gathered
+pub mod JoinedCodes
+pub mod KnownValues
+pub mod SpelledTexts
+pub mod Walked

@@ -22,7 +22,7 @@ use Rattle.rule_model.specs.Hold.{key_of_element}
 use Rattle.rule_model.specs.Naming.{SourceNames, names_of, rule_items, stores_of, stores_onto, store_of, is_dropped, elements_named}
 use Rattle.rule_model.specs.Src.{is_unicode, is_plain, is_plain_kind, is_on_match, is_on_nomatch}
 use Rattle.rule_model.specs.Tab.{is_dictionary}
-use Rattle.compile_laws.specs.WellNamed.{IsWellNamed, is_known_start, is_known_pattern, is_known_output, is_known_key, is_known_rule, is_known_group, is_store, is_fixed, are_keys}
+use Rattle.kmx_format.specs.WellNamed.{IsWellNamed, is_known_start, is_known_pattern, is_known_output, is_known_key, is_known_rule, is_known_group, is_store, is_fixed, are_keys}
 use Rattle.kmn_parser.specs.SourceLaws.{has_own_lines}
 use Rattle.kmn_names.specs.First.{or_else, broken, first_code}
 use Rattle.kmn_names.specs.declared.stating.Stated.{Stated}

@@ -18,12 +18,12 @@ use Rattle.rule_model.specs.Content.{option_of, option_at, options_before}
 use Rattle.rule_model.specs.Naming.{stores_of, rule_items, all_rules}
 use Rattle.rule_model.specs.Src.{pattern_uses, output_uses, rule_uses, group_uses, numbers_named, src_options, is_plain, is_on_match, is_on_nomatch}
 use Rattle.rule_model.specs.Tab.{with_options}
-use Rattle.compile_laws.specs.WellNamed.{is_fixed}
-use Rattle.compile_laws.proofs.Options.{any_flat_map}
+use Rattle.kmx_format.specs.WellNamed.{is_fixed}
+use Rattle.kmx_format.proofs.Options.{any_flat_map}
 use Rattle.kmn_names.specs.Names.{is_named}
 use Rattle.kmn_names.specs.Known.{known, option_named, rule_options}
 use Rattle.item_checker.specs.Items.{is_option}
-use Rattle.virtual_keys.proofs.NamePlaces.{position_cons, some_place}
+use Rattle.rule_model.proofs.NamePlaces.{position_cons, some_place}
 
 -- of two tests the second holds wherever the first does
 abbrev Implies : Bool → Bool → Type 0

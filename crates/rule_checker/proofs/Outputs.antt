@@ -20,10 +20,10 @@ use Rattle.rule_model.specs.declared.tables.Out.{Out}
 use Rattle.rule_model.specs.declared.tables.Out.TheVariants as output
 use Rattle.rule_model.specs.Match.{element_at}
 use Rattle.rule_model.specs.Naming.{names_of, stores_of, elements_named, mark_number}
-use Rattle.compile_laws.specs.Numbers.{numbers_of, number_of_store, number_of_group, compiled_stores}
-use Rattle.compile_laws.specs.Compiles.{file_pattern, file_output, file_outputs, element_outs, element_outs_if_any, or_nul}
-use Rattle.compile_laws.specs.WellNamed.{is_store, is_group, is_fixed, is_known_output}
-use Rattle.compile_laws.proofs.Known.{has_values}
+use Rattle.kmx_format.specs.Numbers.{numbers_of, number_of_store, number_of_group, compiled_stores}
+use Rattle.kmx_format.specs.Compiles.{file_pattern, file_output, file_outputs, element_outs, element_outs_if_any, or_nul}
+use Rattle.kmx_format.specs.WellNamed.{is_store, is_group, is_fixed, is_known_output}
+use Rattle.kmx_format.proofs.Known.{has_values}
 use Rattle.kmx_format.specs.FileUnits.{unit_item_of_output}
 use Rattle.kmx_format.specs.Writable.{stores_of_output, groups_of_output, sets_system_id, is_any, PointsInto, needs_context, IsWritableOutput, IsWritableMatchOutput}
 use Rattle.rule_model.specs.Patterns.{is_matched}
@@ -31,7 +31,7 @@ use Rattle.kmn_parser.specs.ProgramLaws.{IsReadItem}
 use Rattle.kmn_names.specs.First.{first_code}
 use Rattle.kmn_names.specs.Known.{known}
 use Rattle.item_checker.specs.Items.{is_pattern_item, is_any_item, points_to, misses_pattern, misses_any, index_code, key_index_code, rule_output_code, match_output_code, offset_code}
-use Rattle.limit_checker.specs.Limits.{item_size, output_size}
+use Rattle.rule_checker.specs.Limits.{item_size, output_size}
 use Rattle.rule_checker.specs.Refused.{IsRead}
 use Rattle.rule_checker.proofs.Unrefused.{none_both, none_broken}
 use Rattle.rule_checker.proofs.Accepted.{IsUnrefused}

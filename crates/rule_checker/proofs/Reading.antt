@@ -18,8 +18,8 @@ use Rattle.rule_model.specs.declared.program.RuleKind.TheVariants as kind
 use Rattle.rule_model.specs.declared.program.GroupDef.{GroupDef}
 use Rattle.rule_model.specs.declared.program.Program.{Program}
 use Rattle.rule_model.specs.Naming.{names_of, rule_items, all_rules, store_items, stores_before, stores_after, items_from, source_items, key_names}
-use Rattle.compile_laws.specs.WellNamed.{is_word}
-use Rattle.compile_laws.specs.Numbers.{item_values}
+use Rattle.kmx_format.specs.WellNamed.{is_word}
+use Rattle.kmx_format.specs.Numbers.{item_values}
 use Rattle.kmn_parser.specs.ProgramLaws.{IsCharacter, IsName, IsOwnKey, IsReadItem, StandsAsKey, IsReadStore, IsReadRule, IsReadGroup, IsReadProgram}
 use Rattle.rule_checker.proofs.Lists.{all_pass, none_passes, All-flat_map, All-distinct}
 

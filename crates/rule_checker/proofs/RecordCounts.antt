@@ -9,8 +9,8 @@ use Rattle.kmn_base.specs.declared.items.Element.{Element}
 use Rattle.kmn_base.specs.declared.items.Element.TheVariants as element
 use Rattle.kmn_base.specs.declared.keys.RuleKey.{RuleKey}
 use Rattle.kmn_base.specs.declared.keys.RuleKey.TheVariants as key
-use Rattle.virtual_keys.specs.Fits.{has, caps, no_caps}
-use Rattle.virtual_keys.specs.Dictionary.{code_in}
+use Rattle.rule_model.specs.Fits.{has, caps, no_caps}
+use Rattle.rule_model.specs.Dictionary.{code_in}
 use Rattle.rule_model.specs.declared.program.KeyName.{KeyName}
 use Rattle.rule_model.specs.declared.program.SrcItem.{SrcItem}
 use Rattle.rule_model.specs.declared.program.SrcItem.TheVariants as source
@@ -23,16 +23,16 @@ use Rattle.rule_model.specs.declared.program.Program.{Program}
 use Rattle.rule_model.specs.Hold.{key_of_element, is_exchanged}
 use Rattle.rule_model.specs.Naming.{SourceNames, key_number, elements_named, all_rules as program_rules, stores_before, stores_after}
 use Rattle.rule_model.specs.Src.{is_plain, is_plain_kind}
-use Rattle.compile_laws.specs.Numbers.{Numbers, numbers_of}
-use Rattle.compile_laws.specs.Compiles.{has_halves, half_key, file_record, key_records, records_from, keyed_records, rule_records, file_group}
-use Rattle.compile_laws.specs.Ordered.{in_order, ordered_group, compiled_tables}
-use Rattle.compile_laws.proofs.Ordered.{in_order_permutes}
+use Rattle.kmx_format.specs.Numbers.{Numbers, numbers_of}
+use Rattle.kmx_format.specs.Compiles.{has_halves, half_key, file_record, key_records, records_from, keyed_records, rule_records, file_group}
+use Rattle.kmx_format.specs.Ordered.{in_order, ordered_group, compiled_tables}
+use Rattle.kmx_format.proofs.Ordered.{in_order_permutes}
 use Rattle.kmx_format.specs.File.{all_rules, rules_of}
 use Rattle.kmn_names.specs.Known.{Known, known}
-use Rattle.limit_checker.specs.Limits.{OfStore, OfRule, in_line_order, cased_codes, virtual_count, element_count, key_count, record_count, records_of_statement, all_records}
+use Rattle.rule_checker.specs.Limits.{OfStore, OfRule, in_line_order, cased_codes, virtual_count, element_count, key_count, record_count, records_of_statement, all_records}
 use Rattle.rule_checker.specs.Refused.{IsRead}
 use Rattle.rule_checker.proofs.Accepted.{IsUnrefused}
-use Rattle.rule_checker.proofs.Cased.{IsTableCode, cased_in_table, cased_counted, not_cased}
+use Rattle.rule_checker.proofs.CasedPrograms.{IsTableCode, cased_in_table, cased_counted, not_cased}
 
 -- a key has two records where it has halves, else one
 key_length : (numbers : Numbers) (rule : RuleDef) (place : Option ℕ) (wanted : RuleKey) → length (key_records numbers rule place wanted) ≡ (if has_halves numbers.cased wanted then 2 else 1)

@@ -23,12 +23,12 @@ use Rattle.rule_model.specs.declared.tables.Rule.{Rule}
 use Rattle.rule_model.specs.Hold.{key_of_element}
 use Rattle.rule_model.specs.Naming.{stores_of, elements_named, rule_items}
 use Rattle.rule_model.specs.Src.{is_plain, is_plain_kind, is_on_match, is_on_nomatch}
-use Rattle.compile_laws.specs.Numbers.{numbers_of, compiled_stores}
-use Rattle.compile_laws.specs.Compiles.{has_halves, half_key, file_record, key_records, records_from, own_key, keyed_records, rule_records, statement_outputs, file_group}
-use Rattle.compile_laws.specs.Ordered.{in_order, ordered_group}
-use Rattle.compile_laws.specs.WellNamed.{is_known_pattern, is_known_output, is_known_key, is_known_rule}
-use Rattle.compile_laws.proofs.Known.{has_values, match_kind, nomatch_kind}
-use Rattle.compile_laws.proofs.Ordered.{in_order_permutes}
+use Rattle.kmx_format.specs.Numbers.{numbers_of, compiled_stores}
+use Rattle.kmx_format.specs.Compiles.{has_halves, half_key, file_record, key_records, records_from, own_key, keyed_records, rule_records, statement_outputs, file_group}
+use Rattle.kmx_format.specs.Ordered.{in_order, ordered_group}
+use Rattle.kmx_format.specs.WellNamed.{is_known_pattern, is_known_output, is_known_key, is_known_rule}
+use Rattle.kmx_format.proofs.Known.{has_values, match_kind, nomatch_kind}
+use Rattle.kmx_format.proofs.Ordered.{in_order_permutes}
 use Rattle.kmx_format.specs.Writable.{IsWritableKey, IsWritableRule, IsWritableMatchOutput, IsWritableGroup}
 use Rattle.kmx_format.proofs.WritableParts.{no_output}
 use Rattle.kmn_parser.specs.ProgramLaws.{IsReadItem, IsReadRule, IsReadGroup, StandsAsKey}

@@ -6,7 +6,7 @@ use Rattle.kmn_names.specs.First.{or_else, or_refusal}
 use Rattle.kmn_names.specs.Names.{names_refusal}
 use Rattle.kmn_names.specs.Numbering.{NameLists, lists_of, numbered}
 use Rattle.item_checker.specs.Items.{items_refusal}
-use Rattle.limit_checker.specs.Limits.{limits_refusal}
+use Rattle.rule_checker.specs.Limits.{limits_refusal}
 use Rattle.rule_checker.specs.Refused.{refused, start_refusal}
 
 -- what is answered as a value isn't refused

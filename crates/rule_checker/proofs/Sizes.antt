@@ -20,14 +20,14 @@ use Rattle.rule_model.specs.declared.program.Program.{Program}
 use Rattle.rule_model.specs.declared.tables.Store.{Store}
 use Rattle.rule_model.specs.Tab.{distinct_onto, store_elements}
 use Rattle.rule_model.specs.Naming.{names_of, stores_of, stores_onto, store_of, is_dropped, rule_items, items_from, source_items, stores_before, stores_after, all_rules, key_names, elements_named, item_elements}
-use Rattle.compile_laws.specs.Numbers.{item_values, values_of, value_store, dictionary_stores, compiled_stores}
+use Rattle.kmx_format.specs.Numbers.{item_values, values_of, value_store, dictionary_stores, compiled_stores}
 use Rattle.kmn_parser.specs.ProgramLaws.{IsOwnKey}
 use Rattle.kmn_names.specs.First.{broken, first_code, first_of}
 use Rattle.kmn_names.specs.declared.stating.Stated.{Stated}
 use Rattle.kmn_names.specs.Names.{stated, is_named, kept_name, store_names, store_refusal, store_code, store_item_code, is_store_again, names_no_store, puts_later_store}
 use Rattle.kmn_names.specs.Known.{Known, known, brought, statement_elements}
-use Rattle.virtual_keys.proofs.NamePlaces.{some_place}
-use Rattle.limit_checker.specs.Limits.{Statement, OfStore, OfRule, in_line_order, items_of, values_of_statement, statement_size, store_size, names_size, dictionary_size, sizes}
+use Rattle.rule_model.proofs.NamePlaces.{some_place}
+use Rattle.rule_checker.specs.Limits.{Statement, OfStore, OfRule, in_line_order, items_of, values_of_statement, statement_size, store_size, names_size, dictionary_size, sizes}
 use Rattle.rule_checker.specs.Refused.{IsRead}
 use Rattle.rule_checker.proofs.Unrefused.{none_both, none_earlier, none_at_line, none_broken}
 use Rattle.rule_checker.proofs.Stated.{in_names}

@@ -22,12 +22,12 @@ use Rattle.rule_model.specs.declared.tables.Store.{Store}
 use Rattle.rule_model.specs.Src.{src}
 use Rattle.rule_model.specs.Tab.{distinct_onto}
 use Rattle.rule_model.specs.Naming.{names_of, stores_of, all_rules, stores_before, stores_after, mark_names, source_items}
-use Rattle.compile_laws.specs.Numbers.{compiled_stores, dictionary_stores, value_store, values_of}
+use Rattle.kmx_format.specs.Numbers.{compiled_stores, dictionary_stores, value_store, values_of}
 use Rattle.kmn_parser.specs.ProgramLaws.{IsOwnKey}
 use Rattle.kmn_names.specs.First.{broken, first_of}
 use Rattle.kmn_names.specs.Numbering.{lists_of}
 use Rattle.kmn_names.specs.Known.{Known, known}
-use Rattle.limit_checker.specs.Limits.{Statement, OfStore, OfRule, in_line_order, line_of, items_of, output_size, names_size, sizes, mark_count, all_records, is_long_context, is_long_output, have_many_elements, are_many_stores, have_many_marks, have_many_records, are_many_groups, limit_code, statement_refusal, group_refusal, limits_refusal}
+use Rattle.rule_checker.specs.Limits.{Statement, OfStore, OfRule, in_line_order, line_of, items_of, output_size, names_size, sizes, mark_count, all_records, is_long_context, is_long_output, have_many_elements, are_many_stores, have_many_marks, have_many_records, are_many_groups, limit_code, statement_refusal, group_refusal, limits_refusal}
 use Rattle.rule_checker.specs.Refused.{IsRead, refused}
 use Rattle.rule_checker.specs.Laws.{statements_of}
 use Rattle.rule_checker.proofs.Unrefused.{none_earlier, none_at_line, none_broken, none_first, Stands}

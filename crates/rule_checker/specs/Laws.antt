@@ -5,14 +5,14 @@ use Rattle.rule_model.specs.declared.tables.Store.{Store}
 use Rattle.rule_model.specs.declared.tables.Tables.{Tables}
 use Rattle.rule_model.specs.Naming.{all_rules}
 use Rattle.rule_model.specs.Src.{src}
-use Rattle.compile_laws.specs.Compiles.{Compiles}
-use Rattle.compile_laws.specs.Numbers.{compiled_stores}
-use Rattle.compile_laws.specs.WellNamed.{IsWellNamed}
+use Rattle.kmx_format.specs.Compiles.{Compiles}
+use Rattle.kmx_format.specs.Numbers.{compiled_stores}
+use Rattle.kmx_format.specs.WellNamed.{IsWellNamed}
 use Rattle.kmx_format.specs.File.{all_rules as records_of}
 use Rattle.kmx_format.specs.Writable.{IsWritable}
 use Rattle.kmn_names.specs.Known.{known}
 use Rattle.kmn_names.specs.Numbering.{lists_of}
-use Rattle.limit_checker.specs.Limits.{Statement, in_line_order, sizes, all_records}
+use Rattle.rule_checker.specs.Limits.{Statement, in_line_order, sizes, all_records}
 use Rattle.rule_checker.specs.Refused.{IsRead, refused}
 
 -- an accepted program is well named

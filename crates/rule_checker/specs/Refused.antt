@@ -13,7 +13,7 @@ use Rattle.kmn_names.specs.First.{or_else, broken, at_line, or_refusal}
 use Rattle.kmn_names.specs.Names.{names_refusal}
 use Rattle.kmn_names.specs.Numbering.{NameLists, lists_of}
 use Rattle.item_checker.specs.Items.{items_refusal}
-use Rattle.limit_checker.specs.Limits.{limits_refusal}
+use Rattle.rule_checker.specs.Limits.{limits_refusal}
 
 -- C01: there is no `begin Unicode`
 abbrev pub has_no_start : Program → Bool

@@ -5,13 +5,13 @@ ghost use Rattle.rule_model.specs.Src.{is_unicode};
 ghost use Rattle.kmn_names.specs.First.{or_else, or_refusal};
 ghost use Rattle.kmn_names.specs.Numbering.{lists_of};
 ghost use Rattle.item_checker.specs.Items.{items_refusal};
-ghost use Rattle.limit_checker.specs.Limits.{limits_refusal};
+ghost use Rattle.rule_checker.specs.Limits.{limits_refusal};
 ghost use Rattle.rule_checker.specs.Refused.{IsRead, refused, start_refusal};
 
+use crate::limits_refusal;
 use item_checker::items_refusal;
 use kmn_base::{Code, CompileError, Memory, Refusal};
 use kmn_names::{ProgramNames, number};
-use limit_checker::limits_refusal;
 use rule_model::{BeginDef, Program};
 use std::alloc::Global;
 use std::marker::Model;

@@ -16,13 +16,13 @@ use Rattle.rule_model.specs.Content.{option_number}
 use Rattle.rule_model.specs.Event.{State, set_option}
 use Rattle.rule_model.specs.Tab.{tab}
 use Rattle.rule_model.specs.Trace.{options_of, first_state}
-use Rattle.option_store.specs.declared.options.Cell.{Cell}
-use Rattle.option_store.specs.Cells.{first_cells, changed, host_cell, current_value, saved_value}
-use Rattle.option_store.specs.Meaning.{stated, option_values, option_saves, holding}
-use Rattle.option_store.proofs.FirstCells.{first_cells_count}
-use Rattle.option_store.proofs.Meaning.{calls_follow, first_option_values, first_option_saves}
-use Rattle.event_text.specs.Cached.{CacheValue}
-use Rattle.event_text.specs.Texts.{InsertedValue}
+use Rattle.engine_state.specs.declared.options.Cell.{Cell}
+use Rattle.engine_state.specs.Cells.{first_cells, changed, host_cell, current_value, saved_value}
+use Rattle.engine_state.specs.Meaning.{stated, option_values, option_saves, holding}
+use Rattle.engine_state.proofs.FirstCells.{first_cells_count}
+use Rattle.engine_state.proofs.Meaning.{calls_follow, first_option_values, first_option_saves}
+use Rattle.engine_state.specs.Cached.{CacheValue}
+use Rattle.engine_state.specs.Texts.{InsertedValue}
 use Rattle.rule_engine.specs.Engine.{EngineState, IsEngine, IsRunnable, IsAtWork, engine_with, first_engine, option_named, with_option, set_by_host}
 use Rattle.rule_engine.specs.Event.{HasPlaces, moment_with}
 use Rattle.rule_engine.proofs.OtherStores.{others_at_first}

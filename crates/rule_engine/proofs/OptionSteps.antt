@@ -7,10 +7,10 @@ use Rattle.rule_model.specs.Act.{one_more, set_current, save_current, reset_curr
 use Rattle.rule_model.specs.Content.{option_number, elements_at}
 use Rattle.rule_model.specs.Keyboard.{Numbered, StoreMeaning}
 use Rattle.rule_model.specs.Tab.{tab, elements_of}
-use Rattle.option_store.specs.declared.options.Cell.{Cell}
-use Rattle.option_store.specs.Cells.{changed, set_cell, save_cell, reset_cell}
-use Rattle.option_store.specs.Meaning.{with_values}
-use Rattle.option_store.proofs.Meaning.{calls_follow}
+use Rattle.engine_state.specs.declared.options.Cell.{Cell}
+use Rattle.engine_state.specs.Cells.{changed, set_cell, save_cell, reset_cell}
+use Rattle.engine_state.specs.Meaning.{with_values}
+use Rattle.engine_state.proofs.Meaning.{calls_follow}
 use Rattle.rule_engine.specs.Event.{EventValue, keyboard_of}
 use Rattle.rule_matching.proofs.StoreContents.{elements_meant}
 

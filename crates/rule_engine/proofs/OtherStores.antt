@@ -7,8 +7,8 @@ use Rattle.rule_model.specs.declared.tables.Tables.{Tables}
 use Rattle.rule_model.specs.Content.{option_number}
 use Rattle.rule_model.specs.Keyboard.{Numbered}
 use Rattle.rule_model.specs.Tab.{tab}
-use Rattle.option_store.specs.declared.options.Cell.{Cell}
-use Rattle.option_store.specs.Cells.{cell_at, changed, first_cell, first_cells}
+use Rattle.engine_state.specs.declared.options.Cell.{Cell}
+use Rattle.engine_state.specs.Cells.{cell_at, changed, first_cell, first_cells}
 use Rattle.rule_engine.specs.Event.{OthersHoldThemselves}
 
 -- where a cell is changed another one stays

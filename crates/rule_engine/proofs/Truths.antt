@@ -15,11 +15,11 @@ use Rattle.rule_model.specs.Plain.{option_names}
 use Rattle.rule_model.specs.System.{has_words}
 use Rattle.rule_model.specs.Tab.{tab, tab_options, with_options}
 use Rattle.rule_model.proofs.SystemOptions.{platform_numbered, content_by_option}
-use Rattle.option_store.specs.declared.options.Cell.{Cell}
-use Rattle.option_store.specs.Cells.{cell_at, changed, current_value, first_cell, first_cells, host_cell, save_cell}
-use Rattle.option_store.specs.Meaning.{option_values, stated}
-use Rattle.option_store.proofs.FirstCells.{first_cells_count}
-use Rattle.option_store.proofs.Meaning.{option_value_found, stated_at}
+use Rattle.engine_state.specs.declared.options.Cell.{Cell}
+use Rattle.engine_state.specs.Cells.{cell_at, changed, current_value, first_cell, first_cells, host_cell, save_cell}
+use Rattle.engine_state.specs.Meaning.{option_values, stated}
+use Rattle.engine_state.proofs.FirstCells.{first_cells_count}
+use Rattle.engine_state.proofs.Meaning.{option_value_found, stated_at}
 use Rattle.rule_matching.specs.Moment.{content_at, truths_at}
 use Rattle.rule_engine.specs.Event.{CanAct, moment_with}
 use Rattle.rule_index.proofs.StoreIndexes.{count_of_all}

@@ -15,11 +15,11 @@ use Rattle.rule_model.specs.KeyEvent.{begin_event, after_key, outcome_of, insert
 use Rattle.rule_model.specs.ChosenLines.{lines_of_press}
 use Rattle.rule_model.specs.Tab.{tab}
 use Rattle.rule_model.specs.Trace.{options_of, first_state}
-use Rattle.option_store.specs.declared.options.Cell.{Cell}
-use Rattle.option_store.specs.Meaning.{option_values, option_saves}
+use Rattle.engine_state.specs.declared.options.Cell.{Cell}
+use Rattle.engine_state.specs.Meaning.{option_values, option_saves}
 use Rattle.rule_index.specs.Stores.{HaveFewElements}
-use Rattle.event_text.specs.Cached.{CacheValue}
-use Rattle.event_text.specs.Texts.{InsertedValue}
+use Rattle.engine_state.specs.Cached.{CacheValue}
+use Rattle.engine_state.specs.Texts.{InsertedValue}
 use Rattle.rule_matching.specs.Moment.{truths_at}
 use Rattle.rule_engine.specs.Event.{HasPlaces, HasRoom, HasShortContexts, HaveFewRecords, OthersHoldThemselves, PlatformStays, moment_with}
 

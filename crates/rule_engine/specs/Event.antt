@@ -14,11 +14,11 @@ use Rattle.rule_model.specs.Act.{content_now}
 use Rattle.rule_model.specs.Enter.{enter_group}
 use Rattle.rule_model.specs.ChosenLines.{Adding, add_lines}
 use Rattle.rule_model.specs.Tab.{tab}
-use Rattle.option_store.specs.declared.options.Cell.{Cell}
-use Rattle.option_store.specs.Cells.{cell_at, first_cell}
-use Rattle.option_store.specs.Meaning.{option_values}
-use Rattle.event_text.specs.Cached.{CacheValue}
-use Rattle.event_text.specs.Texts.{InsertedValue}
+use Rattle.engine_state.specs.declared.options.Cell.{Cell}
+use Rattle.engine_state.specs.Cells.{cell_at, first_cell}
+use Rattle.engine_state.specs.Meaning.{option_values}
+use Rattle.engine_state.specs.Cached.{CacheValue}
+use Rattle.engine_state.specs.Texts.{InsertedValue}
 use Rattle.rule_matching.specs.Moment.{MomentValue, AreShort, truths_at}
 use Rattle.rule_engine.specs.declared.entering.Entering.{Entering}
 

@@ -1,13 +1,13 @@
 ghost use Rattle.std.specs.Prelude.{◌≡◌, map};
-ghost use Rattle.virtual_keys.specs.Dictionary.{name_chars};
-ghost use Rattle.virtual_keys.specs.Fits.{char_of_press};
+ghost use Rattle.rule_model.specs.Dictionary.{name_chars};
+ghost use Rattle.rule_model.specs.Fits.{char_of_press};
 ghost use Rattle.rule_model.specs.Act.{put_items};
 ghost use Rattle.rule_model.specs.Enter.{put_press, put_named, by_default};
 ghost use Rattle.rule_engine.specs.Event.{keyboard_of};
 
 use crate::event::PressEvent;
 use kmn_base::{Item, KeyPress};
-use virtual_keys::{char_of, named_chars};
+use rule_model::{char_of, named_chars};
 
 /// A press that is no key of the dictionary puts the character that it gives.
 fn put_press(press: KeyPress, event: &mut PressEvent)

@@ -1,8 +1,8 @@
 ghost use Rattle.std.specs.Prelude.{◌≡◌, ◌<◌, ◌≤◌, ◌+◌, ◌^◌, length, option_map, vec_capacity, IfOk, MatchResult, is_some};
 ghost use Rattle.kmn_base.specs.declared.limits.TheConstants.{EVENT_ENTRIES, EVENT_PUTS, STORES};
 ghost use Rattle.kmx_format.specs.TablesOf.{tables_of};
-ghost use Rattle.option_store.specs.Cells.{held_value};
-ghost use Rattle.option_store.specs.Meaning.{stated, option_values, option_saves};
+ghost use Rattle.engine_state.specs.Cells.{held_value};
+ghost use Rattle.engine_state.specs.Meaning.{stated, option_values, option_saves};
 ghost use Rattle.rule_model.specs.Content.{content};
 ghost use Rattle.rule_model.specs.Keyboard.{Numbered};
 ghost use Rattle.rule_model.specs.Plain.{option_numbers};
@@ -16,17 +16,17 @@ use crate::entering::press;
 use crate::event::{AfterPress, PressEvent};
 use crate::naming::{name_of, store_named};
 use crate::workspace::Workspace;
+use engine_state::{Held, Options};
 use kmn_base::{Item, KeyPress, Memory, Outcome, Seq, Text};
 use kmx_parts::FileTables;
 use kmx_verifier::Verified;
-use option_store::{Held, Options};
 use rule_index::IndexedKeyboard;
 use rule_matching::StoreValue;
+use rule_model::KeyDictionary;
 use std::alloc::Global;
 use std::marker::Model;
 use std::mem;
 use std::sync::Arc;
-use virtual_keys::KeyDictionary;
 
 /// A keyboard at work: a file with what is looked up in it, which the engines on the file share, and what an event works on.
 pub struct Engine<'a> {

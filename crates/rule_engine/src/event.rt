@@ -2,7 +2,7 @@ ghost use Rattle.std.specs.Prelude.{◌≡◌, ◌≤◌, ◌<◌, ◌+◌, ◌^
 ghost use Rattle.std.specs.List.{Contains};
 ghost use Rattle.kmn_base.specs.declared.limits.TheConstants.{EVENT_ENTRIES, EVENT_PUTS, WINDOW_ITEMS};
 ghost use Rattle.kmn_base.specs.Lists.{characters, window, without_last, read_again};
-ghost use Rattle.option_store.specs.Meaning.{option_values, option_saves};
+ghost use Rattle.engine_state.specs.Meaning.{option_values, option_saves};
 ghost use Rattle.rule_model.specs.Act.{one_more, put_item, set_current, save_current, reset_current};
 ghost use Rattle.rule_model.specs.Content.{option_number, elements_at};
 ghost use Rattle.rule_model.specs.Enter.{chosen_in, delete_or_pass};
@@ -15,16 +15,15 @@ ghost use Rattle.rule_matching.specs.PlaceMemory.{rooms};
 ghost use Rattle.rule_engine.specs.Event.{CanAct, HasRoom, HasShortContexts, PlatformStays, keyboard_of, moment_of};
 
 use crate::workspace::Workspace;
-use event_text::Left;
+use engine_state::{Left, Options};
 use kmn_base::limits::EVENT_PUTS;
 use kmn_base::{Item, KeyPress, Outcome};
 use kmx_parts::{FileGroup, FileRule};
-use option_store::Options;
 use rule_index::{IndexedKeyboard, RuleIndex};
 use rule_matching::{EnteredGroup, MatchedItems, Moment, PlaceMemory, first_held};
+use rule_model::codes::K_BKSP;
+use rule_model::is_plain;
 use std::marker::Model;
-use virtual_keys::codes::K_BKSP;
-use virtual_keys::is_plain;
 
 /// What one key press acts on. Nothing of it takes memory.
 #[derive(Drop)]
@@ -52,7 +51,7 @@ pub struct AfterPress {
 
 impl<'a> Model for PressEvent<'a> {
     ghost use Rattle.std.specs.Prelude.{[], vec_capacity};
-    ghost use Rattle.option_store.specs.Meaning.{with_values};
+    ghost use Rattle.engine_state.specs.Meaning.{with_values};
     ghost use Rattle.rule_model.specs.Tab.{tab};
     ghost use Rattle.rule_matching.specs.PlaceMemory.{rooms};
     ghost use Rattle.rule_engine.specs.Event.{CanAct, EventValue, HasNoted};

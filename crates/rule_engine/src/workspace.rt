@@ -1,15 +1,14 @@
 ghost use Rattle.std.specs.Prelude.{◌≡◌, ◌≤◌, ◌<◌, ◌+◌, [], length, vec_capacity, IfOk, MatchResult};
 ghost use Rattle.kmn_base.specs.declared.limits.TheConstants.{EVENT_ENTRIES, EVENT_PUTS, STORES, WINDOW_ITEMS};
-ghost use Rattle.option_store.specs.Cells.{changed, first_cells, host_cell};
+ghost use Rattle.engine_state.specs.Cells.{changed, first_cells, host_cell};
 ghost use Rattle.rule_model.specs.Tab.{tab};
 ghost use Rattle.rule_matching.specs.Moment.{truths_at};
 ghost use Rattle.rule_matching.specs.PlaceMemory.{rooms};
 ghost use Rattle.rule_engine.specs.Event.{moment_with};
 
-use event_text::{Cache, Inserted};
+use engine_state::{Cache, Inserted, Options};
 use kmn_base::Memory;
 use kmn_base::limits::EVENT_ENTRIES;
-use option_store::Options;
 use rule_index::IndexedKeyboard;
 use rule_matching::{PlaceMemory, StoreValue};
 use std::alloc::Global;

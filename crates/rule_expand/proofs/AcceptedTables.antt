@@ -20,7 +20,7 @@ use Rattle.rule_model.specs.declared.program.Program.{Program}
 use Rattle.rule_model.specs.declared.tables.Store.{Store}
 use Rattle.rule_model.specs.Naming.{names_of, stores_of, elements_named}
 use Rattle.rule_model.specs.Tab.{store_elements}
-use Rattle.compile_laws.specs.Numbers.{dictionary_stores, value_store, values_of}
+use Rattle.kmx_format.specs.Numbers.{dictionary_stores, value_store, values_of}
 use Rattle.kmn_names.specs.First.{or_else, first_code}
 use Rattle.kmn_names.specs.Known.{known}
 use Rattle.item_checker.specs.Items.{is_option, is_far, is_unfit_key, are_unfit_keys, key_code, context_code, rule_output_code, rule_code, rule_refusal, rules_refusal}

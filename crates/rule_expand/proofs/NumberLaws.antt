@@ -4,15 +4,15 @@ use Rattle.std.specs.Prelude.{position, option_map, unwrap_or, find}
 use Rattle.std.specs.Str.{bytes_eq}
 use Rattle.std.proofs.lemmas.Bool.Decides.{nat_tests}
 use Rattle.kmn_base.specs.Names.{same_name}
-use Rattle.virtual_keys.specs.Dictionary.{place_in}
+use Rattle.rule_model.specs.Dictionary.{place_in}
 use Rattle.rule_model.specs.declared.tables.Store.{Store}
 use Rattle.rule_model.specs.Naming.{mark_number, elements_named}
 use Rattle.rule_model.specs.Tab.{store_elements}
 use Rattle.kmn_names.specs.Numbering.{NameLists, below, number_in, mark_in}
-use Rattle.virtual_keys.proofs.NamePlaces.{same_either_way}
-use Rattle.compile_laws.proofs.Places.{first_place}
-use Rattle.virtual_keys.proofs.NamePlaces.{position_cons}
-use Rattle.virtual_keys.proofs.PositionLemmas.{position-map}
+use Rattle.rule_model.proofs.NamePlaces.{same_either_way}
+use Rattle.kmx_format.proofs.PlacedItems.{first_place}
+use Rattle.rule_model.proofs.NamePlaces.{position_cons}
+use Rattle.rule_model.proofs.PositionLemmas.{position-map}
 use Rattle.rule_expand.specs.Lookups.{source_names, AreFew, store_names, BeginWith, place_of_store, elements_at}
 
 below_limit : (limit k : ℕ) → k < limit → (if nat_lt k limit then Some k else None) ≡ Some k

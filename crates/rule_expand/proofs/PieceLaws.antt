@@ -11,8 +11,8 @@ use Rattle.rule_model.specs.declared.tables.Out.TheVariants as output
 use Rattle.rule_model.specs.declared.tables.Store.{Store}
 use Rattle.rule_model.specs.Match.{element_at}
 use Rattle.rule_model.specs.Naming.{elements_named}
-use Rattle.compile_laws.specs.Numbers.{Numbers, number_of_store}
-use Rattle.compile_laws.specs.Compiles.{element_outs, element_outs_if_any, file_output, file_outputs, or_nul}
+use Rattle.kmx_format.specs.Numbers.{Numbers, number_of_store}
+use Rattle.kmx_format.specs.Compiles.{element_outs, element_outs_if_any, file_output, file_outputs, or_nul}
 use Rattle.rule_expand.specs.declared.pieces.Piece.{Piece}
 use Rattle.rule_expand.specs.declared.pieces.Piece.TheVariants.{Fixed, AtKey}
 use Rattle.rule_expand.specs.Lookups.{place_of_store, elements_at}

@@ -17,8 +17,8 @@ use Rattle.rule_model.specs.declared.tables.Store.{Store}
 use Rattle.rule_model.specs.Hold.{key_of_element}
 use Rattle.rule_model.specs.Naming.{elements_named}
 use Rattle.rule_model.specs.Src.{is_plain}
-use Rattle.compile_laws.specs.Numbers.{Numbers}
-use Rattle.compile_laws.specs.Compiles.{has_halves, half_key, file_record, key_records, records_from, own_key, keyed_records, rule_records}
+use Rattle.kmx_format.specs.Numbers.{Numbers}
+use Rattle.kmx_format.specs.Compiles.{has_halves, half_key, file_record, key_records, records_from, own_key, keyed_records, rule_records}
 use Rattle.item_checker.proofs.FoundKeys.{passes_at}
 use Rattle.rule_expand.specs.Groups.{is_unit_element, are_unit_elements, has_unit_key, have_unit_keys, plain_records}
 use Rattle.rule_expand.specs.Pieces.{template_of, template_record, template_halves, template_records, template_keyed}

@@ -6,8 +6,8 @@ use Rattle.std.proofs.lemmas.Bool.Decides.{nat_tests}
 use Rattle.std.proofs.lemmas.List.{drop_more, take_all, take_more, length-take, map-append}
 use Rattle.std.proofs.lemmas.Option.{slice_get_within, get_or_from_slice_get, none-some}
 use Rattle.kmn_base.proofs.DecodedTexts.{decoded_text}
-use Rattle.virtual_keys.specs.Dictionary.{name_in}
-use Rattle.virtual_keys.proofs.NamePlaces.{past, name_read}
+use Rattle.rule_model.specs.Dictionary.{name_in}
+use Rattle.rule_model.proofs.NamePlaces.{past, name_read}
 use Rattle.kmn_base.specs.Texts.{decoded}
 use Rattle.rule_model.specs.declared.program.StoreDef.{StoreDef}
 use Rattle.rule_model.specs.declared.tables.Store.{Store}
@@ -15,9 +15,9 @@ use Rattle.rule_model.specs.Naming.{SourceNames, is_dropped, store_of, stores_on
 use Rattle.kmn_names.specs.Names.{store_names as kept_names}
 use Rattle.kmn_names.proofs.Naming.{names_onto}
 use Rattle.rule_model.specs.Src.{value_elements}
-use Rattle.compile_laws.specs.Numbers.{dictionary_stores, value_store}
-use Rattle.compile_laws.specs.WellNamed.{is_word}
-use Rattle.compile_laws.proofs.Dictionary.{joined_text}
+use Rattle.kmx_format.specs.Numbers.{dictionary_stores, value_store}
+use Rattle.kmx_format.specs.WellNamed.{is_word}
+use Rattle.kmx_format.proofs.Dictionary.{joined_text}
 use Rattle.rule_expand.specs.Lookups.{store_names, BeginWith}
 
 -- one store statement more

@@ -10,7 +10,7 @@ use Rattle.rule_model.specs.declared.tables.Store.{Store}
 use Rattle.rule_model.specs.Naming.{SourceNames, names_of, is_dropped, store_of, stores_of, stores_onto}
 use Rattle.rule_model.specs.Tab.{store_elements}
 use Rattle.kmn_names.specs.Numbering.{NameLists, lists_of}
-use Rattle.virtual_keys.proofs.NamePlaces.{position_cons}
+use Rattle.rule_model.proofs.NamePlaces.{position_cons}
 use Rattle.rule_expand.specs.Expanded.{HasTables}
 use Rattle.rule_expand.specs.Lookups.{source_names, BeginWith}
 use Rattle.rule_expand.specs.Stated.{is_of, states}

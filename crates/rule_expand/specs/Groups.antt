@@ -11,8 +11,8 @@ use Rattle.rule_model.specs.declared.tables.Rule.{Rule}
 use Rattle.rule_model.specs.declared.tables.Store.{Store}
 use Rattle.rule_model.specs.Naming.{elements_named}
 use Rattle.rule_model.specs.Src.{is_plain}
-use Rattle.compile_laws.specs.Numbers.{Numbers}
-use Rattle.compile_laws.specs.Compiles.{rule_records}
+use Rattle.kmx_format.specs.Numbers.{Numbers}
+use Rattle.kmx_format.specs.Compiles.{rule_records}
 
 -- a character of one UTF-16 unit
 abbrev pub is_unit : ℕ → Bool

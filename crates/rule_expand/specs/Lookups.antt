@@ -7,7 +7,7 @@ use Rattle.rule_model.specs.declared.tables.Store.{Store}
 use Rattle.rule_model.specs.Naming.{SourceNames}
 use Rattle.rule_model.specs.Tab.{elements_of}
 use Rattle.kmn_names.specs.Numbering.{NameLists}
-use Rattle.compile_laws.specs.Numbers.{Numbers}
+use Rattle.kmx_format.specs.Numbers.{Numbers}
 use Rattle.rule_expand.specs.CasedCodes.{HasCodes}
 
 -- the names of deadkeys and keys

@@ -13,8 +13,8 @@ use Rattle.rule_model.specs.declared.tables.Store.{Store}
 use Rattle.rule_model.specs.Match.{element_at}
 use Rattle.rule_model.specs.Hold.{key_of_element}
 use Rattle.rule_model.specs.Naming.{mark_number, elements_named}
-use Rattle.compile_laws.specs.Numbers.{Numbers, number_of_store, number_of_group, number_of_value}
-use Rattle.compile_laws.specs.Compiles.{element_outs, element_outs_if_any, file_pattern, or_nul, has_halves, half_key, own_key}
+use Rattle.kmx_format.specs.Numbers.{Numbers, number_of_store, number_of_group, number_of_value}
+use Rattle.kmx_format.specs.Compiles.{element_outs, element_outs_if_any, file_pattern, or_nul, has_halves, half_key, own_key}
 use Rattle.rule_expand.specs.declared.pieces.Piece.{Piece}
 use Rattle.rule_expand.specs.declared.pieces.Piece.TheVariants.{Fixed, AtKey}
 use Rattle.rule_expand.specs.declared.records.Template.{Template}

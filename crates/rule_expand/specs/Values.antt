@@ -3,7 +3,7 @@ use Rattle.std.specs.Prelude.{ℕ, List, [], ◌∷◌}
 use Rattle.std.specs.Str.{bytes_eq}
 use Rattle.rule_model.specs.declared.program.SrcItem.{SrcItem}
 use Rattle.rule_model.specs.Tab.{distinct_onto}
-use Rattle.compile_laws.specs.Numbers.{item_values}
+use Rattle.kmx_format.specs.Numbers.{item_values}
 
 -- values, with those of further items, each put where it isn't among them
 abbrev pub with_values : List (List ℕ) → List SrcItem → List (List ℕ)

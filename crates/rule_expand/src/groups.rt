@@ -3,7 +3,7 @@
 ghost use Rattle.std.specs.Prelude.{◌≡◌, ◌++◌, true, None, map, flat_map, filter, find, option_copied, IfOk, OnOk};
 ghost use Rattle.std.specs.List.{list_all};
 ghost use Rattle.rule_model.specs.Src.{is_plain, is_on_match, is_on_nomatch};
-ghost use Rattle.compile_laws.specs.Compiles.{file_outputs, statement_outputs, rule_records, file_group};
+ghost use Rattle.kmx_format.specs.Compiles.{file_outputs, statement_outputs, rule_records, file_group};
 ghost use Rattle.rule_expand.specs.Groups.{has_unit_key, have_unit_keys, plain_records};
 
 use crate::lookups::Lookups;

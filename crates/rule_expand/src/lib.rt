@@ -1,8 +1,7 @@
 //! The tables of an accepted program, each group with the records of its rules in their order.
 //!
 //! It stands on `rule_checker` for programs that aren't refused and the laws of them, on `kmn_names` for the numbers of names, on
-//! `compile_laws` for the tables that a program compiles to, on `kmx_format` for the versions, and on `indexmap` for
-//! the values. `specs/Expanded` says what the expanded tables are
+//! `kmx_format` for the tables that a program compiles to and for the versions, and on `indexmap` for the values. `specs/Expanded` says what the expanded tables are
 //! (`expanded_tables`). The layer above calls `expand`, and then puts the records in order; for the elements of one system store alone
 //! it calls `system_elements`.
 //!

@@ -8,7 +8,7 @@ ghost use Rattle.std.specs.Prelude.{◌≡◌, nat_eq};
 ghost use Rattle.std.specs.List.{list_any};
 ghost use Rattle.rule_model.specs.Naming.{mark_number, key_number, elements_named};
 ghost use Rattle.kmn_names.specs.Numbering.{number_in};
-ghost use Rattle.compile_laws.specs.Numbers.{number_of_store, number_of_group, number_of_value};
+ghost use Rattle.kmx_format.specs.Numbers.{number_of_store, number_of_group, number_of_value};
 ghost use Rattle.rule_expand.specs.CasedCodes.{cased_codes};
 ghost use Rattle.rule_expand.specs.Lookups.{source_names, AreFew, BeginWith, AreNumbers, place_of_store, elements_at};
 
@@ -86,7 +86,7 @@ pub struct Lookups<'a> {
 }
 
 impl<'a> Model for Lookups<'a> {
-    ghost use Rattle.compile_laws.specs.Numbers.{Numbers};
+    ghost use Rattle.kmx_format.specs.Numbers.{Numbers};
     ghost use Rattle.rule_expand.specs.CasedCodes.{cased_codes};
     ghost use Rattle.rule_expand.specs.Lookups.{source_names, AreNumbers};
 

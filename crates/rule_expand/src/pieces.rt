@@ -3,7 +3,7 @@
 ghost use Rattle.std.specs.Prelude.{◌≡◌, ◌+◌, ◌++◌, nat_eq, [], ◌∷◌, map, flat_map, option_to_list, IfOk, OnOk};
 ghost use Rattle.rule_model.specs.declared.program.SrcItem.TheVariants as source;
 ghost use Rattle.rule_model.specs.Match.{element_at};
-ghost use Rattle.compile_laws.specs.Compiles.{element_outs, element_outs_if_any};
+ghost use Rattle.kmx_format.specs.Compiles.{element_outs, element_outs_if_any};
 ghost use Rattle.rule_expand.specs.declared.pieces.Piece.TheVariants.{Fixed};
 ghost use Rattle.rule_expand.specs.Lookups.{elements_at};
 ghost use Rattle.rule_expand.specs.Pieces.{one_output, item_pieces, piece_outs, pieces_outputs};

@@ -3,7 +3,7 @@
 ghost use Rattle.std.specs.Prelude.{◌≡◌, ◌<◌, ◌≤◌, ◌++◌, true, map, unwrap_or, IfOk, OnOk};
 ghost use Rattle.kmn_base.specs.declared.keys.RuleKey.TheVariants as key;
 ghost use Rattle.rule_model.specs.Hold.{key_of_element};
-ghost use Rattle.compile_laws.specs.Compiles.{file_pattern, own_key, rule_records};
+ghost use Rattle.kmx_format.specs.Compiles.{file_pattern, own_key, rule_records};
 ghost use Rattle.rule_expand.specs.Groups.{is_unit_element, are_unit_elements, is_unit_key, has_unit_key};
 ghost use Rattle.rule_expand.specs.Pieces.{template_of, template_record, template_halves, template_records, template_keyed};
 

@@ -4,8 +4,8 @@ ghost use Rattle.std.specs.Prelude.{◌≡◌, ◌+◌, ◌^◌, ◌<◌, ◌≤
 ghost use Rattle.std.specs.List.{list_all, join_with_byte};
 ghost use Rattle.rule_model.specs.Naming.{item_elements, store_of, stores_onto};
 ghost use Rattle.rule_model.specs.Src.{value_elements};
-ghost use Rattle.compile_laws.specs.Numbers.{dictionary_stores, value_store};
-ghost use Rattle.compile_laws.specs.WellNamed.{is_word};
+ghost use Rattle.kmx_format.specs.Numbers.{dictionary_stores, value_store};
+ghost use Rattle.kmx_format.specs.WellNamed.{is_word};
 ghost use Rattle.rule_expand.specs.Lookups.{source_names, AreFew, BeginWith};
 
 use crate::lookups::{elements_named, key_number, mark_number};
@@ -15,9 +15,8 @@ use kmn_base::texts::decoded;
 use kmn_base::{Element, Memory, Seq};
 use kmn_names::ProgramNames;
 use rule_model::system::{DROPPED, KEY_DICTIONARY};
-use rule_model::{SrcItem, Store, StoreDef};
+use rule_model::{FIRST_OWN_CODE, KeyDictionary, SrcItem, Store, StoreDef};
 use std::alloc::Global;
-use virtual_keys::{FIRST_OWN_CODE, KeyDictionary};
 
 /// Appends the elements that an item of a store statement stands for, behind these stores.
 fn add_elements(

@@ -5,7 +5,7 @@ ghost use Rattle.std.specs.Str.{bytes_eq};
 ghost use Rattle.rule_model.specs.declared.program.GroupDef.{GroupDef};
 ghost use Rattle.rule_model.specs.Naming.{rule_items};
 ghost use Rattle.rule_model.specs.Tab.{distinct_onto};
-ghost use Rattle.compile_laws.specs.Numbers.{item_values, values_of};
+ghost use Rattle.kmx_format.specs.Numbers.{item_values, values_of};
 ghost use Rattle.rule_expand.specs.Values.{with_values};
 
 use indexmap::IndexSet;

@@ -4,7 +4,7 @@ ghost use Rattle.std.specs.Prelude.{◌≡◌, ℕ, List, find, map, option_map,
 ghost use Rattle.kmx_format.specs.declared.versions.TheConstants.{OWN_VERSION};
 ghost use Rattle.rule_model.specs.Match.{same_value};
 ghost use Rattle.rule_model.specs.Src.{value_elements};
-ghost use Rattle.compile_laws.specs.Numbers.{is_version, stated_version};
+ghost use Rattle.kmx_format.specs.Numbers.{is_version, stated_version};
 
 use kmn_base::Element;
 use kmx_format::{OWN_VERSION, file_versions};

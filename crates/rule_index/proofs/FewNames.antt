@@ -5,7 +5,7 @@ use Rattle.kmn_base.specs.declared.items.Element.{Element}
 use Rattle.kmn_base.specs.declared.limits.TheConstants.{STORE_ELEMENTS}
 use Rattle.rule_model.specs.declared.tables.Store.{Store}
 use Rattle.rule_model.specs.Tab.{is_dictionary, store_elements}
-use Rattle.rule_model.proofs.Dictionary.{dictionary_has}
+use Rattle.rule_model.proofs.KeyNames.{dictionary_has}
 use Rattle.rule_index.specs.Stores.{HaveFewElements}
 
 -- 1 for a word that has begun

@@ -8,10 +8,10 @@ use Rattle.std.proofs.lemmas.List.Elements.{All-nil, All-append}
 use Rattle.std.proofs.lemmas.List.Splits.{slice_split_at, slice_split_none}
 use Rattle.std.proofs.lemmas.Str.{encode_ascii}
 use Rattle.kmn_base.specs.Names.{same_name}
-use Rattle.virtual_keys.specs.Dictionary.{with_name}
+use Rattle.rule_model.specs.Dictionary.{with_name}
 use Rattle.rule_model.specs.Tab.{distinct_onto, words}
-use Rattle.virtual_keys.proofs.WordBytes.{HasNoSpace, bytes_of}
-use Rattle.virtual_keys.proofs.NamePlaces.{with_name_new}
+use Rattle.rule_model.proofs.WordBytes.{HasNoSpace, bytes_of}
+use Rattle.rule_model.proofs.NamePlaces.{with_name_new}
 use Rattle.rule_index.specs.OwnNames.{names_with, names_read}
 
 -- whether a word is not empty

@@ -5,7 +5,7 @@ use Rattle.kmn_base.specs.declared.items.Item.TheVariants as item
 use Rattle.kmn_base.specs.declared.keys.RuleKey.{RuleKey}
 use Rattle.kmn_base.specs.declared.keys.RuleKey.TheVariants as key
 use Rattle.kmn_base.specs.declared.keys.KeyPress.{KeyPress}
-use Rattle.virtual_keys.specs.Fits.{char_of_press}
+use Rattle.rule_model.specs.Fits.{char_of_press}
 use Rattle.rule_model.specs.Keyboard.{Pattern, IsChar, IsMark, KeyPattern, OneKey, KeyIn, RuleMeaning}
 use Rattle.rule_index.specs.declared.class.TheConstants.{FIRST_CODE, FIRST_MARK, PARTS}
 use Rattle.rule_model.specs.Match.{takes_item}

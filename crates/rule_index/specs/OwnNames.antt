@@ -1,7 +1,7 @@
 -- The names of own keys, read character by character.
 use Rattle.std.specs.Prelude.{ℕ, nat_eq, if◌then◌else◌, List, [], ◌∷◌, ◌++◌, length}
 use Rattle.std.specs.Char.{encode_utf8}
-use Rattle.virtual_keys.specs.Dictionary.{with_name}
+use Rattle.rule_model.specs.Dictionary.{with_name}
 
 -- the names with a word, unless it is empty or the same as one of them
 abbrev pub names_with : List (List ℕ) → List ℕ → List (List ℕ)

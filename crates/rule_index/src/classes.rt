@@ -1,5 +1,5 @@
 ghost use Rattle.std.specs.Prelude.{◌≡◌, ◌<◌, [], map, None, IfOk};
-ghost use Rattle.virtual_keys.specs.Fits.{char_of_press};
+ghost use Rattle.rule_model.specs.Fits.{char_of_press};
 ghost use Rattle.rule_model.specs.Tab.{tab_pattern, tab_rule};
 ghost use Rattle.kmx_parts.specs.ContextItems.{pattern_of};
 ghost use Rattle.rule_index.specs.Classes.{key_class, pattern_class, last_class, given_class, item_class, class_of, rule_class, wanted_classes};
@@ -9,8 +9,8 @@ ghost use Rattle.rule_index.specs.Groups.{record_classes};
 use crate::class::{Class, FIRST_CODE, FIRST_MARK, PARTS};
 use kmn_base::{Item, KeyPress, Memory, RuleKey};
 use kmx_parts::{ContextItem, ContextItems, FileGroup, FileRule};
+use rule_model::char_of;
 use std::alloc::Global;
-use virtual_keys::char_of;
 
 /// By which presses a key can be met.
 fn key_class(key: RuleKey) -> u64

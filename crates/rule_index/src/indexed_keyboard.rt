@@ -1,6 +1,6 @@
 ghost use Rattle.std.specs.Prelude.{◌≡◌, ◌≤◌, ◌+◌, ◌-◌, Some, All, IfOk, IfSome, length, map, option_copied, option_map, slice_get};
 ghost use Rattle.kmn_base.specs.declared.limits.TheConstants.{RECORDS, STORES};
-ghost use Rattle.virtual_keys.specs.Dictionary.{name_in};
+ghost use Rattle.rule_model.specs.Dictionary.{name_in};
 ghost use Rattle.rule_model.specs.Content.{elements_at, option_number};
 ghost use Rattle.rule_model.specs.Keyboard.{Numbered, StoreMeaning};
 ghost use Rattle.rule_model.specs.Match.{place_of, same_value};
@@ -20,9 +20,9 @@ use crate::values::{number_for, store_numbers};
 use indexed_tables::{has_words, number_at, system_elements};
 use kmn_base::{Element, Item, Memory, Seq};
 use kmx_parts::{FileGroup, FileStore, FileTables};
+use rule_model::KeyDictionary;
 use std::alloc::Global;
 use std::marker::Model;
-use virtual_keys::KeyDictionary;
 
 /// A file with what an engine looks up: each store by place, its option number, the stores that have an item, a number that
 /// the stores with the same elements have, an index of each group's records, and the names of own keys. Elements, contexts

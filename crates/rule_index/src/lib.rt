@@ -1,7 +1,7 @@
 //! Finds, of a group's records, those that can hold for a press and the last item before the caret, and the stores that have
 //! an item, each with its first place there, by search, and at once what stands at a place of a store and which stores are alike.
 //!
-//! It stands on `kmn_base`, `rule_model`, `virtual_keys`, `indexed_tables` and `kmx_parts`. The layer above makes an
+//! It stands on `kmn_base`, `rule_model`, `indexed_tables` and `kmx_parts`. The layer above makes an
 //! `IndexedKeyboard` of `FileTables`, which has what is looked up: an index of each group's records (`specs/Groups`), each store
 //! by place (`specs/Stores`), one array for all stores of which item stands first where in which store (`specs/Holdings`), a
 //! number that stores with the same elements have (`specs/Values`), the option number of each store (`indexed_tables`), and the

@@ -9,9 +9,9 @@ ghost use Rattle.rule_index.specs.Stores.{HaveFewElements};
 
 use kmn_base::{Element, Memory};
 use kmx_parts::{Elements, FileTables, StringParts};
+use rule_model::KeyDictionary;
 use rule_model::system::KEY_DICTIONARY;
 use std::alloc::Global;
-use virtual_keys::KeyDictionary;
 
 /// The elements of the store of the names, none where there is no such store.
 fn dictionary_elements<'a>(file: &FileTables<'a>) -> Elements<'a>

@@ -2,7 +2,7 @@
 use Rattle.std.proofs.Common.{◌≡◌, ℕ, List, map, sym}
 use Rattle.std.specs.Prelude.{option_map, position, slice_get}
 use Rattle.std.proofs.lemmas.Option.{slice_get-map}
-use Rattle.virtual_keys.proofs.PositionLemmas.{position-map}
+use Rattle.rule_model.proofs.PositionLemmas.{position-map}
 use Rattle.kmn_base.specs.declared.items.Item.{Item}
 use Rattle.kmn_base.specs.declared.items.Element.TheVariants as element
 use Rattle.rule_model.specs.Match.{is_item, place_of}

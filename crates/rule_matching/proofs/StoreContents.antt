@@ -10,11 +10,11 @@ use Rattle.rule_model.specs.Keyboard.{Numbered, StoreMeaning}
 use Rattle.rule_model.specs.Tab.{tab, tab_options, elements_of}
 use Rattle.rule_model.proofs.PlainOptions.{content_of_option, content_of_other}
 use Rattle.rule_model.proofs.SystemOptions.{own_elements}
-use Rattle.option_store.specs.declared.options.Cell.{Cell}
-use Rattle.option_store.specs.declared.options.Held.TheVariants.{Store}
-use Rattle.option_store.specs.Cells.{cell_at, held_value}
-use Rattle.option_store.specs.Meaning.{stated, option_values, option_saves}
-use Rattle.option_store.proofs.Meaning.{stated_at, option_value_found, option_save_found}
+use Rattle.engine_state.specs.declared.options.Cell.{Cell}
+use Rattle.engine_state.specs.declared.options.Held.TheVariants.{Store}
+use Rattle.engine_state.specs.Cells.{cell_at, held_value}
+use Rattle.engine_state.specs.Meaning.{stated, option_values, option_saves}
+use Rattle.engine_state.proofs.Meaning.{stated_at, option_value_found, option_save_found}
 use Rattle.rule_index.proofs.StoreIndexes.{count_of_all}
 use Rattle.rule_matching.specs.Moment.{saved_of}
 

@@ -1,6 +1,6 @@
 use crate::moment::Moment;
 use kmn_base::Item;
-use virtual_keys::Pressed;
+use rule_model::Pressed;
 
 /// What records are chosen by: the keyboard at a moment, the press, and the last items before the caret. All of it stands still
 /// while one choice is made.

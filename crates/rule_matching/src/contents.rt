@@ -1,7 +1,7 @@
 ghost use Rattle.std.specs.Prelude.{◌≡◌, ◌<◌, None, Some, length, option_map};
-ghost use Rattle.option_store.specs.Cells.{held_value, cell_at};
-ghost use Rattle.option_store.specs.Meaning.{stated, option_values, option_saves};
-ghost use Rattle.option_store.specs.declared.options.Held.TheVariants.{Host, Store};
+ghost use Rattle.engine_state.specs.Cells.{held_value, cell_at};
+ghost use Rattle.engine_state.specs.Meaning.{stated, option_values, option_saves};
+ghost use Rattle.engine_state.specs.declared.options.Held.TheVariants.{Host, Store};
 ghost use Rattle.rule_model.specs.Content.{content, option_number};
 ghost use Rattle.rule_model.specs.Keyboard.{Numbered};
 ghost use Rattle.rule_model.specs.Tab.{tab};
@@ -9,7 +9,7 @@ ghost use Rattle.rule_matching.specs.Moment.{saved_of};
 ghost use Rattle.rule_matching.specs.StoreValues.{elements_in};
 
 use crate::store_value::StoreValue;
-use option_store::{Held, Options};
+use engine_state::{Held, Options};
 use rule_index::IndexedKeyboard;
 
 /// What is held for a store: the elements that a store is stated with, or the host's text.

@@ -1,7 +1,7 @@
 //! Which records of a compiled file hold at a moment of a key press, and what they catch.
 //!
 //! It stands on `rule_model`, whose `specs` say when a rule holds, on `kmx_parts`, which lends the file's parts where they
-//! lie, on `rule_index` for what is looked up in the tables, and on `option_store` for the values of options. The layer above
+//! lie, on `rule_index` for what is looked up in the tables, and on `engine_state` for the values of options. The layer above
 //! lends a `Moment`, the keyboard with what its stores hold, an `EnteredGroup`, which is a group with its index and the press, the
 //! last items before the caret, a `PlaceMemory`, and room for what is caught: `first_held` answers the first record of the group that
 //! holds then, and writes there what it has caught (`MatchedItems`).

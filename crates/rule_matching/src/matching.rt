@@ -24,8 +24,7 @@ use kmn_base::limits::CONTEXT_ITEMS;
 use kmn_base::{Element, Item, RuleKey};
 use kmx_parts::{ContextItem, FileRule};
 use rule_index::wanted_classes;
-use rule_model::{is_element, is_item, is_same};
-use virtual_keys::Pressed;
+use rule_model::{Pressed, is_element, is_item, is_same};
 
 /// An item that is taken of no store, where it stands to its pattern as that asks.
 fn storeless(fits: bool, distance: usize) -> Option<TakenItem>

@@ -1,5 +1,5 @@
 ghost use Rattle.std.specs.Prelude.{◌≡◌, None, Some, IfSome, length, slice_get};
-ghost use Rattle.option_store.specs.Meaning.{option_values};
+ghost use Rattle.engine_state.specs.Meaning.{option_values};
 ghost use Rattle.rule_model.specs.Content.{elements_at, option_number};
 ghost use Rattle.rule_model.specs.Keyboard.{Numbered, Platform};
 ghost use Rattle.rule_model.specs.Match.{element_at, place_of, same_value};
@@ -11,8 +11,8 @@ ghost use Rattle.rule_matching.specs.Moment.{content_at, truths_at};
 use crate::contents::held_now;
 use crate::host_text::{element_in_text, place_in_text};
 use crate::store_value::StoreValue;
+use engine_state::{Held, Options};
 use kmn_base::{Element, Item};
-use option_store::{Held, Options};
 use rule_index::{Holding, IndexedKeyboard};
 use rule_model::system::PLATFORM;
 use std::marker::Model;
@@ -28,7 +28,7 @@ pub struct Moment<'a> {
 
 impl<'a> Model for Moment<'a> {
     ghost use Rattle.std.specs.Prelude.{◌≡◌, length};
-    ghost use Rattle.option_store.specs.Meaning.{option_values};
+    ghost use Rattle.engine_state.specs.Meaning.{option_values};
     ghost use Rattle.rule_model.specs.Tab.{tab};
     ghost use Rattle.rule_matching.specs.Moment.{MomentValue, truths_at};
 

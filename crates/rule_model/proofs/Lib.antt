@@ -2,7 +2,7 @@ pub mod Bounds
 pub mod Budget
 pub mod CasedKeys
 pub mod Choosing
-pub mod Dictionary
+pub mod KeyNames
 pub mod Distinct
 pub mod Edits
 pub mod Insertions
@@ -19,3 +19,10 @@ pub mod SystemOptions
 pub mod WorkedTraces
 pub mod SameElements
 pub mod CaughtParts
+pub mod EntryLemmas
+pub mod GroupLemmas
+pub mod HexLemmas
+pub mod PositionLemmas
+pub mod NamePlaces
+pub mod NumberSets
+pub mod WordBytes

@@ -21,3 +21,8 @@ pub mod Tab
 pub mod Trace
 pub mod Transcript
 pub mod WorkedTraces
+pub mod Dictionary
+pub mod Entries
+pub mod Fits
+pub mod Groups
+pub mod Keys

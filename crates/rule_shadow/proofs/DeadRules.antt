@@ -23,15 +23,15 @@ use Rattle.rule_model.specs.Src.{src, src_rule, src_group, is_plain, cased_keys}
 use Rattle.rule_model.specs.Tab.{tab, tab_rule}
 use Rattle.rule_model.proofs.PlainOptions.{position-passes, position-fails}
 use Rattle.kmx_format.specs.Writable.{IsWritable}
-use Rattle.compile_laws.specs.WellNamed.{IsWellNamed, is_known_group}
-use Rattle.compile_laws.specs.Numbers.{numbers_of}
-use Rattle.compile_laws.specs.Compiles.{Compiles, IsOrderedGroup, file_group}
-use Rattle.compile_laws.proofs.Keyboards.{src_choice, src_cased}
-use Rattle.compile_laws.proofs.Known.{has_values, KnownGroup, group_known}
-use Rattle.compile_laws.proofs.Values.{values_known}
-use Rattle.compile_laws.proofs.Linked.{Linked}
-use Rattle.compile_laws.proofs.Stores.{linked}
-use Rattle.compile_laws.proofs.Choices.{ChosenRule, best_now, best-map, src_chosen, tab_chosen, choice-kept}
+use Rattle.kmx_format.specs.WellNamed.{IsWellNamed, is_known_group}
+use Rattle.kmx_format.specs.Numbers.{numbers_of}
+use Rattle.kmx_format.specs.Compiles.{Compiles, IsOrderedGroup, file_group}
+use Rattle.kmx_format.proofs.Keyboards.{src_choice, src_cased}
+use Rattle.kmx_format.proofs.Known.{has_values, KnownGroup, group_known}
+use Rattle.kmx_format.proofs.Values.{values_known}
+use Rattle.kmx_format.proofs.Linked.{Linked}
+use Rattle.kmx_format.proofs.Stores.{linked}
+use Rattle.kmx_format.proofs.Choices.{ChosenRule, best_now, best-map, src_chosen, tab_chosen, choice-kept}
 use Rattle.rule_shadow.specs.Laws.{AreCovered, CoveredRulesAreDead}
 use Rattle.rule_shadow.proofs.Sound.{covered_never_go_first}
 

@@ -4,8 +4,8 @@ use Rattle.kmn_base.specs.declared.items.Element.{Element}
 use Rattle.kmn_base.specs.declared.items.Element.TheVariants as element
 use Rattle.kmn_base.specs.declared.keys.RuleKey.{RuleKey}
 use Rattle.kmn_base.specs.declared.keys.RuleKey.TheVariants as key
-use Rattle.virtual_keys.specs.Fits.{char_of_press, key_fits}
-use Rattle.virtual_keys.specs.Keys.{us_characters, key_codes}
+use Rattle.rule_model.specs.Fits.{char_of_press, key_fits}
+use Rattle.rule_model.specs.Keys.{us_characters, key_codes}
 use Rattle.rule_model.specs.declared.tables.Pat.{Pat}
 use Rattle.rule_model.specs.declared.tables.Pat.TheVariants as pattern
 use Rattle.rule_model.specs.declared.tables.Out.TheVariants as output

@@ -10,8 +10,8 @@ use Rattle.std.proofs.lemmas.List.Folds.{list_all-append, list_all-map}
 use Rattle.kmn_base.specs.declared.keys.RuleKey.{RuleKey}
 use Rattle.kmn_base.specs.declared.keys.RuleKey.TheVariants as key
 use Rattle.kmn_base.specs.declared.keys.KeyPress.{KeyPress}
-use Rattle.virtual_keys.specs.Fits.{has, is_letter, us_character, character_in, is_plain, char_of_press, key_fits, flags_fit}
-use Rattle.virtual_keys.specs.Keys.{us_characters, key_codes}
+use Rattle.rule_model.specs.Fits.{has, is_letter, us_character, character_in, is_plain, char_of_press, key_fits, flags_fit}
+use Rattle.rule_model.specs.Keys.{us_characters, key_codes}
 use Rattle.rule_shadow.specs.Keys.{sums_of, all_modifiers, all_codes, codes_to_try, tried_with, covers_key}
 
 -- the sum of the numbers that are marked

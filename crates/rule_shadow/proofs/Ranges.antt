@@ -19,7 +19,7 @@ use Rattle.rule_model.specs.Match.{is_item, same_item, item_of, item_caught, pla
 use Rattle.rule_model.specs.Tab.{tab, tab_options, tab_pattern, with_options, elements_of}
 use Rattle.rule_model.specs.System.{system_options}
 use Rattle.rule_model.proofs.PlainOptions.{content_of_other}
-use Rattle.virtual_keys.proofs.NamePlaces.{some_place}
+use Rattle.rule_model.proofs.NamePlaces.{some_place}
 use Rattle.rule_model.specs.Patterns.{is_matched}
 use Rattle.rule_shadow.specs.declared.cert.Range.{Range}
 use Rattle.rule_shadow.specs.declared.cert.Range.TheVariants as range

@@ -24,7 +24,7 @@ use Rattle.rule_model.specs.Match.{is_item, same_item, catches_from}
 use Rattle.rule_model.specs.Hold.{holds}
 use Rattle.rule_model.specs.Tab.{tab, tab_pattern, tab_rule, elements_of}
 use Rattle.rule_model.proofs.PlainOptions.{position-passes, position-fails}
-use Rattle.virtual_keys.proofs.NamePlaces.{some_place}
+use Rattle.rule_model.proofs.NamePlaces.{some_place}
 use Rattle.kmx_format.specs.Writable.{IsWritable, IsWritableRule, IsWritableGroup, IsWritableKey}
 use Rattle.rule_shadow.specs.declared.cert.Cert.{Cert, By, Split', Row_of-Cert, end_of-Cert, more_of-Cert}
 use Rattle.rule_shadow.specs.declared.cert.Place.{Place}

@@ -5,7 +5,7 @@ use Rattle.std.specs.List.{list_all}
 use Rattle.std.proofs.lemmas.List.Folds.{list_all-append}
 use Rattle.kmn_base.specs.declared.keys.RuleKey.{RuleKey}
 use Rattle.kmn_base.specs.declared.keys.RuleKey.TheVariants as key
-use Rattle.virtual_keys.specs.Fits.{char_of_press, key_fits}
+use Rattle.rule_model.specs.Fits.{char_of_press, key_fits}
 use Rattle.rule_shadow.specs.Keys.{all_modifiers, plain_modifiers, all_codes, presses_of, fitting_of, fitting_presses, tried_with, covers_key}
 
 -- each press of these codes with these modifiers that fits the second key fits the first

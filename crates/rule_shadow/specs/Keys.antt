@@ -4,8 +4,8 @@ use Rattle.std.specs.List.{list_all}
 use Rattle.kmn_base.specs.declared.keys.RuleKey.{RuleKey}
 use Rattle.kmn_base.specs.declared.keys.RuleKey.TheVariants as key
 use Rattle.kmn_base.specs.declared.keys.KeyPress.{KeyPress}
-use Rattle.virtual_keys.specs.Fits.{key_fits}
-use Rattle.virtual_keys.specs.Keys.{key_codes}
+use Rattle.rule_model.specs.Fits.{key_fits}
+use Rattle.rule_model.specs.Keys.{key_codes}
 
 -- all sums of some of these numbers
 abbrev pub sums_of : List ℕ → List ℕ

@@ -16,8 +16,8 @@ use Rattle.rule_model.specs.Enter.{chosen_in}
 use Rattle.rule_model.specs.Naming.{names_of}
 use Rattle.rule_model.specs.Src.{src, src_group}
 use Rattle.rule_model.specs.Tab.{tab, tab_rule}
-use Rattle.compile_laws.specs.WellNamed.{IsWellNamed}
-use Rattle.compile_laws.specs.Compiles.{Compiles}
+use Rattle.kmx_format.specs.WellNamed.{IsWellNamed}
+use Rattle.kmx_format.specs.Compiles.{Compiles}
 use Rattle.rule_shadow.specs.declared.cert.Cert.{Cert}
 use Rattle.kmx_format.specs.Writable.{IsWritable}
 use Rattle.rule_shadow.specs.declared.finding.Found.{Found}

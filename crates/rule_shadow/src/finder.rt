@@ -8,13 +8,12 @@ use crate::certs::{covers_under, nothing_narrowed};
 use crate::finding::{Found, certificate, found_for};
 use crate::flagged::FlaggedTables;
 use crate::subject::Subject;
-use indexed_tables::{mark_options, option_flags};
+use indexed_tables::{StoreSets, mark_options, option_flags};
 use kmn_base::Memory;
 use kmn_base::limits::STORES;
 use rule_model::Tables;
 use std::alloc::Global;
 use std::marker::Model;
-use store_sets::StoreSets;
 
 /// Whether what a certificate says of a record is so.
 #[tactic(auto, using(crate::proofs::Sound::context_fits))]
@@ -71,7 +70,7 @@ pub struct Finder<'a> {
 impl<'a> Model for Finder<'a> {
     ghost use Rattle.rule_model.specs.declared.tables.Tables.{Tables};
     ghost use Rattle.kmx_format.specs.Writable.{IsWritable};
-    ghost use Rattle.store_sets.specs.Numbers.{AreSetsOf};
+    ghost use Rattle.indexed_tables.specs.Numbers.{AreSetsOf};
     ghost use Rattle.rule_shadow.specs.Flags.{TellOptions};
 
     ghost Value = { Tables };

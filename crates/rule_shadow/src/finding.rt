@@ -19,9 +19,8 @@ use crate::place_list::places;
 use crate::subject::Subject;
 use kmn_base::limits::CONTEXT_ITEMS;
 use kmn_base::{Element, Item, Memory, Seq};
-use rule_model::{Pat, Rule, item_of};
+use rule_model::{Pat, Pressed, Rule, item_of};
 use std::alloc::Global;
-use virtual_keys::Pressed;
 
 /// What is found for a record: a record that covers it, a place with a record for each item, or nothing.
 #[derive(Drop)]

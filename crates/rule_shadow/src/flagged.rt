@@ -3,15 +3,14 @@
 ghost use Rattle.std.specs.Prelude.{◌≡◌, option_copied, slice_get, is_some, IfSome};
 ghost use Rattle.rule_model.specs.Match.{place_of};
 ghost use Rattle.rule_model.specs.Tab.{elements_of};
-ghost use Rattle.store_sets.specs.Numbers.{AreSetsOf};
+ghost use Rattle.indexed_tables.specs.Numbers.{AreSetsOf};
 ghost use Rattle.rule_shadow.specs.Flags.{TellOptions};
 ghost use Rattle.rule_shadow.specs.Places.{is_fixed};
 
-use indexed_tables::flag_at;
+use indexed_tables::{StoreSets, flag_at, is_among};
 use kmn_base::{Element, Item};
 use rule_model::{Group, Tables};
 use std::marker::Model;
-use store_sets::{StoreSets, is_among};
 
 /// Tables, with flags that tell which of their stores are options, and with the stores' items in sets, but where no memory may
 /// be taken. Contracts see the tables.
@@ -25,7 +24,7 @@ pub struct FlaggedTables<'a> {
 impl<'a> Model for FlaggedTables<'a> {
     ghost use Rattle.std.specs.Prelude.{IfSome};
     ghost use Rattle.rule_model.specs.declared.tables.Tables.{Tables};
-    ghost use Rattle.store_sets.specs.Numbers.{AreSetsOf};
+    ghost use Rattle.indexed_tables.specs.Numbers.{AreSetsOf};
     ghost use Rattle.rule_shadow.specs.Flags.{TellOptions};
 
     ghost Value = { Tables };

@@ -2,13 +2,13 @@
 
 ghost use Rattle.std.specs.Prelude.{◌≡◌, ◌++◌, not, ◌||◌, filter, flat_map, IfOk, OnOk};
 ghost use Rattle.std.specs.List.{list_all};
-ghost use Rattle.virtual_keys.specs.Fits.{key_fits};
+ghost use Rattle.rule_model.specs.Fits.{key_fits};
 ghost use Rattle.rule_shadow.specs.Keys.{all_codes, all_modifiers, plain_modifiers, presses_of, fitting_presses, covers_key};
 
 use kmn_base::keys::{CAPS, SHIFT};
 use kmn_base::{KeyPress, Memory, RuleKey};
+use rule_model::Pressed;
 use std::alloc::Global;
-use virtual_keys::Pressed;
 
 /// The codes of the keys that have a name.
 static CODES: [u16; 90] = [
@@ -30,7 +30,7 @@ static HELD_MODIFIERS: [u16; 64] = [
 static PLAIN_MODIFIERS: [u16; 4] = [0, CAPS, SHIFT, SHIFT + CAPS];
 
 /// The codes of the keys that have a name.
-#[tactic(auto, unfolding(crate::specs::Keys::all_codes, virtual_keys::specs::Keys::key_codes))]
+#[tactic(auto, unfolding(crate::specs::Keys::all_codes, rule_model::specs::Keys::key_codes))]
 fn all_codes() -> &'static [u16]
     ensures { result.now ≡ all_codes }
 {

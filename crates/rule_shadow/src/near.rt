@@ -11,9 +11,8 @@ use crate::flagged::FlaggedTables;
 use crate::key_cover::fits_each;
 use crate::subject::Subject;
 use kmn_base::Memory;
-use rule_model::{Pat, Rule};
+use rule_model::{Pat, Pressed, Rule};
 use std::alloc::Global;
-use virtual_keys::Pressed;
 
 /// The places of a record, but for `context` items, that another one doesn't cover.
 #[derive(Clone, Copy)]

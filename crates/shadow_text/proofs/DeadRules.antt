@@ -13,9 +13,9 @@ use Rattle.rule_model.specs.declared.tables.Rule.{Rule}
 use Rattle.rule_model.specs.declared.tables.Group.{Group}
 use Rattle.rule_model.specs.declared.tables.Tables.{Tables}
 use Rattle.kmx_format.specs.Writable.{IsWritable}
-use Rattle.compile_laws.specs.WellNamed.{IsWellNamed}
-use Rattle.compile_laws.specs.Numbers.{numbers_of}
-use Rattle.compile_laws.specs.Compiles.{Compiles, file_group}
+use Rattle.kmx_format.specs.WellNamed.{IsWellNamed}
+use Rattle.kmx_format.specs.Numbers.{numbers_of}
+use Rattle.kmx_format.specs.Compiles.{Compiles, file_group}
 use Rattle.rule_shadow.specs.declared.finding.Found.{Found}
 use Rattle.rule_shadow.specs.declared.finding.Found.TheVariants as finding
 use Rattle.rule_shadow.specs.Finding.{found, found_for, found_in, found_if_any}

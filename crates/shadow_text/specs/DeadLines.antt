@@ -7,8 +7,8 @@ use Rattle.rule_model.specs.declared.program.GroupDef.{GroupDef}
 use Rattle.rule_model.specs.declared.tables.Tables.{Tables}
 use Rattle.rule_model.specs.Lines.{joined}
 use Rattle.kmx_format.specs.Writable.{IsWritable}
-use Rattle.compile_laws.specs.WellNamed.{IsWellNamed}
-use Rattle.compile_laws.specs.Compiles.{Compiles}
+use Rattle.kmx_format.specs.WellNamed.{IsWellNamed}
+use Rattle.kmx_format.specs.Compiles.{Compiles}
 use Rattle.rule_shadow.specs.Laws.{IsDead}
 use Rattle.shadow_text.specs.declared.verdicts.Verdict.{Verdict}
 use Rattle.shadow_text.specs.Verdicts.{rising, verdicts}

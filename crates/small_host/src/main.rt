@@ -1,8 +1,8 @@
 //! An application in small: it opens a compiled keyboard that anybody may have made, types with it in the two fields of a form,
 //! and prints the caps of an on-screen keyboard and the texts.
 //!
-//! It is the example of `docs/ENGINE.md`. It stands on `kmx_verifier`, which opens the file, and on `text_host`, which keeps the
-//! text of each field, does one event after the other, and tells what a key would do.
+//! It is the example of `docs/ENGINE.md`. It stands on `kmx_verifier`, which opens the file, and on the `Host` of `play_session`,
+//! which keeps the text of each field, does one event after the other, and tells what a key would do.
 #![tactic(auto)]
 
 ghost use Rattle.std.specs.Prelude.{◌≡◌, ◌++◌, OnOk, encode_utf8_all};
@@ -12,12 +12,12 @@ use kmn_base::limits::FILE_BYTES;
 use kmn_base::{Event, KeyPress, Memory};
 use kmn_outside::{DiskFolder, Folder, ReadError};
 use kmx_verifier::{VerifyError, verify};
+use play_session::{Host, HostError};
+use rule_model::key_named;
 use std::alloc::{Alloc, Global};
 use std::io;
 use std::rt::Files;
-use text_host::{Host, HostError};
 use thiserror::Error;
-use virtual_keys::key_named;
 
 /// Why nothing was typed.
 #[derive(Debug, Drop, Error)]

@@ -1,22 +1,15 @@
-//! What several tests take: the bytes of names, what parts a row of a table from its answer, the texts that tables write by
-//! signs, and the refusals that they name.
+//! What several tests take: what parts a row of a table from its answer, the texts that tables write by signs, the refusals that
+//! they name, and the signs of items.
 
-ghost use Rattle.std.specs.Prelude.{◌≡◌, None, IfOk, MatchResult};
+ghost use Rattle.std.specs.Prelude.{None, MatchResult};
 ghost use Rattle.std.specs.Str.Pattern.{FindsText, SplitsAroundMatch};
 ghost use Rattle.source_tests.specs.declared.fixtures.TheConstants.{ANSWER_SIGN};
 
-use kmn_base::{Memory, Refusal, Seq, Text};
+use kmn_base::{Item, Memory, Refusal};
 use std::alloc::{AllocError, Global};
 
 /// What stands between a row's text and its answer.
 const ANSWER_SIGN: &str = " ⇒ ";
-
-/// The name that a text spells.
-pub fn name_of(alloc: Global, text: &str) -> Result<Text, Memory>
-    ensures { IfOk result (λ name. name ≡ text.now) }
-{
-    Seq::from_slice(alloc, text.as_bytes())
-}
 
 /// The text of a table's row and its answer, which stands behind the first ` ⇒ `.
 pub fn parted(row: &str) -> Result<(&str, &str), &'static str>
@@ -59,4 +52,20 @@ pub fn is_refusal(refusal: Refusal, wanted: &str) -> bool {
         }
         None => false,
     }
+}
+
+/// The sign of an item in a table: a character stands for itself.
+pub fn sign(item: Item) -> char {
+    match item {
+        Item::Char(c) => c,
+        Item::Mark(_) => '*',
+    }
+}
+
+/// Appends the signs of items.
+pub fn put_items(text: &mut String, items: &[Item]) -> Result<(), Memory> {
+    for item in items {
+        text.push(sign(*item))?;
+    }
+    Ok(())
 }

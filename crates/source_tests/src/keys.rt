@@ -1,11 +1,11 @@
 //! Keys by name and press, and the names of own keys.
 
 use kmn_base::{KeyPress, RuleKey};
-use std::alloc::Global;
-use std::test::Fail;
-use virtual_keys::{
+use rule_model::{
     KeyDictionary, Pressed, char_of, is_plain, key_named, modifier_named, name_of, named_chars,
 };
+use std::alloc::Global;
+use std::test::Fail;
 
 /// A key's name and code, the modifiers of a press of it, the character that the press gives, and whether a rule with
 /// these shift flags fits it.

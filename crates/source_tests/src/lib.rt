@@ -1,15 +1,14 @@
-//! The tests of the crates that read sources and of those below them: `refusals` of `kmn_base`, `keys` of `virtual_keys`,
-//! `lines` and `tokens` of `kmn_lines`, `items` of `kmn_items`, and `names` of `kmn_names`.
+//! The tests of what a source is: `keys` of `rule_model`, `lines` and `tokens` of `kmn_lines`; `statements` of `kmn_parser` has
+//! sources with what they state or how they are refused, which stand in `rows`, and `names` of `kmn_names` programs with the first
+//! refusal of their names, or with their numbers.
 //!
 //! They stand here because a crate with tests is proved twice, once with them and once without: so each of those crates is
-//! proved once, and the tests are proved over them. `fixtures` has what several of them take: the tests of all crates take of
-//! it what parts a row of text from its answer, `statement_tests` what reads the signs of its rows, and `compile_tests` and
-//! `play_tests` what reads the refusals of theirs.
+//! proved once, and the tests are proved over them. `telling` tells what a program states as the rows do. `fixtures` has what
+//! several of them take: the tests of all crates take of it what parts a row of text from its answer, `compile_tests` and
+//! `play_tests` what reads the refusals of theirs, and `engine_tests` and `play_tests` the signs of items.
 #![tactic(auto)]
 
 pub mod fixtures;
-#[cfg(test)]
-mod items;
 #[cfg(test)]
 mod keys;
 #[cfg(test)]
@@ -17,6 +16,10 @@ mod lines;
 #[cfg(test)]
 mod names;
 #[cfg(test)]
-mod refusals;
+mod rows;
+#[cfg(test)]
+mod statements;
+#[cfg(test)]
+mod telling;
 #[cfg(test)]
 mod tokens;

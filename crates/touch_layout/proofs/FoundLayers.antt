@@ -16,7 +16,7 @@ use Rattle.kmn_base.specs.declared.codes.Code.TheVariants.{T3, T4, T5, T6}
 use Rattle.kmn_base.specs.declared.keys.RuleKey.{RuleKey}
 use Rattle.kmn_base.specs.declared.keys.RuleKey.TheVariants.{Any, Char, Virtual}
 use Rattle.kmn_base.specs.Names.{same_name}
-use Rattle.virtual_keys.specs.Dictionary.{name_in}
+use Rattle.rule_model.specs.Dictionary.{name_in}
 use Rattle.rule_model.specs.declared.tables.Rule.{Rule}
 use Rattle.rule_model.specs.declared.tables.Group.{Group}
 use Rattle.kmn_names.specs.Names.{is_named}

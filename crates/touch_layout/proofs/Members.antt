@@ -1,5 +1,5 @@
 -- Looking a member up gives the same keys as going over the members.
-use Rattle.std.proofs.Common.{◌≡◌, ℕ, zero, suc, ◌≤◌, ◌<◌, max, List, [], ◌∷◌, codes, Option, Some, None, option_and_then, is_some, if◌then◌else◌, Ordering, Less, Equal, Greater, refl, sym, subst, arith, nat_cmp, length, get_or, slice_index_or}
+use Rattle.std.proofs.Common.{◌≡◌, ℕ, zero, suc, ◌≤◌, ◌<◌, max, List, [], ◌∷◌, codes, Option, Some, None, option_and_then, is_some, if◌then◌else◌, Ordering, Less, Equal, Greater, refl, sym, subst, arith, nat_cmp, length, get_or, slice_index_or, fold, ap, ◌∙◌}
 use Rattle.std.specs.Prelude.{⊤}
 use Rattle.std.proofs.Math.Nat.{le-max_left, le-max_right}
 use Rattle.std.specs.Ordering.{match_ordering}
@@ -9,7 +9,7 @@ use Rattle.serde_json.specs.View.{view, items_view}
 use Rattle.serde_json.specs.declared.value.Value.{Value}
 use Rattle.serde_json.specs.Find.{get, get_member, as_object, as_array}
 use Rattle.touch_layout.specs.declared.faults.LayoutPlace.{LayoutPlace}
-use Rattle.touch_layout.specs.Keys.{Key, own_onto, key_onto, list_onto, items_onto, directions_onto, list_member, flick_member, key_member, list_at, flick_at, key_at, directions}
+use Rattle.touch_layout.specs.Keys.{Key, own_onto, key_onto, list_onto, items_onto, directions_onto, list_member, flick_member, key_member, list_at, flick_at, key_at, names_onto, directions}
 
 -- a walk over members that looks for a name, and f of what a look-up gives
 at_name : {R : Type 0} (o : Ordering) (f : Option Data → R) (d : Data) (rest : R) (more : Option Data) → rest ≡ f more
@@ -63,29 +63,24 @@ list_step place found (string s) = refl
 list_step place found (array ds) = refl
 list_step place found (object ms) = refl
 
--- the eight directions, by look-ups
-abbrev pub one_direction : LayoutPlace → Data → List ℕ → Option (List Key) → Option (List Key)
-one_direction place d name sofar = option_and_then (λ found. key_at place found (get name d)) sofar
+folded : (place : LayoutPlace) (ms : Members) (names : List (List ℕ)) (sofar : Option (List Key))
+    → fold (λ sofar name. option_and_then (λ found. key_member place name found ms) sofar) sofar names
+    ≡ option_and_then (λ found. names_onto place (object ms) names found) sofar
+folded place ms [] None = refl
+folded place ms [] (Some found) = refl
+folded place ms (name ∷ names) None = folded place ms names None
+folded place ms (name ∷ names) (Some found) =
+    folded place ms names (key_member place name found ms)
+    ∙ ap (option_and_then (λ found. names_onto place (object ms) names found)) (direction_found place name found ms)
 
-abbrev pub all_directions : LayoutPlace → List Key → Data → Option (List Key)
-all_directions place found d =
-    one_direction place d (codes "nw") (one_direction place d (codes "w") (one_direction place d (codes "sw") (one_direction place d (codes "s")
-    (one_direction place d (codes "se") (one_direction place d (codes "e") (one_direction place d (codes "ne") (one_direction place d (codes "n") (Some found))))))))
-
-direction_as : (place : LayoutPlace) (ms : Members) (name : List ℕ) (a b : Option (List Key)) → a ≡ b
-    → option_and_then (λ found. key_member place name found ms) a ≡ one_direction place (object ms) name b
-direction_as place ms name a b same = chained _ _ a b same (λ found. direction_found place name found ms)
-
-pub flick_step : (place : LayoutPlace) (found : List Key) (d : Data) → directions_onto place found d ≡ (if is_some (as_object d) then all_directions place found d else None)
-unfolding directions
+pub flick_step : (place : LayoutPlace) (found : List Key) (d : Data)
+    → directions_onto place found d ≡ (if is_some (as_object d) then names_onto place d directions found else None)
 flick_step place found null = refl
 flick_step place found (boolean b) = refl
 flick_step place found (number n) = refl
 flick_step place found (string s) = refl
 flick_step place found (array ds) = refl
-flick_step place found (object ms) =
-    direction_as place ms (codes "nw") _ _ (direction_as place ms (codes "w") _ _ (direction_as place ms (codes "sw") _ _ (direction_as place ms (codes "s") _ _
-    (direction_as place ms (codes "se") _ _ (direction_as place ms (codes "e") _ _ (direction_as place ms (codes "ne") _ _ (direction_as place ms (codes "n") (Some found) (Some found) refl)))))))
+flick_step place found (object ms) = folded place ms directions (Some found)
 
 is_none : {A : Type 0} → Option A → Type 0
 is_none None = ⊤

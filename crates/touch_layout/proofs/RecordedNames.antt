@@ -7,13 +7,13 @@ use Rattle.std.proofs.lemmas.List.{drop_more}
 use Rattle.std.proofs.lemmas.List.Folds.{list_any-append}
 use Rattle.std.proofs.lemmas.Slice.Eq.{bytes_eq-Decides}
 use Rattle.kmn_base.specs.Names.{same_name}
-use Rattle.virtual_keys.specs.Dictionary.{with_name}
+use Rattle.rule_model.specs.Dictionary.{with_name}
 use Rattle.rule_model.specs.declared.tables.Rule.{Rule}
 use Rattle.rule_model.specs.declared.tables.Group.{Group}
 use Rattle.kmn_names.specs.Names.{is_named}
 use Rattle.kmn_names.specs.Numbering.{with_marks}
 use Rattle.kmn_names.proofs.ByAppearance.{marks_append}
-use Rattle.virtual_keys.proofs.NamePlaces.{some_place}
+use Rattle.rule_model.proofs.NamePlaces.{some_place}
 use Rattle.touch_layout.specs.Ids.{recorded_name, rule_names, recorded_names}
 
 pub next_rule : (dictionary names : List (List ℕ)) (rules : List Rule) (i : ℕ) (rule : Rule) → i < length rules → rule ≡ get_or rules i rule

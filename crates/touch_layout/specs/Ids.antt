@@ -7,8 +7,8 @@ use Rattle.kmn_base.specs.declared.keys.RuleKey.TheVariants.{Any, Char, Virtual}
 use Rattle.kmn_base.specs.declared.limits.TheConstants.{SOURCE_NAME_CHARS}
 use Rattle.kmn_base.specs.Names.{same_name}
 use Rattle.kmn_base.specs.Texts.{character_count}
-use Rattle.virtual_keys.specs.Dictionary.{name_chars, name_in}
-use Rattle.virtual_keys.specs.Keys.{key_code}
+use Rattle.rule_model.specs.Dictionary.{name_chars, name_in}
+use Rattle.rule_model.specs.Keys.{key_code}
 use Rattle.rule_model.specs.declared.tables.Rule.{Rule}
 use Rattle.rule_model.specs.declared.tables.Group.{Group}
 

@@ -119,6 +119,11 @@ abbrev pub key_at : LayoutPlace → List Key → Option Data → Option (List Ke
 key_at place found None = Some found
 key_at place found (Some d) = key_onto place found d
 
+-- the keys that are members of some names, one after the other
+abbrev pub names_onto : LayoutPlace → Data → List (List ℕ) → List Key → Option (List Key)
+names_onto place d [] found = Some found
+names_onto place d (name ∷ names) found = option_and_then (λ found. names_onto place d names found) (key_at place found (get name d))
+
 -- the keys that code has found
 abbrev pub key_view : TouchKey → Key
 key_view key = record { place = key.place; id = key.id.now; next_layer = key.next_layer.now; is_spacer = key.is_spacer }

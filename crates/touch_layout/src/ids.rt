@@ -9,7 +9,7 @@ use kmn_base::limits::SOURCE_NAME_CHARS;
 use kmn_base::names::same_name;
 use kmn_base::slices::{before, behind};
 use kmn_base::texts::character_count;
-use virtual_keys::{key_named, named_chars};
+use rule_model::{key_named, named_chars};
 
 /// The names of keys that a layout can have and a source can't. The list is our own choice.
 static LAYOUT_NAMES: [&str; 26] = [

@@ -1,13 +1,16 @@
 //! The keys of a layout: each key with its subkeys behind it.
 
-ghost use Rattle.std.specs.Prelude.{◌≡◌, MatchResult, Some, None, option_map, codes};
+ghost use Rattle.std.specs.Prelude.{◌≡◌, MatchResult, Some, None, map, option_map, codes};
 ghost use Rattle.serde_json.specs.View.{view};
 ghost use Rattle.serde_json.specs.Find.{get};
-ghost use Rattle.touch_layout.specs.Keys.{keys_view, key_view, own_key, own_onto, key_onto, list_onto, directions_onto, list_at, flick_at, key_at, optional_text, optional_spacer, spacer_of};
+ghost use Rattle.touch_layout.specs.Keys.{keys_view, key_view, own_key, own_onto, key_onto, list_onto, directions_onto, list_at, flick_at, key_at, names_onto, optional_text, optional_spacer, spacer_of};
 ghost use Rattle.touch_layout.specs.declared.keys.Unread.TheVariants.{Shape};
 
 use crate::faults::LayoutPlace;
 use serde_json::Value;
+
+/// The members of a flick, in the order in which their keys are read.
+const DIRECTIONS: &[&str] = &["n", "ne", "e", "se", "s", "sw", "w", "nw"];
 
 /// What a key states. A text is empty where it is left out.
 #[derive(Clone, Copy)]
@@ -169,7 +172,7 @@ fn add_flick<'v>(
 
 /// Adds the keys of a flick.
 #[cycle(add_key)]
-#[tactic(auto, using(crate::proofs::Members::flick_step))]
+#[tactic(auto, using(crate::proofs::Members::flick_step), unfolding(crate::specs::Keys::directions))]
 fn add_directions<'v>(
     flick: &'v Value,
     place: LayoutPlace,
@@ -182,14 +185,25 @@ fn add_directions<'v>(
     if !flick.is_object() {
         return Err(Unread::Shape);
     }
-    add_direction(flick, "n", place, found)?;
-    add_direction(flick, "ne", place, found)?;
-    add_direction(flick, "e", place, found)?;
-    add_direction(flick, "se", place, found)?;
-    add_direction(flick, "s", place, found)?;
-    add_direction(flick, "sw", place, found)?;
-    add_direction(flick, "w", place, found)?;
-    add_direction(flick, "nw", place, found)
+    add_members(flick, DIRECTIONS, place, found)
+}
+
+/// Adds the keys that are members of these names, as far as there are any.
+#[cycle(add_key)]
+fn add_members<'v>(
+    flick: &'v Value,
+    names: &[&str],
+    place: LayoutPlace,
+    found: &mut Vec<TouchKey<'v>>,
+) -> Result<(), Unread>
+    ensures { MatchResult result (λ _. names_onto place (view flick.now) (map (λ name. name.now) names.now) (keys_view found.old.items)
+        ≡ Some (keys_view found.new.items))
+        (λ e. e ≡ Shape → names_onto place (view flick.now) (map (λ name. name.now) names.now) (keys_view found.old.items) ≡ None) }
+{
+    for name in names {
+        add_direction(flick, name, place, found)?;
+    }
+    Ok(())
 }
 
 /// Adds the key of one direction, if there is one.

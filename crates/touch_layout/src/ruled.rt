@@ -1,7 +1,7 @@
 //! Which ids the records of a keyboard have as their key.
 
 ghost use Rattle.std.specs.Prelude.{◌≡◌, [], IfOk, OnOk};
-ghost use Rattle.virtual_keys.specs.Dictionary.{with_name};
+ghost use Rattle.rule_model.specs.Dictionary.{with_name};
 ghost use Rattle.rule_model.specs.Tab.{tab};
 ghost use Rattle.kmn_names.specs.Numbering.{with_marks};
 ghost use Rattle.touch_layout.specs.Ids.{recorded_name, recorded_names, rule_names};

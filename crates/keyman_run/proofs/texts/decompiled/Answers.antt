@@ -1,5 +1,5 @@
 use Rattle.kmn_base.proofs.SmallBytes.{bytes_small}
-use Rattle.decompile_causes.specs.Unspelled.{unspelled}
+use Rattle.kmx_decompiler.specs.Unspelled.{unspelled}
 use Rattle.keyman_run.specs.Inputs.{tables_of_file, text_of_file, unless_unspelled}
 use Rattle.keyman_run.specs.Steps.{itself, verify_stop}
 use Rattle.keyman_run.proofs.LoadLaws.{states_handed, states_stopped}

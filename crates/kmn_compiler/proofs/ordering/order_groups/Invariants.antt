@@ -1,7 +1,7 @@
 use Rattle.std.proofs.Common.{◌≡◌, ℕ, ◌<◌, ◌≤◌}
 use Rattle.std.specs.Prelude.{slice_index_or}
 use Rattle.rule_model.specs.declared.tables.Group.{Group}
-use Rattle.compile_laws.specs.Compiles.{IsOrderedGroup}
+use Rattle.kmx_format.specs.Compiles.{IsOrderedGroup}
 use Rattle.kmn_compiler.proofs.ordering.order_groups.Given as goal
 
 abbrev pub invariant-loop-group : goal.invariant-loop-group

@@ -1,5 +1,5 @@
 use Rattle.std.proofs.Common.{◌≡◌, drop}
-use Rattle.virtual_keys.specs.Dictionary.{place_in}
+use Rattle.rule_model.specs.Dictionary.{place_in}
 use Rattle.kmn_names.specs.Places.{written, place_behind}
 use Rattle.kmn_names.proofs.name_table.compared_place.Given as goal
 

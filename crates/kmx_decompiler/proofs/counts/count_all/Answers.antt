@@ -1,7 +1,7 @@
 use Rattle.std.proofs.Common.{◌≡◌}
 use Rattle.std.proofs.lemmas.Result.{IfOk-weaker}
-use Rattle.decompile_laws.specs.Back.{back}
-use Rattle.decompile_causes.specs.Excess.{store_count, element_count}
+use Rattle.decompile_program.specs.Back.{back}
+use Rattle.kmx_decompiler.specs.Excess.{store_count, element_count}
 use Rattle.kmx_decompiler.specs.declared.counts.WrittenCounts.{WrittenCounts}
 use Rattle.kmx_decompiler.specs.Counting.{none_counted, with_lengths, text_lengths}
 use Rattle.kmx_decompiler.proofs.TextCounts.{stores_counted, elements_counted}

@@ -1,6 +1,6 @@
 use Rattle.std.proofs.Common.{arith}
 use Rattle.kmx_decompiler.proofs.Lengths.{with_lengths_append}
-use Rattle.decompile_laws.specs.WrittenOut.{table_values}
+use Rattle.decompile_program.specs.WrittenOut.{table_values}
 use Rattle.kmx_decompiler.proofs.counts.count_lengths.Goals as goal
 
 pub returns : goal.returns

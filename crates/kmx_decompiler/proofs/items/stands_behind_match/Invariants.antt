@@ -1,5 +1,5 @@
 use Rattle.std.proofs.Common.{◌≡◌, false, drop}
-use Rattle.decompile_causes.specs.Causes.{stands_behind_match}
+use Rattle.kmx_decompiler.specs.Causes.{stands_behind_match}
 use Rattle.kmx_decompiler.proofs.items.stands_behind_match.Given as goal
 
 abbrev pub invariant-loop-pattern : goal.invariant-loop-pattern

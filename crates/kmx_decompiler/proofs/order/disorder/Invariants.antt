@@ -1,5 +1,5 @@
 use Rattle.std.proofs.Common.{◌≡◌, drop}
-use Rattle.decompile_causes.specs.Unspelled.{disorder}
+use Rattle.kmx_decompiler.specs.Unspelled.{disorder}
 use Rattle.kmx_decompiler.proofs.order.disorder.Given as goal
 
 abbrev pub invariant-loop-group : goal.invariant-loop-group

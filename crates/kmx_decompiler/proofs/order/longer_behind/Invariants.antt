@@ -1,5 +1,5 @@
 use Rattle.std.proofs.Common.{◌≡◌, ◌+◌, drop}
-use Rattle.decompile_causes.specs.Unspelled.{longer_behind}
+use Rattle.kmx_decompiler.specs.Unspelled.{longer_behind}
 use Rattle.kmx_decompiler.proofs.order.longer_behind.Given as goal
 
 abbrev pub invariant-loop-before : goal.invariant-loop-before

@@ -1,5 +1,5 @@
 use Rattle.std.proofs.Common.{◌≡◌, drop}
-use Rattle.decompile_causes.specs.Places.{group_causes}
+use Rattle.kmx_decompiler.specs.Places.{group_causes}
 use Rattle.kmx_decompiler.specs.Least.{lesser}
 use Rattle.kmx_decompiler.specs.RecordPlaces.{HaveNearRecords}
 use Rattle.kmx_decompiler.proofs.places.in_groups.Given as goal

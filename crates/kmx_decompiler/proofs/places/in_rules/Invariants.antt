@@ -1,6 +1,6 @@
 use Rattle.std.proofs.Common.{◌≡◌, ◌+◌, ◌*◌, drop}
 use Rattle.kmx_format.specs.declared.sizes.TheConstants.{RULE_BYTES}
-use Rattle.decompile_causes.specs.Places.{rule_causes}
+use Rattle.kmx_decompiler.specs.Places.{rule_causes}
 use Rattle.kmx_decompiler.specs.Least.{lesser}
 use Rattle.kmx_decompiler.proofs.places.in_rules.Given as goal
 

@@ -1,7 +1,7 @@
 use Rattle.std.proofs.Common.{◌≡◌, ◌+◌, ◌*◌, drop, None}
 use Rattle.rule_model.specs.Tab.{tab_options}
 use Rattle.kmx_format.specs.declared.sizes.TheConstants.{STORE_BYTES}
-use Rattle.decompile_causes.specs.Places.{store_causes}
+use Rattle.kmx_decompiler.specs.Places.{store_causes}
 use Rattle.kmx_decompiler.specs.Least.{lesser}
 use Rattle.kmx_decompiler.proofs.places.in_stores.Given as goal
 

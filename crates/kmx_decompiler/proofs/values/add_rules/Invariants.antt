@@ -1,6 +1,6 @@
 use Rattle.std.proofs.Common.{◌≡◌, drop}
 use Rattle.std.specs.Prelude.{flat_map}
-use Rattle.decompile_laws.specs.WrittenOut.{rule_values}
+use Rattle.decompile_program.specs.WrittenOut.{rule_values}
 use Rattle.kmx_decompiler.specs.Values.{with_values}
 use Rattle.kmx_decompiler.proofs.values.add_rules.Given as goal
 

@@ -1,5 +1,5 @@
 use Rattle.std.proofs.Common.{◌∙◌, ap, List, ℕ}
-use Rattle.virtual_keys.specs.Dictionary.{place_in}
+use Rattle.rule_model.specs.Dictionary.{place_in}
 use Rattle.kmn_names.specs.Places.{written}
 use Rattle.kmn_names.proofs.PlaceLemmas.{place_found}
 use Rattle.kmn_names.proofs.name_table.NameTable.place_of.Goals as goal

@@ -1,6 +1,6 @@
 use Rattle.std.proofs.Common.{◌∙◌, ap, List, ℕ, arith}
 use Rattle.std.specs.Str.{str_to_ascii_lowercase}
-use Rattle.virtual_keys.specs.Dictionary.{place_in}
+use Rattle.rule_model.specs.Dictionary.{place_in}
 use Rattle.kmn_names.proofs.PlaceLemmas.{new_entries}
 use Rattle.kmn_names.proofs.name_table.NameTable.push_new.Goals as goal
 

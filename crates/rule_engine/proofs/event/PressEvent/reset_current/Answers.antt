@@ -4,7 +4,7 @@ use Rattle.rule_model.specs.declared.event_state.EventState.{EventState}
 use Rattle.rule_model.specs.Content.{option_number}
 use Rattle.rule_model.specs.Keyboard.{Numbered}
 use Rattle.rule_model.specs.Tab.{tab}
-use Rattle.option_store.specs.Cells.{reset_cell}
+use Rattle.engine_state.specs.Cells.{reset_cell}
 use Rattle.rule_engine.specs.Event.{EventValue}
 use Rattle.rule_engine.proofs.OptionSteps.{event_after_reset}
 use Rattle.rule_matching.specs.PlaceMemory.{rooms}

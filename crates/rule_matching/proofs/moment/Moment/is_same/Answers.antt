@@ -1,7 +1,7 @@
 use Rattle.std.proofs.Common.{◌≡◌, ℕ, List, Some, map, ◌∙◌, ap, subst}
 use Rattle.kmn_base.specs.declared.items.Element.{Element}
 use Rattle.kmn_base.specs.declared.items.Element.TheVariants.{Char}
-use Rattle.option_store.specs.Cells.{cell_at}
+use Rattle.engine_state.specs.Cells.{cell_at}
 use Rattle.rule_model.specs.Content.{elements_at}
 use Rattle.rule_model.specs.Keyboard.{Numbered}
 use Rattle.rule_model.specs.Match.{same_value}

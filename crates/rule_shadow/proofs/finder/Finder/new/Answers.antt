@@ -1,6 +1,6 @@
 use Rattle.std.proofs.Common.{◌≤◌, List, Bool, length, arith, subst, sym}
 use Rattle.rule_model.specs.declared.tables.Store.{Store}
-use Rattle.store_sets.specs.Numbers.{AreSetsOf}
+use Rattle.indexed_tables.specs.Numbers.{AreSetsOf}
 use Rattle.rule_shadow.specs.Flags.{TellOptions}
 use Rattle.rule_shadow.proofs.Flags.{marked_tell}
 use Rattle.rule_shadow.proofs.finder.Finder.new.Goals as goal

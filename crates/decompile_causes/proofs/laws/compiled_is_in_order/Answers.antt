@@ -1,5 +1,0 @@
-use Rattle.decompile_causes.proofs.CompiledOrder.{compiled_is_in_order}
-use Rattle.decompile_causes.proofs.laws.compiled_is_in_order.Goals as goal
-
-pub returns : goal.returns
-returns c = compiled_is_in_order

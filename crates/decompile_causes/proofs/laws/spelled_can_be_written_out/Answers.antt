@@ -1,5 +1,0 @@
-use Rattle.decompile_causes.proofs.WrittenOut.{spelled_written_out}
-use Rattle.decompile_causes.proofs.laws.spelled_can_be_written_out.Goals as goal
-
-pub returns : goal.returns
-returns c = spelled_written_out

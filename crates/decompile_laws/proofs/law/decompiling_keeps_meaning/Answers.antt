@@ -1,5 +1,0 @@
-use Rattle.decompile_laws.proofs.Whole.{decompiling_keeps_meaning}
-use Rattle.decompile_laws.proofs.law.decompiling_keeps_meaning.Goals as goal
-
-pub returns : goal.returns
-returns c = decompiling_keeps_meaning

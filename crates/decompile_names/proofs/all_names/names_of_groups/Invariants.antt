@@ -1,6 +1,0 @@
-use Rattle.std.proofs.Common.{◌≡◌, ◌++◌, drop, map}
-use Rattle.rule_model.specs.declared.tables.Group.{Group}
-use Rattle.decompile_names.proofs.all_names.names_of_groups.Given as goal
-
-abbrev pub invariant-loop-group : goal.invariant-loop-group
-invariant-loop-group l = l.names ++ map (λ (group : Group). group.name) (drop l.group-index l.groups) ≡ map (λ (group : Group). group.name) l.groups

@@ -1,7 +1,0 @@
-use Rattle.std.proofs.Common.{◌≡◌, drop}
-use Rattle.std.specs.Prelude.{flat_map, fold, max}
-use Rattle.decompile_laws.specs.Marks.{group_marks}
-use Rattle.decompile_names.proofs.greatest.in_groups.Given as goal
-
-abbrev pub invariant-loop-group : goal.invariant-loop-group
-invariant-loop-group l = fold max l.greatest (flat_map group_marks (drop l.group-index l.groups)) ≡ fold max l.fn.least (flat_map group_marks l.groups)

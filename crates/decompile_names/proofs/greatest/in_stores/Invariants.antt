@@ -1,7 +1,0 @@
-use Rattle.std.proofs.Common.{◌≡◌, drop}
-use Rattle.std.specs.Prelude.{flat_map, fold, max}
-use Rattle.decompile_laws.specs.Marks.{store_marks}
-use Rattle.decompile_names.proofs.greatest.in_stores.Given as goal
-
-abbrev pub invariant-loop-store : goal.invariant-loop-store
-invariant-loop-store l = fold max l.greatest (flat_map store_marks (drop l.store-index l.stores)) ≡ fold max l.fn.least (flat_map store_marks l.stores)

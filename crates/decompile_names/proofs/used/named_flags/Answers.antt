@@ -1,8 +1,0 @@
-use Rattle.std.proofs.Common.{arith}
-use Rattle.std.proofs.lemmas.Grind.{common_steps}
-use Rattle.decompile_laws.specs.Names.{named_stores}
-use Rattle.decompile_names.proofs.used.named_flags.Goals as goal
-
-pub returns : goal.returns
-unfolding named_stores
-returns c = grind (arith, common_steps)

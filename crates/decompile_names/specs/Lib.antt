@@ -1,4 +1,0 @@
-pub mod AllNames
-pub mod Calling
-pub mod Free
-pub mod SourceNames

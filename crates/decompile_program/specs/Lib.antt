@@ -1,0 +1,10 @@
+pub mod AllNames
+pub mod Calling
+pub mod Free
+pub mod SourceNames
+pub mod Back
+pub mod Items
+pub mod Laws
+pub mod Marks
+pub mod Names
+pub mod WrittenOut

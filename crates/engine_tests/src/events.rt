@@ -1,0 +1,62 @@
+//! The events of words.
+
+use crate::fixtures::press;
+use kmn_base::{Event, KeyPress, Memory, Seq};
+use std::alloc::Global;
+
+/// A number of a table; one that is no place of any text where it is malformed.
+fn number(text: &str) -> u32 {
+    text.parse().unwrap_or(u32::MAX)
+}
+
+/// The press of a word.
+fn press_of(word: &str) -> KeyPress {
+    let (mods, name) = word.split_once('+').unwrap_or(("0", word));
+    KeyPress {
+        code: if name.starts_with("T_") {
+            256
+        } else {
+            press(name.as_bytes()).code
+        },
+        mods: mods.parse().unwrap_or(u16::MAX),
+    }
+}
+
+fn chars(alloc: Global, text: &str) -> Result<Seq<char>, Memory> {
+    Ok(Seq::from_vec(text.chars().collect(alloc)?))
+}
+
+/// The edit of its places and its text, between commas.
+fn edit(alloc: Global, edit: &str) -> Result<Event, Memory> {
+    let (from, rest) = edit.split_once(',').unwrap_or((edit, ""));
+    let (to, text) = rest.split_once(',').unwrap_or((rest, ""));
+    Ok(Event::Edit {
+        from: number(from),
+        to: number(to),
+        text: chars(alloc, text)?,
+    })
+}
+
+fn setting(alloc: Global, name: &str, value: &str) -> Result<Event, Memory> {
+    let spaced = value.replace(alloc, "_", " ")?;
+    let value = chars(alloc, spaced.as_str())?;
+    Ok(Event::Setting {
+        name: Seq::from_slice(alloc, name.as_bytes())?,
+        value,
+    })
+}
+
+/// The event of a word: `@` and a place of the caret, `-` and an edit, the name and the value of a setting with `=` between
+/// them, where `_` is a space, or a key's name, perhaps behind its modifiers and `+`. A key `T_..` is the first of its own.
+pub fn event(alloc: Global, word: &str) -> Result<Event, Memory> {
+    if let Some(place) = word.strip_prefix('@') {
+        return Ok(Event::Caret(number(place)));
+    }
+    if let Some(places) = word.strip_prefix('-') {
+        return edit(alloc, places);
+    }
+    match word.split_once('=') {
+        Some((name, value)) => setting(alloc, name, value),
+        None => Ok(Event::Key(press_of(word))),
+    }
+}

@@ -1,0 +1,255 @@
+//! The lines that events choose, and how often each line of a keyboard is chosen.
+
+ghost use Rattle.std.specs.Prelude.{All, IfOk};
+ghost use Rattle.std.specs.List.{Contains};
+ghost use Rattle.plain_event.specs.Coverage.{record_lines, AreLinesOf};
+
+use crate::events::event;
+use crate::keyboards::keyboard;
+use crate::states::{can_be_done, start};
+use compile_tests::fixtures::compiled;
+use kmn_base::{Event, Memory};
+use kmx_verifier::verify;
+use plain_event::{Coverage, PlainState, Traced, chosen_lines_are_lines, trace_event};
+use rule_model::Tables;
+use source_tests::fixtures::parted;
+use std::alloc::Global;
+use std::fmt::Write;
+use std::test::Fail;
+
+/// On each line the statements behind the first two of a keyboard, which are `begin Unicode > use(main)` and
+/// `group(main) using keys`, so that they stand from line 3 on; behind ` ⇒ ` its events, parted by ` ; `, each with the lines
+/// that it chooses; and behind another each line of a rule with its count. `¶` is a line feed. A press may have its modifiers
+/// before its key, `T_` keys are the first of their own, `@` is a place of the caret, and `=` parts the name and the value of a
+/// setting.
+const CASES: &str = "\
++ 'c' > 'x'¶'a' + 'c' > 'y' ⇒ K_A - ; K_C 4 ⇒ 3=0 4=1
++ 'a' > 'x' ⇒ K_B - ⇒ 3=0
+c no rule ⇒ K_A - ⇒ 
++ 'a' > 'x'¶store(o) '0'¶if(o = '0') + 'a' > 'y' ⇒ K_A 5 ; o=1 - ; @0 - ; K_A 3 ⇒ 3=1 5=1
++ 'a' > 'x' use(main) ⇒ K_A 3.3.3.3.3.3.3.3.3.3.3.3.3.3.3.3.3.3.3.3.3.3.3.3.3.3.3.3.3.3.3.3.3.3.3.3.3.3.3.3.3.3.3.3.3.3.3.3.3.3 ⇒ 3=50
++ 'a' > 'x'¶match > use(g)¶group(g)¶'x' > 'y' ⇒ K_A 3.6 ⇒ 3=1 6=1
++ 'b' > 'x'¶nomatch > use(g)¶group(g)¶nul > 'y' ⇒ K_A 6 ⇒ 3=0 6=1
++ 'a' > return use(g)¶group(g)¶nul > 'y' ⇒ K_A 3 ⇒ 3=1 5=0
++ 'a' > use(g) 'x' use(h)¶group(g)¶nul > 'y'¶group(h)¶'yx' > 'z'¶match > use(g) ⇒ K_A 3.5.7 ⇒ 3=1 5=1 7=1
+store(v) 'ab'¶+ any(v) > 'x' ⇒ K_A 4 ; K_B 4 ⇒ 4=2";
+
+/// A keyboard with deadkeys, an option and three groups: the lines of `examples/sample.kmn`, with a comment in place of the one
+/// that names a picture.
+const SAMPLE: &str = "c Acute and grave vowels
+store(&version) '10.0'
+store(&name) 'Sample Accents'
+store(&copyright) '(c) Example'
+c
+store(&targets) 'any'
+store(&layoutfile) 'sample.keyman-touch-layout'
+store(&keyboardversion) '1.0'
+begin Unicode > use(main)
+store(plain) 'aeiouAEIOU'
+store(acute) U+00E1 U+00E9 U+00ED U+00F3 U+00FA U+00C1 U+00C9 U+00CD U+00D3 U+00DA
+store(grave) U+00E0 U+00E8 U+00EC U+00F2 U+00F9 U+00C0 U+00C8 U+00CC U+00D2 U+00D9
+store(quotes) \"0\"
+group(main) using keys
++ \"'\" > dk(acute)
++ '`' > dk(grave)
+dk(acute) + any(plain) > index(acute, 2)
+dk(grave) + any(plain) > index(grave, 2)
+dk(acute) + \"'\" > \"'\"
+any(acute) + [K_BKSP] > index(plain, 1) dk(acute)
++ [T_flip] > use(flip)
+if(quotes = \"1\") + '\"' > U+201C
++ [CTRL ALT K_Q] > set(quotes = \"1\") save(quotes)
++ '-' > '-'
+match > use(after)
+group(flip)
+any(acute) > index(grave, 1)
+any(grave) > index(acute, 1)
+nomatch > beep
+group(after)
+'--' > U+2013
+";
+
+/// The presses of `examples/sample.keys` and the lines that they choose, as the second run of `trace_rows` in `run_tests` prints
+/// them.
+const SAMPLE_EVENTS: &str =
+    "K_QUOTE 15 ; K_A 17 ; T_flip 21.27 ; K_BKQUOTE 16 ; 16+K_E 18 ; K_HYPHEN 24 ; \
+    K_HYPHEN 24.31 ; 5+K_Q 23 ; 16+K_QUOTE 22 ; K_BKSP - ; T_flip 21";
+
+const SAMPLE_HITS: &str = "15=1 16=1 17=1 18=1 19=0 20=0 21=2 22=1 23=1 24=2 27=1 28=0 31=1";
+
+/// The tables of a compiled file.
+fn tables_of_file(alloc: Global, bytes: &[u8]) -> Result<Tables, Fail> {
+    let file = verify(alloc, bytes)?;
+    Ok(file.copied_tables(alloc)?)
+}
+
+/// What one event does, and the lines that it chooses, which are lines of records.
+fn traced(alloc: Global, tables: &Tables, state: &PlainState, event: &Event) -> Result<Traced, Fail>
+    ensures { IfOk result (λ traced. All (Contains (record_lines tables.now)) traced.lines) }
+{
+    chosen_lines_are_lines();
+    if can_be_done(tables, state, event) {
+        return Ok(trace_event(alloc, tables, state, event)?);
+    }
+    Err(Fail::from("an event that can't be done"))
+}
+
+/// Lines parted by dots, or `-` for none.
+fn shown_lines(alloc: Global, lines: &[u32]) -> Result<String, Memory> {
+    let mut text = String::new(alloc);
+    for line in lines {
+        write!(text, "{}{line}", if text.is_empty() { "" } else { "." })?;
+    }
+    if lines.is_empty() {
+        text.push('-')?;
+    }
+    Ok(text)
+}
+
+/// Each line with its count.
+fn shown_hits(alloc: Global, coverage: &Coverage) -> Result<String, Memory> {
+    let mut text = String::new(alloc);
+    for hit in coverage.hits() {
+        write!(
+            text,
+            "{}{}={}",
+            if text.is_empty() { "" } else { " " },
+            hit.line,
+            hit.count
+        )?;
+    }
+    Ok(text)
+}
+
+/// Counts lines of records.
+fn count(tables: &Tables, coverage: &mut Coverage, lines: &[u32])
+    requires of { AreLinesOf tables.now coverage.old }
+    requires among { All (Contains (record_lines tables.now)) lines.now }
+    ensures { AreLinesOf tables.now coverage.new }
+{
+    // The contract alone speaks of the tables.
+    let _ = tables;
+    coverage.add(lines);
+}
+
+/// Does an event and counts the lines that it chooses, which it tells.
+fn chosen_by(
+    alloc: Global,
+    tables: &Tables,
+    state: &mut PlainState,
+    coverage: &mut Coverage,
+    event: &Event,
+) -> Result<String, Fail>
+    requires { AreLinesOf tables.now coverage.old }
+    ensures { AreLinesOf tables.now coverage.new }
+{
+    let traced = traced(alloc, tables, state, event)?;
+    let chosen = traced.lines.as_slice();
+    let shown = shown_lines(alloc, chosen)?;
+    count(tables, coverage, chosen);
+    *state = traced.state;
+    Ok(shown)
+}
+
+/// Does one step and counts the lines that it chooses; whether these are the wanted ones.
+fn shows(
+    alloc: Global,
+    tables: &Tables,
+    state: &mut PlainState,
+    coverage: &mut Coverage,
+    step: &str,
+) -> Result<bool, Fail>
+    requires { AreLinesOf tables.now coverage.old }
+    ensures { AreLinesOf tables.now coverage.new }
+{
+    let (word, wanted) = step.split_once(' ').unwrap_or((step, ""));
+    let event = event(alloc, word)?;
+    Ok(chosen_by(alloc, tables, state, coverage, &event)?.as_str() == wanted)
+}
+
+/// Whether each step shows the wanted lines.
+fn show(
+    alloc: Global,
+    tables: &Tables,
+    state: &mut PlainState,
+    coverage: &mut Coverage,
+    steps: &str,
+) -> Result<bool, Fail>
+    requires { AreLinesOf tables.now coverage.old }
+{
+    for step in steps.split(" ; ") {
+        if !shows(alloc, tables, state, coverage, step)? {
+            return Ok(false);
+        }
+    }
+    Ok(true)
+}
+
+/// Whether each step from the start on shows the wanted lines.
+fn show_all(
+    alloc: Global,
+    tables: &Tables,
+    coverage: &mut Coverage,
+    steps: &str,
+) -> Result<bool, Fail>
+    requires { AreLinesOf tables.now coverage.old }
+{
+    let mut state = start(alloc, tables)?;
+    show(alloc, tables, &mut state, coverage, steps)
+}
+
+/// Whether each event chooses the wanted lines, and they come to the wanted hits.
+fn is_covered(
+    alloc: Global,
+    tables: &Tables,
+    coverage: &mut Coverage,
+    steps: &str,
+    hits: &str,
+) -> Result<bool, Fail>
+    requires { AreLinesOf tables.now coverage.old }
+{
+    if show_all(alloc, tables, coverage, steps)? {
+        return Ok(shown_hits(alloc, coverage)?.as_str() == hits);
+    }
+    Ok(false)
+}
+
+/// Whether this is so of the lines of these tables.
+fn is_traced(alloc: Global, tables: &Tables, steps: &str, hits: &str) -> Result<bool, Fail> {
+    let mut coverage = Coverage::new(alloc, tables)?;
+    is_covered(alloc, tables, &mut coverage, steps, hits)
+}
+
+/// Whether this is so of the tables of a file.
+fn is_right(alloc: Global, bytes: &[u8], steps: &str, hits: &str) -> Result<bool, Fail> {
+    let tables = tables_of_file(alloc, bytes)?;
+    is_traced(alloc, &tables, steps, hits)
+}
+
+/// Whether a case is right.
+fn is_case_right(alloc: Global, case: &str) -> Result<bool, Fail> {
+    let (statements, rest) = parted(case)?;
+    let (steps, hits) = parted(rest)?;
+    let bytes = keyboard(alloc, statements)?;
+    is_right(alloc, bytes.as_slice(), steps, hits)
+}
+
+/// Whether the sample is.
+fn is_sample_right(alloc: Global) -> Result<bool, Fail> {
+    let bytes = compiled(alloc, SAMPLE)?;
+    is_right(alloc, bytes.as_slice(), SAMPLE_EVENTS, SAMPLE_HITS)
+}
+
+#[test]
+fn lines_of_cases(rt: HostRuntime) -> Result<(), Fail> {
+    for case in CASES.lines() {
+        assert!(rt; is_case_right(rt.alloc(), case)?, "{case}");
+    }
+    Ok(())
+}
+
+#[test]
+fn lines_of_a_sample(rt: HostRuntime) -> Result<(), Fail> {
+    assert!(rt; is_sample_right(rt.alloc())?);
+    Ok(())
+}

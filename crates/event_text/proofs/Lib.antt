@@ -1,4 +1,0 @@
-pub mod StandingTexts
-pub mod Lefts
-pub mod Windows
-pub mod Cached

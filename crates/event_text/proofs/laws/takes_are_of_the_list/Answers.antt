@@ -1,5 +1,0 @@
-use Rattle.event_text.proofs.Cached.{takes_are_of_the_list}
-use Rattle.event_text.proofs.laws.takes_are_of_the_list.Goals as goal
-
-pub returns : goal.returns
-returns c = takes_are_of_the_list

@@ -1,4 +1,0 @@
-pub mod Strings
-pub mod TextSteps
-pub mod RuleSteps
-pub mod Whole

@@ -1,4 +1,0 @@
-pub mod Sizes
-pub mod Spellings
-pub mod Places
-pub mod Excess

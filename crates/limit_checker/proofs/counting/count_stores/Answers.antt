@@ -1,9 +1,0 @@
-use Rattle.std.proofs.Common.{arith}
-use Rattle.std.proofs.lemmas.Grind.{common_steps}
-use Rattle.limit_checker.proofs.counting.count_stores.Goals as goal
-
-pub loop-store-preserved : goal.loop-store-preserved
-loop-store-preserved c = grind (arith, common_steps)
-
-pub returns : goal.returns
-returns c = grind (arith, common_steps)

@@ -1,8 +1,0 @@
-use Rattle.std.proofs.Common.{◌≡◌, [], take, drop}
-use Rattle.kmn_names.specs.First.{earlier, first_of}
-use Rattle.limit_checker.specs.Limits.{group_refusal}
-use Rattle.limit_checker.proofs.limits.groups_refusal.Given as goal
-
-abbrev pub invariant-loop-before : goal.invariant-loop-before
-invariant-loop-before l =
-    earlier l.first (first_of group_refusal (take l.before l.groups) (drop l.before l.groups)) ≡ first_of group_refusal [] l.groups

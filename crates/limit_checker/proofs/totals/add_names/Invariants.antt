@@ -1,6 +1,0 @@
-use Rattle.std.proofs.Common.{◌≡◌, drop}
-use Rattle.limit_checker.specs.Walking.{with_names}
-use Rattle.limit_checker.proofs.totals.add_names.Given as goal
-
-abbrev pub invariant-loop-item : goal.invariant-loop-item
-invariant-loop-item l = with_names l.totals (drop l.item-index l.items) ≡ with_names l.initial.totals l.items

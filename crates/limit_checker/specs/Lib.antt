@@ -1,5 +1,0 @@
-pub mod Cased
-pub mod Counting
-pub mod KeyCodes
-pub mod Limits
-pub mod Walking

@@ -1,5 +1,0 @@
-use Rattle.plain_event.specs.Coverage.{AreLinesOf}
-use Rattle.meaning_tests.proofs.tracing.show.Given as goal
-
-abbrev pub invariant-loop-step : goal.invariant-loop-step
-invariant-loop-step l = AreLinesOf l.tables l.coverage

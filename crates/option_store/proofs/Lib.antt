@@ -1,2 +1,0 @@
-pub mod FirstCells
-pub mod Meaning

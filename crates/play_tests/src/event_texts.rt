@@ -1,0 +1,115 @@
+//! The edit and the last items that the steps of an event leave.
+
+ghost use Rattle.std.specs.Prelude.{◌≡◌, ◌<◌, ◌^◌, length};
+ghost use Rattle.kmn_base.specs.declared.limits.TheConstants.{EVENT_PUTS, WINDOW_ITEMS};
+
+use engine_state::{Cache, Edited, Inserted, Left};
+use kmn_base::Item::{Char, Mark};
+use kmn_base::limits::EVENT_PUTS;
+use kmn_base::{Item, Memory};
+use source_tests::fixtures::{parted, put_items};
+use std::alloc::Global;
+use std::fmt::Write;
+use std::test::Fail;
+
+/// On each line a lent text and the steps on it, parted by a bar, and behind ` ⇒ ` how many of its characters are deleted, what
+/// is inserted, and the last items, parted by bars. A step is a character that is put, `*` for a mark that is put, `<` for an
+/// item that is taken, and `#` for the last character with the marks around it.
+const CASES: &str = "\
+| ⇒ 0||
+abc|xy ⇒ 0|xy|abcxy
+abc|<x ⇒ 1|x|abx
+abc|x<y ⇒ 0|y|abcy
+abc|x<<y ⇒ 1|y|aby
+abc|<<bd ⇒ 1|d|abd
+abc|*d ⇒ 0|d|abc*d
+abc|*d*# ⇒ 0||abc
+ab|<<<<*#x ⇒ 2|x|x";
+
+/// Puts an item, if one more may be put.
+fn put(left: &mut Left, item: Item) {
+    if left.puts() < EVENT_PUTS {
+        left.put(item);
+    }
+}
+
+/// Takes the last item, if there is one.
+fn take(left: &mut Left) {
+    left.fill();
+    if !left.cache().is_empty() {
+        left.take(1);
+    }
+}
+
+/// One step.
+fn act(left: &mut Left, step: char) {
+    match step {
+        '<' => take(left),
+        '#' => left.take_character(),
+        '*' => put(left, Mark(1)),
+        c => put(left, Char(c)),
+    }
+}
+
+/// What is left of a text after these steps.
+fn edited(text: &[char], inserted: Inserted, cache: Cache, steps: &str) -> Edited
+    requires few { length text.now < 2 ^ 32 }
+    requires room { inserted.room ≡ EVENT_PUTS }
+    requires places { cache.room ≡ WINDOW_ITEMS }
+{
+    let mut left = Left::begin(text, inserted, cache);
+    for step in steps.chars() {
+        act(&mut left, step);
+    }
+    left.finish()
+}
+
+/// How many characters are deleted, what is inserted, and the last items, as a row writes them.
+fn shown(alloc: Global, edited: &Edited) -> Result<String, Memory> {
+    let mut text = String::new(alloc);
+    write!(text, "{}|", edited.deleted)?;
+    for c in edited.inserted.as_slice() {
+        text.push(*c)?;
+    }
+    text.push('|')?;
+    put_items(&mut text, edited.cache.items())?;
+    Ok(text)
+}
+
+/// What these steps leave of a text, as a row writes it.
+fn left_of(alloc: Global, text: &[char], steps: &str) -> Result<String, Fail> {
+    if text.len() >= 0x1_0000_0000 {
+        return Err(Fail::from("too long a text"));
+    }
+    let inserted = Inserted::with_room(alloc)?;
+    let cache = Cache::with_room(alloc)?;
+    Ok(shown(alloc, &edited(text, inserted, cache, steps))?)
+}
+
+/// Whether a row tells what its steps leave.
+fn tells(alloc: Global, row: &str) -> Result<bool, Fail> {
+    let (lent, wanted) = parted(row)?;
+    let (text, steps) = lent.split_once('|').unwrap_or((lent, ""));
+    let text: Vec<char> = text.chars().collect(alloc)?;
+    Ok(left_of(alloc, text.as_slice(), steps)?.as_str() == wanted)
+}
+
+#[test]
+fn edits_of_events(rt: HostRuntime) -> Result<(), Fail> {
+    for row in CASES.lines() {
+        assert!(rt; tells(rt.alloc(), row)?, "{row}");
+    }
+    Ok(())
+}
+
+/// Whether the text before the window comes to hand when all of the window was taken.
+fn comes_to_hand(alloc: Global) -> Result<bool, Fail> {
+    let steps = "<".repeat(alloc, 100)?;
+    Ok(left_of(alloc, &['a'; 100], steps.as_str())?.as_str() == "100||")
+}
+
+#[test]
+fn events_that_take_more_than_the_window(rt: HostRuntime) -> Result<(), Fail> {
+    assert!(rt; comes_to_hand(rt.alloc())?);
+    Ok(())
+}

@@ -1,4 +1,0 @@
-pub mod EachEntry
-pub mod RisingLines
-pub mod TraceEnds
-pub mod TraceText

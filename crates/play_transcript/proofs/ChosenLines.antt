@@ -1,0 +1,13 @@
+-- A coverage has each line that an event can choose.
+use Rattle.std.proofs.Common.{List, get_or}
+use Rattle.rule_model.specs.declared.tables.Tables.{Tables}
+use Rattle.rule_model.specs.ChosenLines.{chosen}
+use Rattle.rule_model.specs.Tab.{tab}
+use Rattle.plain_event.specs.declared.coverage.Hit.{Hit}
+use Rattle.plain_event.specs.Coverage.{hit_lines, AreLinesOf}
+use Rattle.plain_event.proofs.Among.{chosen_are_lines}
+use Rattle.play_transcript.specs.TraceEntry.{Covers}
+
+-- lines of records are among those of a coverage
+pub lines_cover : (tables : Tables) (hits : List Hit) → AreLinesOf tables hits → Covers tables (hit_lines hits)
+lines_cover tables hits are state event = λ k d within. (are.lines (get_or (chosen (tab tables) state event) k d)).1 (chosen_are_lines tables state event k d within)

@@ -1,0 +1,127 @@
+//! Sources that the parser reads, each with what it answers.
+
+use crate::fixtures::{parted, source_of};
+use crate::rows::{ITEMS, LIMITS, LINES, LimitRow, SAMPLE, SAMPLE_RULES, STATEMENTS, TOKENS};
+use crate::telling::{write_error, write_groups, write_program};
+use kmn_base::{Code, CompileError, Refusal};
+use kmn_parser::parse;
+use std::alloc::{AllocError, Global};
+use std::fmt::Write;
+use std::test::Fail;
+
+/// The two lines of a keyboard with the group `main`, which uses keys.
+const KEYBOARD: &str = "begin Unicode > use(main)\ngroup(main) using keys\n";
+
+/// The line of a group that uses none.
+const WITHOUT_KEYS: &str = "group(g)\n";
+
+/// What a row's word opens its source with, and how many lines that has: `K` the group `main`, `G` a group without keys, and
+/// any other nothing.
+fn opening(word: &str) -> (&'static str, u32) {
+    match word {
+        "K" => (KEYBOARD, 2),
+        "G" => (WITHOUT_KEYS, 1),
+        _ => ("", 0),
+    }
+}
+
+/// What the parser answers of a source, behind its opening.
+fn answer(alloc: Global, opened: u32, source: &[u8]) -> Result<String, Fail> {
+    let mut out = String::new(alloc);
+    match parse(alloc, source) {
+        Ok(program) => write_program(&mut out, opened, &program)?,
+        Err(error) => {
+            out.push_str("; ")?;
+            write_error(&mut out, &error)?;
+        }
+    }
+    Ok(out)
+}
+
+/// The source of a row, and how many lines its opening has.
+fn opened_source(alloc: Global, row: &str) -> Result<(String, u32), Fail> {
+    let (word, text) = row.split_once(':').ok_or("a row without an opening")?;
+    let (lines, opened) = opening(word);
+    let mut source = String::from_str(alloc, lines)?;
+    source.push_str(source_of(alloc, text)?.as_str())?;
+    Ok((source, opened))
+}
+
+/// Whether the parser answers as a row of a table says.
+fn is_answered(alloc: Global, row: &str) -> Result<bool, Fail> {
+    let (text, wanted) = parted(row)?;
+    let (source, opened) = opened_source(alloc, text)?;
+    let given = answer(alloc, opened, source.as_bytes())?;
+    Ok(given.as_str().strip_prefix("; ").unwrap_or("nothing") == wanted)
+}
+
+/// Whether the sample has its stores and rules.
+fn has_parsed_sample(alloc: Global) -> Result<bool, Fail> {
+    let program = parse(alloc, SAMPLE.as_bytes())?;
+    let mut rules = String::new(alloc);
+    write_groups(&mut rules, 0, &program)?;
+    Ok(program.stores.len() == 11 && rules.as_str().strip_prefix("; ") == Some(SAMPLE_RULES))
+}
+
+/// The source that has a row's name.
+fn source_with(alloc: Global, row: LimitRow) -> Result<String, AllocError> {
+    let (before, c, count, after, _) = row;
+    let mut source = String::from_str(alloc, WITHOUT_KEYS)?;
+    source.push_str(before)?;
+    for _ in 0..count {
+        source.push(c)?;
+    }
+    source.push_str(after)?;
+    Ok(source)
+}
+
+/// How many stores a source states, or its refusal.
+fn write_count(alloc: Global, out: &mut String, source: &[u8]) -> Result<(), AllocError> {
+    match parse(alloc, source) {
+        Ok(program) => write!(out, "{}", program.stores.len()),
+        Err(error) => write_error(out, &error),
+    }
+}
+
+/// Whether the parser answers as a row says of a source that has the row's name.
+fn is_limited(alloc: Global, row: LimitRow) -> Result<bool, Fail> {
+    let source = source_with(alloc, row)?;
+    let mut out = String::new(alloc);
+    write_count(alloc, &mut out, source.as_bytes())?;
+    Ok(out.as_str() == row.4)
+}
+
+/// Whether bytes are refused in their first line by this code.
+fn is_refused(alloc: Global, source: &[u8], code: Code) -> bool {
+    match parse(alloc, source) {
+        Err(CompileError::Refused(refusal)) => refusal == Refusal { line: 1, code },
+        _ => false,
+    }
+}
+
+#[test]
+fn worked_rows(rt: HostRuntime) -> Result<(), Fail> {
+    for table in &[TOKENS, LINES, STATEMENTS, ITEMS] {
+        for row in table.lines() {
+            assert!(rt; is_answered(rt.alloc(), row)?, "{row}");
+        }
+    }
+    assert!(rt; has_parsed_sample(rt.alloc())?);
+    Ok(())
+}
+
+/// Whether a source of one byte more than the limit is refused.
+fn is_long_refused(alloc: Global) -> Result<bool, AllocError> {
+    let long = vec![in alloc; 0xFFu8; 4_194_305]?;
+    Ok(is_refused(alloc, &long, Code::L05))
+}
+
+#[test]
+fn limits(rt: HostRuntime) -> Result<(), Fail> {
+    for row in LIMITS {
+        assert!(rt; is_limited(rt.alloc(), *row)?, "{} {}", row.0, row.2);
+    }
+    assert!(rt; is_refused(rt.alloc(), &[b'\n', 0xFF, b'\''], Code::L01));
+    assert!(rt; is_long_refused(rt.alloc())?);
+    Ok(())
+}

@@ -1,3 +1,0 @@
-pub mod Alone
-mod Errors
-mod Fields

@@ -1,5 +1,0 @@
-pub mod Dictionary
-pub mod Entries
-pub mod Fits
-pub mod Groups
-pub mod Keys
