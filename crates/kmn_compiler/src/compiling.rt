@@ -5,9 +5,9 @@ ghost use Rattle.rule_checker.specs.Refused.{IsRead, checked, refused};
 ghost use Rattle.kmn_compiler.specs.Source.{CompilesTo};
 
 use crate::ordering::order;
+use crate::write;
 use kmn_base::{CompileError, Memory, Seq};
 use kmn_parser::parse;
-use crate::write;
 use rule_checker::{Checked, check};
 use rule_expand::expand;
 use rule_model::Tables;
