@@ -5,6 +5,7 @@ use Rattle.std.specs.Prelude.{nat_le, if◌then◌else◌}
 use Rattle.std.specs.List.{filter_map}
 use Rattle.std.specs.Str.{encode_utf8_all}
 use Rattle.std.specs.Char.Utf16.{utf16_lossy_chars}
+use Rattle.std.specs.Option.{option_or}
 use Rattle.kmn_base.specs.Spelling.{unit_bytes, whole_units}
 use Rattle.kmn_base.specs.declared.codes.Code.TheVariants.{V09, V10, V15}
 use Rattle.kmn_base.specs.declared.keys.TheConstants.{SHIFT_FLAGS}
@@ -20,7 +21,7 @@ use Rattle.kmx_verifier.specs.declared.faults.StringKind.{StringKind}
 use Rattle.kmx_verifier.specs.declared.faults.StringKind.TheVariants as of
 use Rattle.kmx_verifier.specs.declared.faults.Target.{Target}
 use Rattle.kmx_verifier.specs.Items.{target_of}
-use Rattle.kmx_verifier.specs.FaultOf.{or_else, broken, broken_by, walk_fault, context_fault, read_at, item_count, string_fault, context_string_fault, name_fault, too_many_elements, store_fault, elements_in, stores_fault, context_targets, flags_fault, record_fault, records_fault, records_place_fault, group_strings_fault, group_fault, groups_fault}
+use Rattle.kmx_verifier.specs.FaultOf.{broken, broken_by, walk_fault, context_fault, read_at, item_count, string_fault, context_string_fault, name_fault, too_many_elements, store_fault, elements_in, stores_fault, context_targets, flags_fault, record_fault, records_fault, records_place_fault, group_strings_fault, group_fault, groups_fault}
 use Rattle.kmx_verifier.proofs.Looking.{walk_same, context_same}
 use Rattle.core_export.specs.Export.{are_contents_pointed, are_contexts_pointed, are_groups_pointed}
 use Rattle.core_export.proofs.Outside.{later, Refilled, StoresKept, RecordsKept, GroupsKept}
@@ -146,15 +147,15 @@ module _ (bytes fin : List ℕ) (unit high : ℕ) (sizes : length bytes ≡ leng
     count_same = ap length items_same
 
     name_kept : name_fault bytes place ≡ name_fault fin place
-    name_kept = ap₂ (λ e (s : List ℕ). or_else (broken V10 place (not e)) (or_else (broken V15 place (nat_lt FILE_NAME_UNITS (length s))) None)) kept.ended kept.same
+    name_kept = ap₂ (λ e (s : List ℕ). option_or (broken V10 place (not e)) (option_or (broken V15 place (nat_lt FILE_NAME_UNITS (length s))) None)) kept.ended kept.same
 
     string_kept : (kind : StringKind) (targets : List Target) (too_many : ℕ → Bool) → string_fault bytes kind targets place too_many ≡ string_fault fin kind targets place too_many
     string_kept kind targets too_many =
-        ap₂ or_else (ap₂ or_else (ap (λ e. broken V10 place (not e)) kept.ended) (walk_kept kind targets)) (ap (λ n. broken V15 place (too_many n)) count_same)
+        ap₂ option_or (ap₂ option_or (ap (λ e. broken V10 place (not e)) kept.ended) (walk_kept kind targets)) (ap (λ n. broken V15 place (too_many n)) count_same)
 
     context_string_kept : context_string_fault bytes place ≡ context_string_fault fin place
     context_string_kept =
-        ap₂ or_else (ap₂ or_else (ap (λ e. broken V10 place (not e)) kept.ended) context_kept) (ap (λ n. broken V15 place (nat_lt CONTEXT_ITEMS n)) count_same)
+        ap₂ option_or (ap₂ option_or (ap (λ e. broken V10 place (not e)) kept.ended) context_kept) (ap (λ n. broken V15 place (nat_lt CONTEXT_ITEMS n)) count_same)
 
   -- ---- records
 
@@ -170,14 +171,14 @@ module _ (bytes fin : List ℕ) (unit high : ℕ) (sizes : length bytes ≡ leng
       let content : StringKept (place + 8) = refilled_kept (place + 8) kept.2 clear.1 in
       let rest = stores_same (before + elements_in bytes place) (place + 12) count kept.3 clear.2 in
       let fault : store_fault bytes before place ≡ store_fault fin before place =
-      ap₂ or_else (name_kept (place + 4) name) (ap (λ f. or_else f None) (string_kept (place + 8) content of.Store [] (too_many_elements before))) in
+      ap₂ option_or (name_kept (place + 4) name) (ap (λ f. option_or f None) (string_kept (place + 8) content of.Store [] (too_many_elements before))) in
       let store : store_at bytes place ≡ store_at fin place =
       λ i. record {
         system = sym kept.0 i;
         name = name_same bytes fin (word_at bytes (place + 4)) (word_at fin (place + 4)) name.same i;
         elements = ap (filter_map element_of_unit_item) (items_same (place + 8) content) i;
       } in (
-        ap₂ or_else fault (rest.0 ∙ ap (λ n. stores_fault fin (before + n) (place + 12) count) (count_same (place + 8) content)),
+        ap₂ option_or fault (rest.0 ∙ ap (λ n. stores_fault fin (before + n) (place + 12) count) (count_same (place + 8) content)),
         ap₂ (λ (s : Store) (ss : List Store). s ∷ ss) store rest.1,
         ap₂ (λ a b. a && b) (some (word_at fin (place + 8)) (refilled_some (place + 8) kept.2)) rest.2,
       )
@@ -194,9 +195,9 @@ module _ (bytes fin : List ℕ) (unit high : ℕ) (sizes : length bytes ≡ leng
       let context : StringKept (place + 16) = refilled_kept (place + 16) kept.4 clear.1 in
       let rest = records_same using_keys (place + 20) count kept.5 clear.2 in
       let fault : record_fault bytes using_keys place ≡ record_fault fin using_keys place =
-      ap₂ or_else (flags_same using_keys (place + 8) (sym kept.2))
-      (ap₂ or_else (context_string_kept (place + 16) context)
-      (ap (λ f. or_else f None)
+      ap₂ option_or (flags_same using_keys (place + 8) (sym kept.2))
+      (ap₂ option_or (context_string_kept (place + 16) context)
+      (ap (λ f. option_or f None)
       (ap (λ (items : List UnitItem). string_fault bytes of.Output (map target_of items) (place + 12) (nat_lt OUTPUT_ITEMS)) (items_same (place + 16) context)
       ∙ string_kept (place + 12) output of.Output (context_targets fin (word_at fin (place + 16))) (nat_lt OUTPUT_ITEMS)))) in
       let rule : rule_at bytes using_keys place ≡ rule_at fin using_keys place =
@@ -207,7 +208,7 @@ module _ (bytes fin : List ℕ) (unit high : ℕ) (sizes : length bytes ≡ leng
         context = ap (filter_map pattern_of_unit_item) (items_same (place + 16) context) i;
         output = ap (filter_map output_of_unit_item) (items_same (place + 12) output) i;
       } in (
-        ap₂ or_else fault rest.0,
+        ap₂ option_or fault rest.0,
         ap₂ (λ (r : Rule) (rs : List Rule). r ∷ rs) rule rest.1,
         ap₂ (λ a b. a && b) (some (word_at fin (place + 16)) (refilled_some (place + 16) kept.4)) rest.2,
       )
@@ -225,18 +226,18 @@ module _ (bytes fin : List ℕ) (unit high : ℕ) (sizes : length bytes ≡ leng
       let records = records_same (uses_keys_at bytes place) (word_at bytes (place + 4)) (word_at bytes (place + 16)) kept.6 clear.3 in
       let rest = groups_same (before + word_at bytes (place + 16)) (place + 24) count kept.7 clear.4 in
       let in_place : records_place_fault bytes before place ≡ records_place_fault fin before place =
-      λ i. or_else (broken V15 (place + 16) (nat_lt RECORDS (before + count_is i)))
-      (or_else (broken V09 (place + 4) (nat_lt 0 (count_is i) && not (nat_le (keys_are i + 20 * count_is i) (sizes i)))) None) in
+      λ i. option_or (broken V15 (place + 16) (nat_lt RECORDS (before + count_is i)))
+      (option_or (broken V09 (place + 4) (nat_lt 0 (count_is i) && not (nat_le (keys_are i + 20 * count_is i) (sizes i)))) None) in
       let strings : group_strings_fault bytes place ≡ group_strings_fault fin place =
-      ap₂ or_else (name_kept place name)
-      (ap₂ or_else (string_kept (place + 8) on_match of.Match [] (nat_lt OUTPUT_ITEMS)) (ap (λ f. or_else f None) (string_kept (place + 12) on_nomatch of.Match [] (nat_lt OUTPUT_ITEMS)))) in
+      ap₂ option_or (name_kept place name)
+      (ap₂ option_or (string_kept (place + 8) on_match of.Match [] (nat_lt OUTPUT_ITEMS)) (ap (λ f. option_or f None) (string_kept (place + 12) on_nomatch of.Match [] (nat_lt OUTPUT_ITEMS)))) in
       let all_records : records_fault bytes (uses_keys_at bytes place) (word_at bytes (place + 4)) (word_at bytes (place + 16))
       ≡ records_fault fin (uses_keys_at fin place) (word_at fin (place + 4)) (word_at fin (place + 16)) =
       records.0 ∙ (λ i. records_fault fin (not (nat_eq (using_is i) 0)) (keys_are i) (count_is i)) in
       let all_rules : rules_from bytes (uses_keys_at bytes place) (word_at bytes (place + 4)) (word_at bytes (place + 16))
       ≡ rules_from fin (uses_keys_at fin place) (word_at fin (place + 4)) (word_at fin (place + 16)) =
       records.1 ∙ (λ i. rules_from fin (not (nat_eq (using_is i) 0)) (keys_are i) (count_is i)) in
-      let fault : group_fault bytes before place ≡ group_fault fin before place = ap₂ or_else in_place (ap₂ or_else strings (ap (λ f. or_else f None) all_records)) in
+      let fault : group_fault bytes before place ≡ group_fault fin before place = ap₂ option_or in_place (ap₂ option_or strings (ap (λ f. option_or f None) all_records)) in
       let group : group_at bytes place ≡ group_at fin place =
       λ i. record {
         name = name_same bytes fin (word_at bytes place) (word_at fin place) name.same i;
@@ -245,7 +246,7 @@ module _ (bytes fin : List ℕ) (unit high : ℕ) (sizes : length bytes ≡ leng
         on_match = ap (filter_map output_of_unit_item) (items_same (place + 8) on_match) i;
         on_nomatch = ap (filter_map output_of_unit_item) (items_same (place + 12) on_nomatch) i;
       } in (
-        ap₂ or_else fault (rest.0 ∙ ap (λ n. groups_fault fin (before + n) (place + 24) count) count_is),
+        ap₂ option_or fault (rest.0 ∙ ap (λ n. groups_fault fin (before + n) (place + 24) count) count_is),
         ap₂ (λ (g : Group) (gs : List Group). g ∷ gs) group rest.1,
         ap₂ (λ a b. a && b) (ap₂ (are_contexts_pointed fin) kept.1 kept.4 ∙ records.2) rest.2,
       )

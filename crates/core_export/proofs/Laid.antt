@@ -1,15 +1,17 @@
 -- A file whose arrays come one behind the other, with all strings behind them, says the same when its words are replaced.
 use Rattle.std.proofs.Common.{◌≡◌, ℕ, ◌+◌, ◌*◌, ◌^◌, ◌<◌, ◌≤◌, ◌⊎◌, true, not, ◌&&◌, ◌||◌, nat_eq, nat_lt, List, [], length, drop, min, None, refl, sym, ap, ap₂, subst, ◌∙◌, inl, inr, arith}
 use Rattle.std.specs.Prelude.{nat_le}
+use Rattle.std.specs.Option.{option_or}
 use Rattle.std.proofs.lemmas.Bool.{cases_lt, not-false}
 use Rattle.kmn_base.specs.declared.codes.Code.TheVariants.{V01, V02, V03, V04, V05, V06, V07, V08, V15, V16}
 use Rattle.kmn_base.specs.declared.limits.TheConstants.{STORES, GROUPS, PICTURE_BYTES, FILE_BYTES}
+use Rattle.kmn_base.proofs.Options.{option_or-none}
 use Rattle.kmx_format.specs.declared.places.TheConstants.{FLAGS_AT, GROUPS_AT, GROUP_COUNT_AT, IDENTIFIER_AT, PICTURE_AT, PICTURE_SIZE_AT, START_ANSI_AT, START_UNICODE_AT, STORES_AT, STORE_COUNT_AT, VERSION_AT}
 use Rattle.kmx_format.specs.TablesOf.{half_at, word_at, string_at, stores_from, groups_from, tables_of}
 use Rattle.kmx_format.specs.Versions.{is_version}
 use Rattle.kmx_parts.specs.View.{is_ended, store_count, group_count}
-use Rattle.kmx_verifier.specs.FaultOf.{or_else, broken, size_fault, header_fault, arrays_fault, stores_fault, groups_fault, fault_of, IsValid, no_group}
-use Rattle.kmx_verifier.proofs.Sound.{or_else-none, broken-none}
+use Rattle.kmx_verifier.specs.FaultOf.{broken, size_fault, header_fault, arrays_fault, stores_fault, groups_fault, fault_of, IsValid, no_group}
+use Rattle.kmx_verifier.proofs.Sound.{broken-none}
 use Rattle.kmx_verifier.proofs.Clean.{both, unbroken_not}
 use Rattle.core_export.specs.Export.{pointed_stores, pointed_groups, played_version, are_contents_pointed, are_groups_pointed, SaysTheSame}
 use Rattle.core_export.proofs.Outside.{Outside, SameWithin, unchanged, wider, later, back_same, front_same, joined, narrower, stores_outside, groups_outside, GroupsLaid, StoresKept, GroupsKept, stores_kept, groups_kept}
@@ -96,27 +98,27 @@ module _ (bytes fin : List ℕ) (unit high : ℕ) (laid : Laid bytes unit high) 
       (narrower 12 high second high second_out fin (omega (arith, laid.header, behind_header)) (omega arith) from_header) in
       let of_stores = stores_same bytes fin unit high sizes small tail positive behind blank ends w24 w28 0 (word_at bytes STORES_AT) (store_count bytes) stores laid.store_strings in
       let of_groups = groups_same bytes fin unit high sizes small tail positive behind blank ends w24 w28 0 (word_at bytes GROUPS_AT) (group_count bytes) groups laid.group_strings in
-      let size = or_else-none (size_fault bytes) _ valid in
-      let head = or_else-none (header_fault bytes) _ size.1 in
-      let arrays = or_else-none (arrays_fault bytes) _ head.1 in
-      let store_faults = or_else-none (stores_fault bytes 0 (word_at bytes STORES_AT) (store_count bytes)) _ arrays.1 in
-      let group_faults = or_else-none _ _ store_faults.1 in
-      let identifier = or_else-none _ _ head.0 in
-      let version = or_else-none _ _ identifier.1 in
+      let size = option_or-none (size_fault bytes) _ valid in
+      let head = option_or-none (header_fault bytes) _ size.1 in
+      let arrays = option_or-none (arrays_fault bytes) _ head.1 in
+      let store_faults = option_or-none (stores_fault bytes 0 (word_at bytes STORES_AT) (store_count bytes)) _ arrays.1 in
+      let group_faults = option_or-none _ _ store_faults.1 in
+      let identifier = option_or-none _ _ head.0 in
+      let version = option_or-none _ _ identifier.1 in
       let known : is_version (word_at bytes VERSION_AT) ≡ true = not-false _ (broken-none _ VERSION_AT _ version.0) in
       let size_clean : size_fault fin ≡ None =
-      ap (λ n. or_else (broken V15 0 (nat_lt FILE_BYTES n)) (or_else (broken V01 n (nat_lt n 64)) None)) (sym sizes) ∙ size.0 in
+      ap (λ n. option_or (broken V15 0 (nat_lt FILE_BYTES n)) (option_or (broken V01 n (nat_lt n 64)) None)) (sym sizes) ∙ size.0 in
       let counts_same : _ =
-      (λ i. or_else (broken V04 FLAGS_AT (nat_lt 0x1F (w48 i)))
-      (or_else (broken V15 STORE_COUNT_AT (nat_lt STORES (w24 i))) (or_else (broken V15 GROUP_COUNT_AT (nat_lt GROUPS (w28 i))) (or_else (broken V05 START_UNICODE_AT (nat_eq (w44 i) no_group))
-      (or_else (broken V06 START_ANSI_AT (not (nat_eq (w40 i) no_group) && not (nat_lt (w40 i) (w28 i)))) (or_else (broken V06 START_UNICODE_AT (not (nat_lt (w44 i) (w28 i)))) None)))))) in
+      (λ i. option_or (broken V04 FLAGS_AT (nat_lt 0x1F (w48 i)))
+      (option_or (broken V15 STORE_COUNT_AT (nat_lt STORES (w24 i))) (option_or (broken V15 GROUP_COUNT_AT (nat_lt GROUPS (w28 i))) (option_or (broken V05 START_UNICODE_AT (nat_eq (w44 i) no_group))
+      (option_or (broken V06 START_ANSI_AT (not (nat_eq (w40 i) no_group) && not (nat_lt (w40 i) (w28 i)))) (option_or (broken V06 START_UNICODE_AT (not (nat_lt (w44 i) (w28 i)))) None)))))) in
       let head_clean : header_fault fin ≡ None =
       both _ _ (ap (λ n. broken V02 IDENTIFIER_AT (not (nat_eq n 0x5354_584B))) (sym w0) ∙ identifier.0)
       (both _ _ (unbroken_not V03 VERSION_AT _ (ap is_version version_word ∙ played_is_version (word_at bytes VERSION_AT) known)) (sym counts_same ∙ version.1)) in
       let arrays_same : arrays_fault bytes ≡ arrays_fault fin =
-      λ i. or_else (broken V07 STORES_AT (nat_lt 0 (w24 i) && not (nat_le (w32 i + 12 * w24 i) (sizes i))))
-      (or_else (broken V08 GROUPS_AT (nat_lt 0 (w28 i) && not (nat_le (w36 i + 24 * w28 i) (sizes i))))
-      (or_else (broken V16 PICTURE_AT (nat_lt 0 (w60 i) && (not (nat_le (w56 i + w60 i) (sizes i)) || nat_lt PICTURE_BYTES (w60 i)))) None)) in
+      λ i. option_or (broken V07 STORES_AT (nat_lt 0 (w24 i) && not (nat_le (w32 i + 12 * w24 i) (sizes i))))
+      (option_or (broken V08 GROUPS_AT (nat_lt 0 (w28 i) && not (nat_le (w36 i + 24 * w28 i) (sizes i))))
+      (option_or (broken V16 PICTURE_AT (nat_lt 0 (w60 i) && (not (nat_le (w56 i + w60 i) (sizes i)) || nat_lt PICTURE_BYTES (w60 i)))) None)) in
       record {
         valid = both _ _ size_clean (both _ _ head_clean (both _ _ (sym arrays_same ∙ arrays.0)
             (both _ _ (sym (of_stores.0 ∙ ap₂ (stores_fault fin 0) w32 w24) ∙ store_faults.0)

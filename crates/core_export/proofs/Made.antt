@@ -1,10 +1,11 @@
 -- What is made of a file, once it is known to say the same.
 use Rattle.std.proofs.Common.{◌≡◌, ℕ, ◌^◌, ◌<◌, ◌≤◌, false, nat_lt, ltb-false, List, length, Some, sym, subst, ap, ◌∙◌, arith}
+use Rattle.kmn_base.proofs.Options.{option_or-none}
 use Rattle.kmx_format.specs.declared.places.TheConstants.{CHECKSUM_AT, GROUPS_AT, STORES_AT, VERSION_AT}
 use Rattle.kmx_format.specs.TablesOf.{word_at}
 use Rattle.kmx_parts.specs.View.{store_count, group_count}
 use Rattle.kmx_verifier.specs.FaultOf.{size_fault, fault_of, IsValid}
-use Rattle.kmx_verifier.proofs.Sound.{or_else-none, broken-none}
+use Rattle.kmx_verifier.proofs.Sound.{broken-none}
 use Rattle.core_export.specs.Checksum.{checksum}
 use Rattle.core_export.specs.Words.{with_word}
 use Rattle.core_export.specs.Export.{zero_unit, pointed_stores, pointed_groups, played_version, replaced, exported, SaysTheSame, OnlyReplaced, IsExport}
@@ -15,8 +16,8 @@ use Rattle.core_export.proofs.Elsewhere.{only_replaced}
 pub has_header : (bytes : List ℕ) → IsValid bytes → 64 ≤ length bytes
 unfolding fault_of size_fault
 has_header bytes h =
-    let size = or_else-none (size_fault bytes) _ h in
-    let long : nat_lt (length bytes) 64 ≡ false = broken-none _ _ _ (or_else-none _ _ (or_else-none _ _ size.0).1).0 in
+    let size = option_or-none (size_fault bytes) _ h in
+    let long : nat_lt (length bytes) 64 ≡ false = broken-none _ _ _ (option_or-none _ _ (option_or-none _ _ size.0).1).0 in
     ltb-false (length bytes) 64 long
 
 played_small : (version : ℕ) → played_version version < 2 ^ 32

@@ -15,6 +15,8 @@ use Rattle.kmn_base.specs.declared.keys.KeyPress.{KeyPress}
 use Rattle.kmn_base.specs.declared.events.Event.{Event}
 use Rattle.kmn_base.specs.declared.events.Event.TheVariants as event
 use Rattle.kmn_base.specs.Lists.{put, without_last}
+use Rattle.kmn_base.specs.Rising.{rising}
+use Rattle.kmn_base.proofs.Elements.{append_empty}
 use Rattle.rule_model.specs.Fits.{char_of_press}
 use Rattle.rule_model.specs.Dictionary.{name_chars, name_in}
 use Rattle.rule_model.specs.declared.event_state.Caught.{Caught}
@@ -37,7 +39,8 @@ use Rattle.rule_model.specs.Enter.{delete_or_pass, deletes_back, put_press, put_
 use Rattle.rule_model.specs.KeyEvent.{begin_event, after_key}
 use Rattle.rule_model.specs.Event.{State, happening}
 use Rattle.rule_model.proofs.Steps.{trace_keeps}
-use Rattle.core_export.specs.Differences.{rising, line_of}
+use Rattle.kmx_format.proofs.Keyboards.{tab_groups, tab_start, tab_choice}
+use Rattle.core_export.specs.Differences.{line_of}
 use Rattle.core_export.specs.Saves.{may_save, group_may_save, saving_groups, may_save_twice, rule_saves_twice, first_line, nomatch_lines, group_saving_lines, saving_line}
 use Rattle.core_export.specs.Laws.{NoEventSavesTwice}
 use Rattle.core_export.proofs.Counts.{count_append}
@@ -329,18 +332,6 @@ once_below few many below (group ∷ groups) h = (
   once_below few many below groups h.1,
 )
 
-choice_is : (tables : Tables) → (tab tables).choice ≡ First
-unfolding tab
-choice_is tables = refl
-
-groups_are : (tables : Tables) → (tab tables).groups ≡ map (tab_group tables.stores) tables.groups
-unfolding tab
-groups_are tables = refl
-
-start_is : (tables : Tables) → (tab tables).start ≡ Numbered tables.start_unicode
-unfolding tab
-start_is tables = refl
-
 module _ (tables : Tables) (once : AllByRecursion (IsOnce (saving_groups 50 tables.groups)) tables.groups) (press : KeyPress) where
   once_at : (depth more : ℕ) → more + depth ≡ 50 → AllByRecursion (IsOnce (saving_groups depth tables.groups)) tables.groups
   once_at depth more is =
@@ -355,14 +346,14 @@ module _ (tables : Tables) (once : AllByRecursion (IsOnce (saving_groups 50 tabl
       let deeper : suc more + depth ≡ 50 = omega (arith, is) in
       let saving : List Bool = saving_groups depth tables.groups in
       subst (λ (groups : List GroupMeaning). (in_group (tab tables) (enter_group depth (tab tables) press) press (slice_get groups g) entered).saves ≤ s.saves + one (flag (map (group_may_save saving) tables.groups) g))
-      (sym (groups_are tables))
-      (in_groups_adds tables.stores (tab tables) press saving (enter_group depth (tab tables) press) (enter_adds depth (suc more) deeper) (choice_is tables) tables.groups
+      (sym (tab_groups tables))
+      (in_groups_adds tables.stores (tab tables) press saving (enter_group depth (tab tables) press) (enter_adds depth (suc more) deeper) (tab_choice tables) tables.groups
       (once_at depth (suc more) deeper) g entered)
 
   press_saves_once : (state : State) → (after_key (tab tables) press (begin_event state.left state.current state.saved)).saves ≤ 1
   unfolding after_key
   press_saves_once state =
-      subst (λ (start : Ref). (enter_group 50 (tab tables) press start (begin_event state.left state.current state.saved)).saves ≤ 1) (sym (start_is tables))
+      subst (λ (start : Ref). (enter_group 50 (tab tables) press start (begin_event state.left state.current state.saved)).saves ≤ 1) (sym (tab_start tables))
       (omega (arith, enter_adds 50 0 refl tables.start_unicode (begin_event state.left state.current state.saved), one_small (flag (saving_groups 50 tables.groups) tables.start_unicode)))
 
 event_saves_once : (tables : Tables) → AllByRecursion (IsOnce (saving_groups 50 tables.groups)) tables.groups → (state : State) (happened : Event)
@@ -390,10 +381,6 @@ rising_none : (lines : List ℕ) → slice_get (rising lines) 0 ≡ None → lin
 rising_none [] h = refl
 rising_none (line ∷ lines) h = absurd (stays line [] lines h)
 
-append_none : (xs ys : List ℕ) → xs ++ ys ≡ [] → (xs ≡ []) × (ys ≡ [])
-append_none [] ys h = (refl, h)
-append_none (x ∷ xs) ys h = absurd (cc)
-
 module _ (saving : List Bool) (group : Group) where
   rules_once : (rules : List Rule) → map line_of (filter (rule_saves_twice saving group) rules) ≡ []
       → AllByRecursion (λ (rule : Rule). count_by (may_save saving) (rule.output ++ group.on_match) ≤ 1) rules
@@ -417,8 +404,8 @@ module _ (saving : List Bool) (group : Group) where
 groups_once : (saving : List Bool) (groups : List Group) → flat_map (group_saving_lines saving) groups ≡ [] → AllByRecursion (IsOnce saving) groups
 groups_once saving [] h = tt
 groups_once saving (group ∷ groups) h =
-    let parts = append_none (group_saving_lines saving group) (flat_map (group_saving_lines saving) groups) h in
-    let lines = append_none (map line_of (filter (rule_saves_twice saving group) group.rules)) (nomatch_lines saving group) parts.0 in
+    let parts = append_empty (group_saving_lines saving group) (flat_map (group_saving_lines saving) groups) h in
+    let lines = append_empty (map line_of (filter (rule_saves_twice saving group) group.rules)) (nomatch_lines saving group) parts.0 in
     (record { rules = rules_once saving group group.rules lines.0; nomatch = nomatch_once saving group lines.1 }, groups_once saving groups parts.1)
 
 tables_once : (tables : Tables) → saving_line tables ≡ None → AllByRecursion (IsOnce (saving_groups 50 tables.groups)) tables.groups

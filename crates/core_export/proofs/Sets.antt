@@ -1,10 +1,10 @@
 -- Sets of lines, and what was found of each construct.
-use Rattle.std.proofs.Common.{◌≡◌, ℕ, ◌+◌, ◌-◌, ◌<◌, ◌≤◌, ◌||◌, Bool, true, false, if◌then◌else◌, List, [], ◌∷◌, ◌++◌, filter, flat_map, map, drop, length, get_or, drop-cons, add-one, refl, ap, sym, ◌∙◌, arith}
-use Rattle.std.specs.Prelude.{nat_eq, nat_lt}
+use Rattle.std.proofs.Common.{◌≡◌, ℕ, ◌+◌, ◌-◌, ◌<◌, ◌≤◌, Bool, true, false, if◌then◌else◌, List, [], ◌∷◌, ◌++◌, filter, flat_map, map, drop, length, get_or, drop-cons, add-one, refl, ap, sym, ◌∙◌, arith}
+use Rattle.std.specs.Prelude.{nat_lt}
 use Rattle.std.specs.Ordering.{nat_cmp}
-use Rattle.std.specs.BTreeMap.{is_at}
-use Rattle.std.specs.List.{fold, list_any}
+use Rattle.std.specs.List.{fold}
 use Rattle.std.specs.BTreeSet.{insert_key}
+use Rattle.kmn_base.specs.Rising.{is_among, rising}
 use Rattle.rule_model.specs.declared.tables.Group.{Group}
 use Rattle.std.proofs.lemmas.Bool.Decides.{nat_tests}
 use Rattle.std.proofs.lemmas.List.Sums.{fold-append}
@@ -13,17 +13,9 @@ use Rattle.core_export.specs.declared.construct.Construct.{Construct}
 use Rattle.core_export.specs.Constructs.{constructs}
 use Rattle.core_export.specs.declared.construct.Difference.{Difference}
 use Rattle.core_export.specs.declared.differing.ConstructLines.{ConstructLines}
-use Rattle.core_export.specs.Differences.{rising, is_among, lines_with, difference_at, differences}
+use Rattle.core_export.specs.Differences.{lines_with, difference_at, differences}
 use Rattle.core_export.specs.Saves.{group_saving_lines}
 use Rattle.core_export.specs.Found.{found_of, found_lines, found_construct, found_at, told_at}
-
--- a line compares equal to itself alone
-at_is : (line other : ℕ) → is_at (nat_cmp line) other ≡ nat_eq line other
-at_is line other = grind (arith, nat_tests)
-
-pub among_is : (line : ℕ) (lines : List ℕ) → list_any (is_at (nat_cmp line)) lines ≡ is_among line lines
-among_is line [] = refl
-among_is line (other ∷ lines) = λ i. at_is line other i || among_is line lines i
 
 -- what is left of the units that are kept
 pub fewer_left : (left units rest : ℕ) → units ≤ left → nat_lt left (units + rest) ≡ nat_lt (left - units) rest

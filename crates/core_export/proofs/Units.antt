@@ -13,8 +13,9 @@ use Rattle.kmx_verifier.specs.declared.faults.StringKind.{StringKind}
 use Rattle.kmx_verifier.specs.declared.faults.StringKind.TheVariants as of
 use Rattle.kmx_verifier.specs.declared.faults.Target.{Target}
 use Rattle.kmn_base.specs.declared.limits.TheConstants.{OUTPUT_ITEMS}
+use Rattle.kmn_base.proofs.Options.{option_or-none}
 use Rattle.kmx_verifier.specs.FaultOf.{name_fault, string_fault, context_string_fault, too_many_elements, elements_in, context_targets, flags_fault, store_fault, stores_fault, record_fault, records_fault, records_place_fault, group_strings_fault, group_fault, groups_fault, size_fault, header_fault, arrays_fault, fault_of, IsValid}
-use Rattle.kmx_verifier.proofs.Sound.{or_else-none, broken-none}
+use Rattle.kmx_verifier.proofs.Sound.{broken-none}
 use Rattle.core_export.specs.Export.{end_of, end_in_records, end_in_groups, end_in_stores, zero_unit}
 use Rattle.core_export.proofs.Kept.{IsClear, StoresClear, RecordsClear, GroupsClear}
 
@@ -117,20 +118,20 @@ module _ (bytes : List ℕ) (high : ℕ) (positive : 0 < high) where
   first_found unit (Some x) b h g e = h e
 
   name_ended : (place : ℕ) → name_fault bytes place ≡ None → is_ended bytes (word_at bytes place) ≡ true
-  name_ended place h = not-false _ (broken-none _ place _ (or_else-none _ _ h).0)
+  name_ended place h = not-false _ (broken-none _ place _ (option_or-none _ _ h).0)
 
   string_ended : (kind : StringKind) (targets : List Target) (place : ℕ) (too_many : ℕ → Bool) → string_fault bytes kind targets place too_many ≡ None → is_ended bytes (word_at bytes place) ≡ true
-  string_ended kind targets place too_many h = not-false _ (broken-none _ place _ (or_else-none _ _ (or_else-none _ _ h).0).0)
+  string_ended kind targets place too_many h = not-false _ (broken-none _ place _ (option_or-none _ _ (option_or-none _ _ h).0).0)
 
   context_ended : (place : ℕ) → context_string_fault bytes place ≡ None → is_ended bytes (word_at bytes place) ≡ true
-  context_ended place h = not-false _ (broken-none _ place _ (or_else-none _ _ (or_else-none _ _ h).0).0)
+  context_ended place h = not-false _ (broken-none _ place _ (option_or-none _ _ (option_or-none _ _ h).0).0)
 
   in_stores : (unit before place count : ℕ) → stores_fault bytes before place count ≡ None → StoresClear bytes high place count → end_in_stores bytes place count ≡ Some unit → IsEnd unit
   in_stores unit before place zero clean clear h = absurd (cc)
   in_stores unit before place (suc count) clean clear h =
-      let parts = or_else-none (store_fault bytes before place) _ clean in
-      let name = or_else-none _ _ parts.0 in
-      let content = or_else-none _ _ name.1 in
+      let parts = option_or-none (store_fault bytes before place) _ clean in
+      let name = option_or-none _ _ parts.0 in
+      let content = option_or-none _ _ name.1 in
       first_found unit _ _
       (first_found unit _ _ (end_found (word_at bytes (place + 4)) unit clear.0 (name_ended (place + 4) name.0))
       (end_found (word_at bytes (place + 8)) unit clear.1 (string_ended of.Store [] (place + 8) (too_many_elements before) content.0)))
@@ -140,10 +141,10 @@ module _ (bytes : List ℕ) (high : ℕ) (positive : 0 < high) where
       → end_in_records bytes place count ≡ Some unit → IsEnd unit
   in_records unit using_keys place zero clean clear h = absurd (cc)
   in_records unit using_keys place (suc count) clean clear h =
-      let parts = or_else-none (record_fault bytes using_keys place) _ clean in
-      let flags = or_else-none (flags_fault bytes using_keys (place + 8)) _ parts.0 in
-      let context = or_else-none (context_string_fault bytes (place + 16)) _ flags.1 in
-      let output = or_else-none (string_fault bytes of.Output (context_targets bytes (word_at bytes (place + 16))) (place + 12) (nat_lt OUTPUT_ITEMS)) _ context.1 in
+      let parts = option_or-none (record_fault bytes using_keys place) _ clean in
+      let flags = option_or-none (flags_fault bytes using_keys (place + 8)) _ parts.0 in
+      let context = option_or-none (context_string_fault bytes (place + 16)) _ flags.1 in
+      let output = option_or-none (string_fault bytes of.Output (context_targets bytes (word_at bytes (place + 16))) (place + 12) (nat_lt OUTPUT_ITEMS)) _ context.1 in
       first_found unit _ _
       (first_found unit _ _ (end_found (word_at bytes (place + 12)) unit clear.0 (string_ended of.Output (context_targets bytes (word_at bytes (place + 16))) (place + 12) (nat_lt OUTPUT_ITEMS) output.0))
       (end_found (word_at bytes (place + 16)) unit clear.1 (context_ended (place + 16) context.0)))
@@ -152,13 +153,13 @@ module _ (bytes : List ℕ) (high : ℕ) (positive : 0 < high) where
   in_groups : (unit before place count : ℕ) → groups_fault bytes before place count ≡ None → GroupsClear bytes high place count → end_in_groups bytes place count ≡ Some unit → IsEnd unit
   in_groups unit before place zero clean clear h = absurd (cc)
   in_groups unit before place (suc count) clean clear h =
-      let parts = or_else-none (group_fault bytes before place) _ clean in
-      let first = or_else-none (records_place_fault bytes before place) _ parts.0 in
-      let second = or_else-none (group_strings_fault bytes place) _ first.1 in
-      let records = or_else-none _ _ second.1 in
-      let name = or_else-none _ _ second.0 in
-      let on_match = or_else-none _ _ name.1 in
-      let on_nomatch = or_else-none _ _ on_match.1 in
+      let parts = option_or-none (group_fault bytes before place) _ clean in
+      let first = option_or-none (records_place_fault bytes before place) _ parts.0 in
+      let second = option_or-none (group_strings_fault bytes place) _ first.1 in
+      let records = option_or-none _ _ second.1 in
+      let name = option_or-none _ _ second.0 in
+      let on_match = option_or-none _ _ name.1 in
+      let on_nomatch = option_or-none _ _ on_match.1 in
       first_found unit _ _
       (first_found unit _ _
       (first_found unit _ _ (end_found (word_at bytes place) unit clear.0 (name_ended place name.0))
@@ -171,9 +172,9 @@ module _ (bytes : List ℕ) (high : ℕ) (positive : 0 < high) where
       → zero_unit bytes ≡ Some unit → IsBlank bytes high unit
   unfolding fault_of zero_unit
   zero_unit_blank unit valid stores groups h =
-      let size = or_else-none (size_fault bytes) _ valid in
-      let head = or_else-none (header_fault bytes) _ size.1 in
-      let arrays = or_else-none (arrays_fault bytes) _ head.1 in
-      let store_faults = or_else-none (stores_fault bytes 0 (word_at bytes STORES_AT) (store_count bytes)) _ arrays.1 in
-      let group_faults = or_else-none _ _ store_faults.1 in
+      let size = option_or-none (size_fault bytes) _ valid in
+      let head = option_or-none (header_fault bytes) _ size.1 in
+      let arrays = option_or-none (arrays_fault bytes) _ head.1 in
+      let store_faults = option_or-none (stores_fault bytes 0 (word_at bytes STORES_AT) (store_count bytes)) _ arrays.1 in
+      let group_faults = option_or-none _ _ store_faults.1 in
       end_blank unit (first_found unit _ _ (in_groups unit 0 (word_at bytes GROUPS_AT) (group_count bytes) group_faults.0 groups) (in_stores unit 0 (word_at bytes STORES_AT) (store_count bytes) store_faults.0 stores) h)

@@ -1,21 +1,12 @@
 -- Where Keyman's own engine does something else, by lines of the source.
-use Rattle.std.specs.Prelude.{ℕ, Bool, nat_eq, List, [], filter, flat_map, map}
-use Rattle.std.specs.List.{fold, list_any}
-use Rattle.std.specs.Ordering.{nat_cmp}
-use Rattle.std.specs.BTreeSet.{insert_key}
+use Rattle.std.specs.Prelude.{ℕ, List, filter, flat_map, map}
+use Rattle.kmn_base.specs.Rising.{is_among, rising}
 use Rattle.rule_model.specs.declared.tables.Rule.{Rule}
 use Rattle.rule_model.specs.declared.tables.Group.{Group}
 use Rattle.rule_model.specs.declared.tables.Tables.{Tables}
 use Rattle.core_export.specs.declared.construct.Construct.{Construct}
 use Rattle.core_export.specs.declared.construct.Difference.{Difference}
 use Rattle.core_export.specs.Constructs.{constructs, has_construct}
-
--- lines, each once, rising
-abbrev pub rising : List ℕ → List ℕ
-rising lines = fold (insert_key nat_cmp) [] lines
-
-abbrev pub is_among : ℕ → List ℕ → Bool
-is_among line lines = list_any (nat_eq line) lines
 
 abbrev pub line_of : Rule → ℕ
 line_of rule = rule.line

@@ -1,10 +1,11 @@
 -- What was found of each construct.
 use Rattle.std.specs.Prelude.{ℕ, List, filter, map}
+use Rattle.kmn_base.specs.Rising.{is_among}
 use Rattle.rule_model.specs.declared.tables.Tables.{Tables}
 use Rattle.core_export.specs.declared.construct.Construct.{Construct}
 use Rattle.core_export.specs.declared.construct.Difference.{Difference}
 use Rattle.core_export.specs.declared.differing.ConstructLines.{ConstructLines}
-use Rattle.core_export.specs.Differences.{is_among, lines_with}
+use Rattle.core_export.specs.Differences.{lines_with}
 
 -- the lines of the records that have a construct
 abbrev pub found_of : Tables → Construct → ConstructLines

@@ -4,13 +4,13 @@ ghost use Rattle.std.specs.Prelude.{◌≡◌, flat_map, map, IfOk, OnOk};
 ghost use Rattle.std.specs.List.{fold};
 ghost use Rattle.std.specs.Ordering.{nat_cmp};
 ghost use Rattle.std.specs.BTreeSet.{insert_key};
-ghost use Rattle.core_export.specs.Differences.{differences, group_lines, lines_with, rising};
+ghost use Rattle.kmn_base.specs.Rising.{rising};
+ghost use Rattle.core_export.specs.Differences.{differences, group_lines, lines_with};
 ghost use Rattle.core_export.specs.Found.{found_of, found_lines, found_at, told_at};
 
 use crate::construct::{CONSTRUCTS, Construct, Difference};
 use crate::constructs::has_construct;
-use crate::line_set::LineSet;
-use kmn_base::{Memory, Seq};
+use kmn_base::{LineSet, Memory, Seq};
 use rule_model::{Group, Tables};
 use std::alloc::Global;
 

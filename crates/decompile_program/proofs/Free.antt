@@ -11,6 +11,7 @@ use Rattle.std.proofs.lemmas.Str.Parse.{digit_from_value}
 use Rattle.std.proofs.lemmas.List.{map-append, length-map}
 use Rattle.std.specs.Str.{str_to_ascii_lowercase}
 use Rattle.std.proofs.lemmas.Slice.Eq.{bytes_eq-Decides}
+use Rattle.std.proofs.lemmas.List.FromFn.{length-range_with_len}
 use Rattle.kmn_base.specs.Names.{same_name}
 use Rattle.decompile_program.specs.Names.{is_free, numbered_name, free_names}
 use Rattle.decompile_program.proofs.Apart.{Has, Differs, AreFree}
@@ -159,14 +160,10 @@ free_names-free c cs taken count small =
     (passing taken (map (numbered_name (c ∷ cs)) (range_with_len 1 (count + length taken))) (candidates_distinct (c ∷ cs) 1 (count + length taken) small)
     (numbered-some c cs 1 (count + length taken)))
 
-range_length : (from n : ℕ) → length (range_with_len from n) ≡ n
-range_length from zero = refl
-range_length from (suc n) = ap suc (range_length (from + 1) n)
-
 pub free_names-count : (letter : List ℕ) (taken : List (List ℕ)) (count : ℕ) → 1 + (count + length taken) < 2 ^ 64 → length (free_names letter taken count) ≡ count
 unfolding free_names
 free_names-count letter taken count small =
     let all = map (numbered_name letter) (range_with_len 1 (count + length taken)) in
     let enough = enough_free taken all (candidates_distinct letter 1 (count + length taken) small) in
-    let size : length all ≡ count + length taken = length-map (range_with_len 1 (count + length taken)) (numbered_name letter) ∙ range_length 1 (count + length taken) in
+    let size : length all ≡ count + length taken = length-map (range_with_len 1 (count + length taken)) (numbered_name letter) ∙ length-range_with_len 1 (count + length taken) in
     take-length count (filter (is_free taken) all) (omega (arith, enough, size))

@@ -4,7 +4,6 @@ use Rattle.std.specs.Prelude.{slice_get, position, option_map, unwrap_or, nat_eq
 use Rattle.std.specs.List.{AllByRecursion, AllZip}
 use Rattle.std.proofs.lemmas.Bool.{ltb-true, leb-true, false_from_ne_true, not-true, and_parts, cond_both, and_right}
 use Rattle.std.proofs.lemmas.List.{length-map}
-use Rattle.std.proofs.lemmas.Option.{none-some, same_Some}
 use Rattle.kmn_base.specs.Names.{same_name}
 use Rattle.rule_model.specs.declared.program.RuleKind.TheVariants.{OnMatch, OnNoMatch}
 use Rattle.rule_model.specs.declared.program.RuleDef.{RuleDef}
@@ -123,11 +122,6 @@ back-at n names line called (g ∷ groups) (suc k) less =
     let back : GroupDef = back_group names line (unwrap_or (slice_get called 0) []) g in
     let more = back-at n names (line + 1 + length back.rules) (drop 1 called) groups k (omega arith) in
     record { group = more.group; old = more.old; line = more.line; name = more.name; new = more.new }
-
-pub good-at : {X : Type 0} (P : X → Type 0) (xs : List X) (k : ℕ) (x : X) → AllByRecursion P xs → slice_get xs k ≡ Some x → P x
-good-at P [] k x h at = absurd (none-some x at)
-good-at P (y ∷ xs) zero x h at = subst P (same_Some y x at) h.0
-good-at P (y ∷ xs) (suc k) x h at = good-at P xs k x h.1 at
 
 -- rules by falling length, in rising lines, stand in the order in which they are tried
 before-false : (a b l m : ℕ) → a ≤ b → m < l → (nat_lt b a || (nat_eq a b && nat_lt l m)) ≡ false

@@ -14,10 +14,11 @@ use Rattle.rule_model.specs.Src.{numbers_named}
 use Rattle.rule_model.specs.System.{system_options}
 use Rattle.rule_model.specs.Tab.{with_options}
 use Rattle.rule_model.proofs.NamePlaces.{position_cons}
+use Rattle.kmx_format.proofs.Stores.{is_called}
 use Rattle.decompile_program.specs.Items.{Names, back_element}
 use Rattle.decompile_program.specs.Back.{back_stores}
 use Rattle.decompile_program.proofs.Apart.{StandsFirst}
-use Rattle.decompile_program.proofs.Thin.{thin, is_called}
+use Rattle.decompile_program.proofs.Thin.{thin}
 
 -- the stores of a file that have a name here, under that name
 abbrev pub thin_stores : (Element → Element) → List (Option (List ℕ)) → List Store → List Store

@@ -3,6 +3,7 @@ use Rattle.std.proofs.Common.{◌≡◌, ℕ, suc, ◌+◌, ◌==◌, Bool, true
 use Rattle.std.specs.Prelude.{is_some, unwrap_or}
 use Rattle.std.specs.List.{list_all}
 use Rattle.std.proofs.lemmas.Bool.Decides.{nat_tests}
+use Rattle.std.proofs.Math.Bool.{and-false}
 use Rattle.kmn_base.specs.Bytes.{is_blank, is_quote}
 use Rattle.kmn_base.specs.declared.codes.Code.{Code}
 use Rattle.kmn_base.specs.declared.codes.Code.TheVariants.{L02, L03}
@@ -15,15 +16,11 @@ use Rattle.kmn_items.specs.Words.{is_name}
 use Rattle.kmn_parser.specs.Names.{is_inner, is_source_name}
 use Rattle.decompile_program.specs.SourceNames.{is_token, is_one_name}
 
-and_false : (b : Bool) → (b && false) ≡ false
-and_false true = refl
-and_false false = refl
-
 none_apart : (n : ℕ) → nat_eq 0 (suc n) ≡ false
 none_apart n = grind (arith, nat_tests)
 
 both_false : (one : Bool) (n : ℕ) (rest : Bool) → (one && false) ≡ (nat_eq 0 (suc n) && rest)
-both_false one n rest = and_false one ∙ sym (ap (λ (b : Bool). b && rest) (none_apart n))
+both_false one n rest = and-false one ∙ sym (ap (λ (b : Bool). b && rest) (none_apart n))
 
 -- a byte that is a token by itself is no word
 sign_kind : (a b c d e f g h : Bool)

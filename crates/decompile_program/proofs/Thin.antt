@@ -1,5 +1,5 @@
 -- Stores that are left away and named anew mean the same.
-use Rattle.std.proofs.Common.{◌≡◌, ℕ, zero, suc, ◌+◌, Bool, true, false, not, ◌&&◌, List, [], ◌∷◌, ◌++◌, map, Option, None, Some, refl, sym, ◌∙◌, ap, if◌then◌else◌}
+use Rattle.std.proofs.Common.{◌≡◌, ℕ, zero, suc, ◌+◌, Bool, true, false, List, [], ◌∷◌, ◌++◌, map, Option, None, Some, refl, sym, ◌∙◌, ap, if◌then◌else◌}
 use Rattle.std.specs.Prelude.{position, slice_get, unwrap_or, option_map}
 use Rattle.std.specs.List.{AllByRecursion}
 use Rattle.std.proofs.lemmas.Bool.{cond-true, cond-false}
@@ -9,6 +9,7 @@ use Rattle.rule_model.specs.Keyboard.{Named, Numbered, StoreMeaning}
 use Rattle.rule_model.specs.Content.{options_before, store_number, elements_of_store, elements_at, content_of, content_at, content, option_of, option_at, option_number}
 use Rattle.rule_model.specs.Trace.{options_of}
 use Rattle.rule_model.proofs.NamePlaces.{position_cons}
+use Rattle.kmx_format.proofs.Stores.{is_called}
 use Rattle.decompile_program.proofs.Apart.{StandsFirst}
 
 -- a store under another name, with each element changed; a name means no system option
@@ -30,10 +31,6 @@ KeepsOptions f (name ∷ names) [] = ⊥
 KeepsOptions f (None ∷ names) (store ∷ stores) = (store.is_option ≡ false) × KeepsOptions f names stores
 KeepsOptions f (Some name ∷ names) (store ∷ stores) =
     (store.is_option ≡ true → renamed f name store ≡ store) × KeepsOptions f names stores
-
--- a store that a name in a rule means
-abbrev pub is_called : List ℕ → StoreMeaning → Bool
-is_called name store = not store.is_system && same_name store.name name
 
 -- where a store stands among others under its name
 pub record Stands (f : Element → Element) (name : List ℕ) (n : ℕ) (new_stores old_stores : List StoreMeaning) : Type 0 where

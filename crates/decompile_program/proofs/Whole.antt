@@ -6,6 +6,7 @@ use Rattle.std.proofs.lemmas.List.{length-map}
 use Rattle.std.proofs.lemmas.Option.{slice_get-map}
 use Rattle.kmn_base.specs.declared.items.Element.{Element}
 use Rattle.kmn_base.specs.declared.items.Element.TheVariants as element
+use Rattle.kmn_base.proofs.Elements.{AllByRecursion_at}
 use Rattle.rule_model.specs.declared.tables.Tables.{Tables}
 use Rattle.rule_model.specs.Keyboard.{Ref, Named, Numbered, StoreMeaning, GroupMeaning, Keyboard}
 use Rattle.rule_model.specs.Content.{content, option_number, elements_at, store_number, group_at}
@@ -32,7 +33,7 @@ use Rattle.decompile_program.proofs.Thin.{thin, like_content, same_content, same
 use Rattle.decompile_program.proofs.Linking.{option-flag}
 use Rattle.decompile_program.proofs.Numbering.{keys-are, mark-number, key-number}
 use Rattle.decompile_program.proofs.Renamed.{plain, Renamed, Called}
-use Rattle.decompile_program.proofs.Groups.{group_name, groups_apart, group_count, names_taken, found-group, back-at, good-at, group_same}
+use Rattle.decompile_program.proofs.Groups.{group_name, groups_apart, group_count, names_taken, found-group, back-at, group_same}
 use Rattle.decompile_program.proofs.Stores.{spelled, ready, meanings-are, own_meanings, front_meanings, front-plain, keeps, stands-there}
 use Rattle.decompile_program.proofs.Uncased.{uncased}
 
@@ -183,7 +184,7 @@ module _ (t : Tables) (p : IsPlayable t) (c : CanBeWrittenOut t) where
       let old : slice_get (map (tab_group t.stores) t.groups) n ≡ Some (tab_group t.stores there.group) = slice_get-map (tab_group t.stores) t.groups n ∙ ap (option_map (tab_group t.stores)) there.old in
       subst (λ (o : Option GroupMeaning). SameIfAny (src (back t)) (tab t) (Called t (names_for t)) o (slice_get (map (tab_group t.stores) t.groups) n)) (sym there.new)
       (subst (λ (o : Option GroupMeaning). SameIfAny (src (back t)) (tab t) (Called t (names_for t)) (Some (src_group (names_of (back t)) (back_group (names_for t) there.line there.name there.group))) o) (sym old)
-      (group_same (back t) t (names_for t) renamed_stores there.line there.name there.group (good-at (GoodGroup t) t.groups n there.group (groups_good t p c) there.old)))
+      (group_same (back t) t (names_for t) renamed_stores there.line there.name there.group (AllByRecursion_at (GoodGroup t) t.groups n there.group (groups_good t p c) there.old)))
 
   tab-found : (n : ℕ) → group_at (tab t).groups (Numbered n) ≡ slice_get (map (tab_group t.stores) t.groups) n
   tab-found n = ap (λ (gs : List GroupMeaning). slice_get gs n) (tab_groups t)

@@ -7,7 +7,7 @@ use Rattle.kmn_base.specs.declared.items.Item.TheVariants.{Char}
 use Rattle.kmn_base.specs.Lists.{characters, without_last, window, IsSound, put}
 use Rattle.kmn_base.proofs.Lists.{characters-append, characters-map, unmarked, map-characters, without_last-append-last, window_short, window_at, length-window, IsSound_from_front}
 use Rattle.kmn_base.proofs.ReadingAgain.{without_last_at}
-use Rattle.engine_state.specs.Cached.{whole, filled, StandsAtEnd}
+use Rattle.engine_state.specs.Cached.{text_with_context, filled, StandsAtEnd}
 use Rattle.engine_state.specs.CacheLaws.{PutsAreOfTheList, TakesAreOfTheList, FillingKeepsTheList, TheListIsItsTextAndWindow}
 
 -- a text whose last characters are those of at most 64 items
@@ -27,11 +27,11 @@ cached_stands text cache h = record {
 }
 
 -- the list by its front
-whole_is : (front : List ℕ) (cache : List Item) → whole (front ++ characters cache) cache ≡ map Char front ++ cache
+whole_is : (front : List ℕ) (cache : List Item) → text_with_context (front ++ characters cache) cache ≡ map Char front ++ cache
 whole_is front cache = ap (λ (cs : List ℕ). map Char cs ++ cache) (without_last_at front (characters cache) (length (characters cache)) refl)
 
-whole_front : (text : List ℕ) (cache : List Item) (h : IsCached text cache) → whole text cache ≡ map Char h.front ++ cache
-whole_front text cache h = ap (λ (t : List ℕ). whole t cache) h.is ∙ whole_is h.front cache
+whole_front : (text : List ℕ) (cache : List Item) (h : IsCached text cache) → text_with_context text cache ≡ map Char h.front ++ cache
+whole_front text cache h = ap (λ (t : List ℕ). text_with_context t cache) h.is ∙ whole_is h.front cache
 
 -- a sound list is its own tidy form
 tidy : (items : List Item) → IsSound items → map Char (characters (without_last 64 items)) ++ window items ≡ items
@@ -65,7 +65,7 @@ put_full front x rest i full =
 -- what a put leaves: the characters of the item behind the text, and the window of the cache and the item
 record PutsCached (text : List ℕ) (cache : List Item) (i : Item) : Type 0 where
   cached : IsCached (text ++ characters (i ∷ [])) (window (cache ++ i ∷ []))
-  same : put (whole text cache) i ≡ whole (text ++ characters (i ∷ [])) (window (cache ++ i ∷ []))
+  same : put (text_with_context text cache) i ≡ text_with_context (text ++ characters (i ∷ [])) (window (cache ++ i ∷ []))
 
 puts_from : (front : List ℕ) (cache : List Item) (i : Item) → length cache ≤ 64 → PutsCached (front ++ characters cache) cache i
 puts_from front cache i few = elim (cases_lt (length cache) 64) [
@@ -74,8 +74,8 @@ puts_from front cache i few = elim (cases_lt (length cache) 64) [
       let short : window more ≡ more = window_short more (omega (arith, length-append cache (i ∷ []))) in
       let text : (front ++ characters cache) ++ characters (i ∷ []) ≡ front ++ characters more
       = append_assoc front (characters cache) (characters (i ∷ [])) ∙ ap (λ (cs : List ℕ). front ++ cs) (sym (characters-append cache (i ∷ []))) in
-      let at_more : whole ((front ++ characters cache) ++ characters (i ∷ [])) more ≡ map Char front ++ more
-      = ap (λ (t : List ℕ). whole t more) text ∙ whole_is front more in
+      let at_more : text_with_context ((front ++ characters cache) ++ characters (i ∷ [])) more ≡ map Char front ++ more
+      = ap (λ (t : List ℕ). text_with_context t more) text ∙ whole_is front more in
       record {
         cached = record {
           few = omega (arith, length-window more);
@@ -83,7 +83,7 @@ puts_from front cache i few = elim (cases_lt (length cache) 64) [
           is = text ∙ ap (λ (xs : List Item). front ++ characters xs) (sym short);
         };
         same = ap (λ (xs : List Item). put xs i) (whole_is front cache) ∙ put_room front cache i room ∙ sym at_more
-            ∙ ap (whole ((front ++ characters cache) ++ characters (i ∷ []))) (sym short);
+            ∙ ap (text_with_context ((front ++ characters cache) ++ characters (i ∷ []))) (sym short);
       }
   | inr full ↦ at_full cache (omega arith)
 ]
@@ -101,8 +101,8 @@ puts_from front cache i few = elim (cases_lt (length cache) 64) [
         ∙ ap (λ (cs : List ℕ). cs ++ characters (i ∷ [])) (sym (append_assoc front (characters (x ∷ [])) (characters rest)))
         ∙ append_assoc before (characters rest) (characters (i ∷ []))
         ∙ ap (λ (cs : List ℕ). before ++ cs) (sym (characters-append rest (i ∷ []))) in
-        let at_more : whole ((front ++ characters (x ∷ rest)) ++ characters (i ∷ [])) more ≡ map Char before ++ more
-        = ap (λ (t : List ℕ). whole t more) text ∙ whole_is before more in
+        let at_more : text_with_context ((front ++ characters (x ∷ rest)) ++ characters (i ∷ [])) more ≡ map Char before ++ more
+        = ap (λ (t : List ℕ). text_with_context t more) text ∙ whole_is before more in
         record {
           cached = record {
             few = omega (arith, length-window ((x ∷ rest) ++ i ∷ []));
@@ -110,7 +110,7 @@ puts_from front cache i few = elim (cases_lt (length cache) 64) [
             is = text ∙ ap (λ (xs : List Item). before ++ characters xs) (sym last);
           };
           same = ap (λ (xs : List Item). put xs i) (whole_is front (x ∷ rest)) ∙ put_full front x rest i h ∙ sym at_more
-              ∙ ap (whole ((front ++ characters (x ∷ rest)) ++ characters (i ∷ []))) (sym last);
+              ∙ ap (text_with_context ((front ++ characters (x ∷ rest)) ++ characters (i ∷ []))) (sym last);
         }
 
 puts_cached : (text : List ℕ) (cache : List Item) (i : Item) → IsCached text cache → PutsCached text cache i
@@ -119,7 +119,7 @@ puts_cached text cache i h = subst (λ (t : List ℕ). PutsCached t cache i) (sy
 -- what taking n of the items at hand leaves: without so many characters of the text as there are among them
 record TakesCached (text : List ℕ) (cache : List Item) (n count : ℕ) : Type 0 where
   cached : IsCached (without_last count text) (without_last n cache)
-  same : without_last n (whole text cache) ≡ whole (without_last count text) (without_last n cache)
+  same : without_last n (text_with_context text cache) ≡ text_with_context (without_last count text) (without_last n cache)
 
 takes_from : (front : List ℕ) (cache : List Item) (n : ℕ) → length cache ≤ 64 → n ≤ length cache
     → TakesCached (front ++ characters cache) cache n (length (characters (drop (length cache - n) cache)))
@@ -137,7 +137,7 @@ takes_from front cache n few within =
     ∙ without_last_at (map Char front ++ kept) gone n (omega (arith, length-drop at cache)) in
     record {
       cached = record { few = omega (arith, length-take at cache); front = front; is = left };
-      same = ap (without_last n) (whole_is front cache) ∙ items ∙ sym (ap (λ (t : List ℕ). whole t kept) left ∙ whole_is front kept);
+      same = ap (without_last n) (whole_is front cache) ∙ items ∙ sym (ap (λ (t : List ℕ). text_with_context t kept) left ∙ whole_is front kept);
     }
 
 takes_cached : (text : List ℕ) (cache : List Item) (n : ℕ) → IsCached text cache → n ≤ length cache
@@ -148,11 +148,11 @@ takes_cached text cache n h within =
 -- refilling changes nothing of the list, and the items at hand are then its window
 record FillsCached (text : List ℕ) (cache : List Item) : Type 0 where
   cached : IsCached text (filled text cache)
-  same : whole text cache ≡ whole text (filled text cache)
+  same : text_with_context text cache ≡ text_with_context text (filled text cache)
 
 fills_cached : (text : List ℕ) (cache : List Item) → IsCached text cache → FillsCached text cache
 fills_cached text cache h =
-    let items : List Item = whole text cache in
+    let items : List Item = text_with_context text cache in
     let by_front : items ≡ map Char h.front ++ cache = whole_front text cache h in
     let sound : IsSound items = subst IsSound (sym by_front) (IsSound_from_front (map Char h.front) cache (unmarked h.front) h.few) in
     let front : List ℕ = characters (without_last 64 items) in
@@ -163,16 +163,16 @@ fills_cached text cache h =
     = sym chars ∙ ap characters (sym again) ∙ characters-append (map Char front) (window items) ∙ ap (λ (cs : List ℕ). cs ++ characters (window items)) (characters-map front) in
     record {
       cached = record { few = omega (arith, length-window items); front = front; is = is };
-      same = sym again ∙ sym (ap (λ (t : List ℕ). whole t (window items)) is ∙ whole_is front (window items));
+      same = sym again ∙ sym (ap (λ (t : List ℕ). text_with_context t (window items)) is ∙ whole_is front (window items));
     }
 
 -- a sound list is the whole of its text and its window
-whole_of_window : (items : List Item) → IsSound items → whole (characters items) (window items) ≡ items
+whole_of_window : (items : List Item) → IsSound items → text_with_context (characters items) (window items) ≡ items
 whole_of_window items sound =
     let front : List ℕ = characters (without_last 64 items) in
     let parts : characters items ≡ front ++ characters (window items)
     = ap characters (sym (without_last-append-last 64 items)) ∙ characters-append (without_last 64 items) (window items) in
-    ap (λ (t : List ℕ). whole t (window items)) parts ∙ whole_is front (window items) ∙ tidy items sound
+    ap (λ (t : List ℕ). text_with_context t (window items)) parts ∙ whole_is front (window items) ∙ tidy items sound
 
 pub puts_are_of_the_list : PutsAreOfTheList
 puts_are_of_the_list text items item h =

@@ -8,12 +8,12 @@ use Rattle.kmn_base.specs.declared.items.Item.TheVariants.{Char}
 use Rattle.kmn_base.specs.Lists.{characters, is_mark, without_last, window, put, read_again}
 use Rattle.kmn_base.proofs.Lists.{characters-append, characters-map, length-window, without_last-append-last}
 use Rattle.kmn_base.proofs.ReadingAgain.{without_last_at, reading_again_is_sound, reading_again_gives_the_text}
-use Rattle.engine_state.specs.Cached.{whole, filled, StandsAtEnd}
+use Rattle.engine_state.specs.Cached.{text_with_context, filled, StandsAtEnd}
 use Rattle.engine_state.proofs.Cached.{puts_are_of_the_list, takes_are_of_the_list, filling_keeps_the_list, the_list_is_its_text_and_window}
 
 -- an item is put
 pub put_one : (text : List ℕ) (cache : List Item) (item : Item) → StandsAtEnd cache text
-    → whole (text ++ characters (item ∷ [])) (window (cache ++ item ∷ [])) ≡ put (whole text cache) item
+    → text_with_context (text ++ characters (item ∷ [])) (window (cache ++ item ∷ [])) ≡ put (text_with_context text cache) item
 put_one text cache item h = sym (puts_are_of_the_list text cache item h).0
 
 pub put_stands : (text : List ℕ) (cache : List Item) (item : Item) (after : List ℕ) (left : List Item) → StandsAtEnd cache text
@@ -24,7 +24,7 @@ put_stands text cache item after left h is same =
 
 -- items at hand are taken
 pub taken : (text : List ℕ) (cache : List Item) (n : ℕ) → StandsAtEnd cache text → n ≤ length cache
-    → whole (without_last (length (characters (drop (length cache - n) cache))) text) (without_last n cache) ≡ without_last n (whole text cache)
+    → text_with_context (without_last (length (characters (drop (length cache - n) cache))) text) (without_last n cache) ≡ without_last n (text_with_context text cache)
 taken text cache n h within = sym (takes_are_of_the_list text cache n h within).0
 
 pub taken_stands : (text : List ℕ) (cache : List Item) (n : ℕ) (after : List ℕ) (left : List Item) → StandsAtEnd cache text → n ≤ length cache
@@ -48,23 +48,23 @@ gone_within text cache n h =
     )
 
 -- the cache is filled
-pub filled_up : (text : List ℕ) (cache : List Item) → StandsAtEnd cache text → whole text (filled text cache) ≡ whole text cache
+pub filled_up : (text : List ℕ) (cache : List Item) → StandsAtEnd cache text → text_with_context text (filled text cache) ≡ text_with_context text cache
 filled_up text cache h = (filling_keeps_the_list text cache h).0
 
 pub filled_stands : (text : List ℕ) (cache : List Item) → StandsAtEnd cache text → StandsAtEnd (filled text cache) text
 filled_stands text cache h = (filling_keeps_the_list text cache h).1
 
 -- the characters of the list are the text
-pub characters_are : (text : List ℕ) (cache : List Item) → StandsAtEnd cache text → characters (whole text cache) ≡ text
+pub characters_are : (text : List ℕ) (cache : List Item) → StandsAtEnd cache text → characters (text_with_context text cache) ≡ text
 characters_are text cache h =
     let front : List ℕ = without_last (length (characters cache)) text in
     characters-append (map Char front) cache ∙ (ap (λ (cs : List ℕ). cs ++ characters cache) (characters-map front) ∙ h.is)
 
 -- an event begins on a text that is read again
-pub begun : (known : List Item) (text : List ℕ) → whole text (window (read_again known text)) ≡ read_again known text
+pub begun : (known : List Item) (text : List ℕ) → text_with_context text (window (read_again known text)) ≡ read_again known text
 begun known text =
     let items : List Item = read_again known text in
-    ap (λ (t : List ℕ). whole t (window items)) (sym (reading_again_gives_the_text known text))
+    ap (λ (t : List ℕ). text_with_context t (window items)) (sym (reading_again_gives_the_text known text))
     ∙ the_list_is_its_text_and_window items (reading_again_is_sound known text)
 
 begun_at_end : (known : List Item) (text : List ℕ) → StandsAtEnd (window (read_again known text)) text
@@ -97,7 +97,7 @@ no_marks : (text : List ℕ) → prefix_len is_mark (map Char text) ≡ 0
 no_marks [] = refl
 no_marks (c ∷ text) = refl
 
-pub marks_at_hand : (text : List ℕ) (cache : List Item) → StandsAtEnd cache text → suffix_len is_mark cache ≡ suffix_len is_mark (whole text cache)
+pub marks_at_hand : (text : List ℕ) (cache : List Item) → StandsAtEnd cache text → suffix_len is_mark cache ≡ suffix_len is_mark (text_with_context text cache)
 marks_at_hand text cache h =
     let front : List ℕ = without_last (length (characters cache)) text in
     let none : prefix_len is_mark (reverse (map Char front)) ≡ 0 = ap (prefix_len is_mark) (sym (map_reverse_aux front [])) ∙ no_marks (reverse front) in
@@ -108,5 +108,5 @@ pub none_in : (items : List Item) → length items ≡ 0 → items ≡ without_l
 none_in [] e = refl
 none_in (x ∷ items) e = absurd (omega arith)
 
-pub none_left : (text : List ℕ) (cache : List Item) → StandsAtEnd cache text → length (window (whole text cache)) ≡ 0 → whole text cache ≡ without_last 1 (whole text cache)
-none_left text cache h none = none_in (whole text cache) (omega (arith, length-window (whole text cache), none))
+pub none_left : (text : List ℕ) (cache : List Item) → StandsAtEnd cache text → length (window (text_with_context text cache)) ≡ 0 → text_with_context text cache ≡ without_last 1 (text_with_context text cache)
+none_left text cache h none = none_in (text_with_context text cache) (omega (arith, length-window (text_with_context text cache), none))

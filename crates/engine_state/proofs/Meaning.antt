@@ -7,7 +7,7 @@ use Rattle.std.proofs.lemmas.Option.{slice_get-map, slice_get-get_or, unwrap_or-
 use Rattle.kmn_base.specs.declared.items.Element.{Element}
 use Rattle.kmn_base.specs.declared.items.Element.TheVariants.{Char}
 use Rattle.rule_model.specs.declared.event_state.EventState.{EventState}
-use Rattle.rule_model.specs.Keyboard.{Keyboard, StoreMeaning}
+use Rattle.rule_model.specs.Keyboard.{Keyboard, StoreMeaning, stated}
 use Rattle.rule_model.specs.Act.{set_current, save_current, reset_current, value_to_reset}
 use Rattle.rule_model.specs.Content.{elements_at, elements_of_store, option_of, options_before}
 use Rattle.rule_model.specs.Event.{State, set_option}
@@ -17,7 +17,7 @@ use Rattle.engine_state.specs.declared.options.Cell.{Cell}
 use Rattle.engine_state.specs.declared.options.Held.{Held}
 use Rattle.engine_state.specs.declared.options.Held.TheVariants.{Store}
 use Rattle.engine_state.specs.Cells.{first_cell, first_cells, cell_at, changed, set_cell, save_cell, reset_cell, host_cell, held_value, current_value, saved_value, current_values, saved_values}
-use Rattle.engine_state.specs.Meaning.{stated, option_values, option_saves, with_values, holding, Follow}
+use Rattle.engine_state.specs.Meaning.{option_values, option_saves, with_values, holding, Follow}
 
 -- a value of an option number is changed, of no option nothing
 abbrev set_at : {X : Type 0} → Option ℕ → X → List X → List X

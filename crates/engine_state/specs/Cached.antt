@@ -11,12 +11,12 @@ pub record CacheValue : Type 0 where
   pub room : ℕ
 
 -- the list whose characters are a text and whose last items are these
-abbrev pub whole : List ℕ → List Item → List Item
-whole text items = map Char (without_last (length (characters items)) text) ++ items
+abbrev pub text_with_context : List ℕ → List Item → List Item
+text_with_context text items = map Char (without_last (length (characters items)) text) ++ items
 
 -- the last items with the characters before them, up to 64
 abbrev pub filled : List ℕ → List Item → List Item
-filled text items = window (whole text items)
+filled text items = window (text_with_context text items)
 
 -- at most 64 items, whose characters stand at the end of a text
 pub record StandsAtEnd (items : List Item) (text : List ℕ) : Type 0 where

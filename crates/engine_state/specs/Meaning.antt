@@ -4,7 +4,7 @@ use Rattle.std.specs.Prelude.{◌≡◌, ℕ, ◌<◌, List, length, map, Option
 use Rattle.kmn_base.specs.declared.items.Element.{Element}
 use Rattle.kmn_base.specs.declared.items.Element.TheVariants.{Char}
 use Rattle.rule_model.specs.declared.event_state.EventState.{EventState}
-use Rattle.rule_model.specs.Keyboard.{Keyboard, StoreMeaning, Numbered}
+use Rattle.rule_model.specs.Keyboard.{Keyboard, StoreMeaning, Numbered, stated}
 use Rattle.rule_model.specs.Act.{set_current, save_current, reset_current}
 use Rattle.rule_model.specs.Content.{elements_at, option_number}
 use Rattle.rule_model.specs.Event.{State, set_option}
@@ -12,10 +12,6 @@ use Rattle.rule_model.specs.Plain.{of_options}
 use Rattle.rule_model.specs.Trace.{first_state}
 use Rattle.engine_state.specs.declared.options.Cell.{Cell}
 use Rattle.engine_state.specs.Cells.{first_cells, changed, set_cell, save_cell, reset_cell, host_cell, current_values, saved_values}
-
--- the elements of each store as the keyboard states them
-abbrev pub stated : List StoreMeaning → List (List Element)
-stated stores = map (λ (store : StoreMeaning). store.elements) stores
 
 -- the current and the saved value of each option
 abbrev pub option_values : List StoreMeaning → List Cell → List (List Element)

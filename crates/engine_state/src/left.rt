@@ -28,14 +28,14 @@ pub struct Edited {
 impl<'a> Model for Left<'a> {
     ghost use Rattle.std.specs.Prelude.{◌≡◌, ◌≤◌};
     ghost use Rattle.kmn_base.specs.declared.limits.TheConstants.{EVENT_PUTS, WINDOW_ITEMS};
-    ghost use Rattle.engine_state.specs.Cached.{whole, StandsAtEnd};
+    ghost use Rattle.engine_state.specs.Cached.{text_with_context, StandsAtEnd};
     ghost use Rattle.engine_state.specs.Texts.{LeftValue};
 
     ghost Value = { LeftValue };
 
     ghost view = { λ left. record {
       lent = left.text.lent;
-      items = whole left.text.text left.cache.items;
+      items = text_with_context left.text.text left.cache.items;
       cache = left.cache.items;
       put = left.put;
     } };

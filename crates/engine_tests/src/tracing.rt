@@ -10,7 +10,7 @@ use crate::states::{can_be_done, start};
 use compile_tests::fixtures::compiled;
 use kmn_base::{Event, Memory};
 use kmx_verifier::verify;
-use plain_event::{Coverage, PlainState, Traced, chosen_lines_are_lines, trace_event};
+use plain_event::{Coverage, PlainState, Traced, chosen_lines_are_lines, traced_event};
 use rule_model::Tables;
 use source_tests::fixtures::parted;
 use std::alloc::Global;
@@ -89,7 +89,7 @@ fn traced(alloc: Global, tables: &Tables, state: &PlainState, event: &Event) -> 
 {
     chosen_lines_are_lines();
     if can_be_done(tables, state, event) {
-        return Ok(trace_event(alloc, tables, state, event)?);
+        return Ok(traced_event(alloc, tables, state, event)?);
     }
     Err(Fail::from("an event that can't be done"))
 }

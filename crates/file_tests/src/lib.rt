@@ -1,6 +1,6 @@
 //! The tests of the crates that write and open files and of those below them: `codec` of `kmx_format`, `views` and
 //! `parts` of `kmx_parts`, `candidates` of `rule_index`, `writing` of `kmn_compiler`, `verifying` of `kmx_verifier`, `sources` of
-//! `kmx_decompiler`, which makes its texts by `decompile_text`, `layouts` of `touch_layout`, and `exporting` of `core_export`.
+//! `kmx_decompiler`, which makes its texts by `decompile_text`, and `exporting` of `core_export`.
 //!
 //! They stand here because a crate with tests is proved twice, once with them and once without: so each of those crates is
 //! proved once, and the tests are proved over them. `files` has the files of rows, and `fixtures`
@@ -16,8 +16,6 @@ mod exporting;
 #[cfg(test)]
 mod files;
 pub mod fixtures;
-#[cfg(test)]
-mod layouts;
 #[cfg(test)]
 mod parts;
 #[cfg(test)]

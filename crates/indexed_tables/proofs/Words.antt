@@ -1,6 +1,5 @@
 -- The words of a text, taken one by one.
-use Rattle.std.proofs.Common.{◌≡◌, ℕ, nat_lt, cond, ◌+◌, ◌-◌, ◌≤◌, false, List, [], ◌∷◌, ◌++◌, length, length-drop, get_or, take, drop, Some, None, sym, ◌∙◌, ap, arith}
-use Rattle.std.proofs.lemmas.Bool.Decides.{nat_tests}
+use Rattle.std.proofs.Common.{◌≡◌, ℕ, ◌+◌, ◌-◌, false, List, [], ◌∷◌, ◌++◌, length, length-drop, get_or, take, drop, Some, None, sym, ◌∙◌, ap, arith}
 use Rattle.std.proofs.lemmas.Grind.{common_steps}
 use Rattle.std.proofs.lemmas.List.{take-append-drop, take_all, drop_more}
 use Rattle.std.proofs.lemmas.List.Quantifiers.{position-Some}
@@ -8,6 +7,7 @@ use Rattle.std.proofs.lemmas.List.Sums.{fails_before_first}
 use Rattle.std.proofs.lemmas.List.Splits.{slice_split_at, slice_split_none}
 use Rattle.std.specs.Prelude.{nat_eq}
 use Rattle.std.specs.List.{All, position, position_or_len, slice_split}
+use Rattle.rule_model.proofs.PositionLemmas.{not_below}
 
 -- the first word ends at the first space, and the others are those of the bytes behind it
 pub words_parted : (text : List ℕ) (at : ℕ) → position (nat_eq 32) text ≡ Some at → slice_split (nat_eq 32) text ≡ take at text ∷ slice_split (nat_eq 32) (take (length text - (at + 1)) (drop (at + 1) text))
@@ -18,10 +18,6 @@ words_parted text at is =
     let behind : take (length text - (at + 1)) (drop (at + 1) text) ≡ drop (at + 1) text = take_all _ (drop (at + 1) text) (omega (arith, length-drop (at + 1) text)) in
     ap (slice_split (nat_eq 32)) parts ∙ slice_split_at (nat_eq 32) (take at text) (get_or text at 0) (drop (at + 1) text) front found.1
     ∙ ap (λ l. take at text ∷ slice_split (nat_eq 32) l) (sym behind)
-
--- a number that is not below another
-not_below : (a n : ℕ) → cond (nat_lt a n) (Some a) None ≡ None → n ≤ a
-not_below a n is = grind (arith, nat_tests)
 
 -- where there is no space, the text is the one word
 pub words_alone : (text : List ℕ) → position (nat_eq 32) text ≡ None → slice_split (nat_eq 32) text ≡ text ∷ []

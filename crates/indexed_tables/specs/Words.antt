@@ -1,13 +1,8 @@
 -- The words of a text, taken one by one.
-use Rattle.std.specs.Prelude.{ℕ, ◌+◌, nat_eq, List, [], length, Option, Some, None}
+use Rattle.std.specs.Prelude.{ℕ, nat_eq, List, [], Option, Some, None}
 use Rattle.std.specs.List.{slice_split}
 
 -- the words of a text that there may be, parted by spaces; none where nothing stands behind the last word
 abbrev pub words_behind : Option (List ℕ) → List (List ℕ)
 words_behind None = []
 words_behind (Some text) = slice_split (nat_eq 32) text
-
--- the bytes of such a text, with the space before it
-abbrev pub bytes_behind : Option (List ℕ) → ℕ
-bytes_behind None = 0
-bytes_behind (Some text) = length text + 1

@@ -92,10 +92,7 @@ impl<'a> IndexedTables<'a> {
     pub fn elements(&self, store: u32) -> &[Element]
         ensures { result.now ≡ elements_of self.now.stores store }
     {
-        match self.tables.stores.as_slice().get(store as usize) {
-            Some(store) => store.elements.as_slice(),
-            None => &[],
-        }
+        self.tables.elements(store)
     }
 
     /// What the keyboard states of a store; behind its stores stand the system options.

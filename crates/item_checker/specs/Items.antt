@@ -2,6 +2,7 @@
 -- dropped are looked at as well.
 use Rattle.std.specs.Prelude.{ℕ, zero, suc, ◌+◌, Bool, true, false, not, ◌&&◌, nat_eq, nat_lt, if◌then◌else◌, List, [], ◌∷◌, ◌++◌, length, slice_get, Option, Some, None, is_some}
 use Rattle.std.specs.List.{list_any}
+use Rattle.std.specs.Option.{option_or}
 use Rattle.kmn_base.specs.declared.codes.Code.{Code}
 use Rattle.kmn_base.specs.declared.codes.Code.TheVariants.{C08, C09, C10, C11, C12, C13, C14, C25}
 use Rattle.kmn_base.specs.declared.items.Element.{Element}
@@ -20,7 +21,7 @@ use Rattle.rule_model.specs.Match.{same_value}
 use Rattle.rule_model.specs.Naming.{elements_named}
 use Rattle.rule_model.specs.Src.{value_elements}
 use Rattle.kmx_format.specs.Versions.{file_versions}
-use Rattle.kmn_names.specs.First.{or_else, broken, first_code, at_line, earlier, first_of}
+use Rattle.kmn_names.specs.First.{broken, first_code, at_line, earlier, first_of}
 use Rattle.kmn_names.specs.Known.{Known, known, brought, statement_elements}
 use Rattle.kmn_names.specs.Names.{is_named}
 use Rattle.rule_model.specs.declared.system.TheConstants.{CASED_KEYS, MNEMONIC_LAYOUT, VERSION, BITMAP, LEFT_OUT}
@@ -142,6 +143,7 @@ abbrev pub is_no_plain_key : Element → Bool
 is_no_plain_key (element.Key flags code) = not (nat_eq flags VIRTUAL_KEY && nat_lt code FIRST_OWN_CODE)
 is_no_plain_key other = true
 
+-- whether a statement is of `&casedkeys`, whose keys are plain
 abbrev pub wants_plain_keys : StoreDef → Bool
 wants_plain_keys store = nat_eq store.system CASED_KEYS
 
@@ -159,7 +161,7 @@ store_head_code known store = broken ((C12, is_left_out store) ∷ (C12, is_othe
 
 abbrev pub store_code : Known → StoreDef → Option Code
 store_code known store =
-    or_else (store_head_code known store) (first_code (store_item_code known (wants_characters known store) (wants_plain_keys store)) store.items)
+    option_or (store_head_code known store) (first_code (store_item_code known (wants_characters known store) (wants_plain_keys store)) store.items)
 
 abbrev pub store_refusal : Known → List StoreDef → StoreDef → Option Refusal
 store_refusal known before store = at_line store.line (store_code known store)
@@ -181,7 +183,7 @@ context_item_code before item = None
 abbrev pub context_code : List SrcItem → List SrcItem → Option Code
 context_code before [] = None
 context_code before (item ∷ items) =
-    or_else (context_item_code before item) (context_code (before ++ item ∷ []) items)
+    option_or (context_item_code before item) (context_code (before ++ item ∷ []) items)
 
 -- a key: a character, or a key store, which C13 says is no option
 abbrev pub key_code : Known → Option SrcItem → Option Code
@@ -220,8 +222,8 @@ match_output_code known item = output_code known item
 -- a rule: its context, its key, then its output
 abbrev pub plain_code : Known → RuleDef → Option Code
 plain_code known rule =
-    or_else (context_code [] rule.context)
-    (or_else (key_code known rule.key) (first_code (rule_output_code known rule) rule.output))
+    option_or (context_code [] rule.context)
+    (option_or (key_code known rule.key) (first_code (rule_output_code known rule) rule.output))
 
 -- a rule, match or nomatch statement
 abbrev pub rule_code : Known → RuleKind → RuleDef → Option Code

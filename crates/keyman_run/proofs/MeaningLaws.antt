@@ -5,6 +5,7 @@ use Rattle.std.specs.List.{list_any}
 use Rattle.std.specs.Option.{option_map_or}
 use Rattle.std.proofs.lemmas.List.{append_cancel_left, map-append, take_all}
 use Rattle.std.proofs.lemmas.List.Folds.{list_any-append}
+use Rattle.std.proofs.lemmas.Option.{same_Some}
 use Rattle.kmn_base.specs.declared.codes.Code.{Code}
 use Rattle.kmn_base.specs.declared.refusals.Refusal.{Refusal}
 use Rattle.kmn_outside.specs.Outside.{Files, Rose, Writes}
@@ -258,9 +259,6 @@ module _ (wanted : List Ask) (none : list_any has_written (map answered wanted) 
   written_ending sink sink_after status.Words l = by_work l.ending l.is l.worked
   written_ending sink sink_after status.ExpectFailed l = by_work l.ending l.is l.worked
 
-inside : {A : Type 0} (one other : A) → Some one ≡ Some other → one ≡ other
-inside one other is = cc
-
 -- the value behind which work came to an ending with a file
 pub record CameFrom {A : Type 0} (files : Files) (part : Work A) (more : A → Work Ending) (ending : Ending) : Type 0 where
   pub value : A
@@ -284,7 +282,7 @@ source_means : (before after : Files) (source file : List ℕ) (pictured : Pictu
     → ending.file ≡ Some (file, (file_from pictured).bytes) → ending.file ≡ Some (name, bytes) → after name ≡ Some bytes → SourceMeans before after source file
 source_means before after source file pictured ending name bytes is of at stands =
     let e : Some (name, bytes) ≡ Some (file, (file_from pictured).bytes) = sym at ∙ of in
-    let pair : (name, bytes) ≡ (file, (file_from pictured).bytes) = inside (name, bytes) (file, (file_from pictured).bytes) e in
+    let pair : (name, bytes) ≡ (file, (file_from pictured).bytes) = same_Some (name, bytes) (file, (file_from pictured).bytes) e in
     let found : after file ≡ Some (file_from pictured).bytes =
     ap after (sym (ap (λ (p : List ℕ × List ℕ). p.0) pair)) ∙ stands ∙ ap (λ (p : List ℕ × List ℕ). Some p.1) pair in
     record { pictured = pictured; is = is; means = rw found (program_means before source pictured is) }
@@ -298,7 +296,7 @@ compile_means source file folders folder after sinks out out_after how does told
     let w : WrittenEnding (ends files work) (folders.files after) =
     written_ending (reads files work) (reads_none files work) (ends files work) (seen_folder folders folder) (seen_folder folders after) written (seen_sink sinks out) (seen_sink sinks out_after) how (does.leaves told) in
     let c = came_from files (program_work source) (λ pictured. Give (compile_ending file (file_from pictured))) w.ending (w.name, w.bytes) w.is w.file in
-    let e : compile_ending file (file_from c.value) ≡ w.ending = inside (compile_ending file (file_from c.value)) w.ending c.ends in
+    let e : compile_ending file (file_from c.value) ≡ w.ending = same_Some (compile_ending file (file_from c.value)) w.ending c.ends in
     source_means files (folders.files after) source file c.value w.ending w.name w.bytes c.is (sym (ap (λ (x : Ending). x.file) e)) w.file w.stands
 
 pub test_means : {F S : Type 0} (source file keys : List ℕ) (folders : FolderView F) (folder after : F) (sinks : SinkView S) (out out_after : S) (how : Status)
@@ -311,7 +309,7 @@ test_means source file keys folders folder after sinks out out_after how does to
     written_ending (reads files work) (reads_none files work) (ends files work) (seen_folder folders folder) (seen_folder folders after) written (seen_sink sinks out) (seen_sink sinks out_after) how (does.leaves told) in
     let c = came_from files (program_work source) (λ pictured. and_then (script_work (src pictured.program).dictionary keys) (λ entries. Give (test_ending file (file_from pictured).bytes (src pictured.program) entries))) w.ending (w.name, w.bytes) w.is w.file in
     let d = came_from files (script_work (src c.value.program).dictionary keys) (λ entries. Give (test_ending file (file_from c.value).bytes (src c.value.program) entries)) w.ending (w.name, w.bytes) c.ends w.file in
-    let e : test_ending file (file_from c.value).bytes (src c.value.program) d.value ≡ w.ending = inside (test_ending file (file_from c.value).bytes (src c.value.program) d.value) w.ending d.ends in
+    let e : test_ending file (file_from c.value).bytes (src c.value.program) d.value ≡ w.ending = same_Some (test_ending file (file_from c.value).bytes (src c.value.program) d.value) w.ending d.ends in
     source_means files (folders.files after) source file c.value w.ending w.name w.bytes c.is (sym (ap (λ (x : Ending). x.file) e)) w.file w.stands
 
 worked_all : (wanted : List Ask) (end : Option Ending) (before after : FolderState) (ending : Ending) → end ≡ Some ending → HasWorked wanted ending before after → AsksAll (wanted ++ writes end) before.calls after.calls

@@ -18,11 +18,10 @@ use Rattle.kmx_format.specs.Ordered.{compiled_tables}
 use Rattle.kmx_format.proofs.Ordered.{program_compiles}
 use Rattle.rule_checker.specs.Refused.{checked}
 use Rattle.plain_event.specs.declared.coverage.Hit.{Hit}
-use Rattle.plain_event.specs.Coverage.{AreLinesOf}
+use Rattle.plain_event.specs.Coverage.{lines_of_tables, AreLinesOf}
 use Rattle.plain_event.proofs.Lines.{choice_kept}
-use Rattle.play_transcript.proofs.KeyboardLines.{covers_other, same_lines_of_tables}
+use Rattle.play_transcript.proofs.KeyboardLines.{same_lines_of_tables}
 use Rattle.play_transcript.proofs.TraceLaws.{same_text}
-use Rattle.play_transcript.specs.RisingLines.{lines_of_tables}
 use Rattle.play_transcript.specs.TraceEnds.{trace_end}
 use Rattle.play_transcript.specs.TraceText.{trace_text}
 use Rattle.play_transcript.specs.declared.following.TraceEnd.{TraceEnd}
@@ -99,7 +98,7 @@ traces_written bytes file tables slice entries sinks out out_after how keyboard 
 
 -- the coverage of tables is one of their file
 pub lines_of_file : (bytes file : List ℕ) (tables : Tables) (hits : List Hit) → tab (tables_of bytes) ≡ tab tables → file ≡ bytes → AreLinesOf tables hits → AreLinesOf (tables_of file) hits
-lines_of_file bytes file tables hits keyboard same are = subst (λ (b : List ℕ). AreLinesOf (tables_of b) hits) (sym same) (covers_other tables (tables_of bytes) hits keyboard are)
+lines_of_file bytes file tables hits keyboard same are = subst (λ (b : List ℕ). AreLinesOf (tables_of b) hits) (sym same) (are ∙ sym (same_lines_of_tables tables (tables_of bytes) keyboard))
 
 -- and what a trace of a script leaves is what its ending wants
 pub does_traced : {F S : Type 0} (kb : Keyboard) (lines : List ℕ) (entries : List Entry) (folders : FolderView F) (folder : F) (sinks : SinkView S) (out out_after : S) (how : Status)

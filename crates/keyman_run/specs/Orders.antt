@@ -9,7 +9,7 @@ use Rattle.rule_model.specs.declared.tables.Tables.{Tables}
 use Rattle.kmx_format.specs.Ordered.{compiled_tables}
 use Rattle.kmn_compiler.specs.Picture.{picture_name}
 use Rattle.kmn_compiler.specs.declared.compiling.Compiled.{Compiled}
-use Rattle.play_transcript.specs.RisingLines.{lines_of_tables}
+use Rattle.plain_event.specs.Coverage.{lines_of_tables}
 use Rattle.keyman_words.specs.Beside.{beside}
 use Rattle.keyman_words.specs.Command.{Request}
 use Rattle.keyman_words.specs.Command.Request.{Compile, Decompile, Host, Layout, Load, Play, Shadow, Test, Trace, Verify}

@@ -1,6 +1,7 @@
 pub mod Lists
 pub mod ReadingAgain
 pub mod Rising
+pub mod RisingLines
 pub mod SmallBytes
 pub mod UnitBytes
 pub mod Spelling
@@ -9,3 +10,6 @@ pub mod StandingItems
 pub mod FirstFaults
 pub mod DecodedTexts
 pub mod WorkedRows
+pub mod Elements
+pub mod Options
+pub mod Tests

@@ -1,5 +1,8 @@
 -- Lists of numbers that rise, and how often a number stands in a list.
-use Rattle.std.specs.Prelude.{ℕ, ◌+◌, ◌<◌, ◌==◌, if◌then◌else◌, List, [], ◌∷◌}
+use Rattle.std.specs.Prelude.{ℕ, ◌+◌, ◌<◌, ◌==◌, Bool, nat_eq, if◌then◌else◌, List, [], ◌∷◌}
+use Rattle.std.specs.List.{fold, list_any}
+use Rattle.std.specs.Ordering.{nat_cmp}
+use Rattle.std.specs.BTreeSet.{insert_key}
 
 -- each number is above another
 abbrev pub AllAbove : ℕ → List ℕ → Type 0
@@ -20,3 +23,11 @@ Rises (n ∷ ns) = AllAbove n ns × Rises ns
 abbrev pub times : ℕ → List ℕ → ℕ
 times n [] = 0
 times n (m ∷ ms) = (if n == m then 1 else 0) + times n ms
+
+-- whether a number stands in a list
+abbrev pub is_among : ℕ → List ℕ → Bool
+is_among n ns = list_any (nat_eq n) ns
+
+-- the numbers of a list, each once, rising
+abbrev pub rising : List ℕ → List ℕ
+rising ns = fold (insert_key nat_cmp) [] ns

@@ -1,9 +1,11 @@
 -- One step of a scan: the token that the bytes begin with, and what is left behind it.
-use Rattle.std.proofs.Common.{◌≡◌, ℕ, zero, suc, ◌+◌, ◌-◌, ◌<◌, ◌≤◌, Bool, true, false, ◌||◌, if◌then◌else◌, List, [], ◌∷◌, ◌++◌, length, take, drop, get_or, Option, None, is_some, Ok, refl, sym, ◌∙◌, ap, subst, arith, append_assoc, add-one, drop-cons}
+use Rattle.std.proofs.Common.{◌≡◌, ℕ, zero, suc, ◌+◌, ◌-◌, ◌<◌, ◌≤◌, Bool, true, false, ◌||◌, if◌then◌else◌, List, [], ◌∷◌, ◌++◌, length, take, drop, get_or, Option, None, is_some, Ok, refl, sym, ◌∙◌, ap, subst, arith, append_assoc}
 use Rattle.std.proofs.lemmas.Bool.{cond-false, or_left}
+use Rattle.std.specs.Option.{option_or}
 use Rattle.kmn_base.specs.declared.codes.Code.{Code}
 use Rattle.kmn_base.specs.Bytes.{is_blank, is_quote}
-use Rattle.kmn_lines.specs.Bytes.{first_or_end, or_else}
+use Rattle.kmn_base.proofs.Elements.{drop-next}
+use Rattle.kmn_lines.specs.Bytes.{first_or_end}
 use Rattle.kmn_lines.specs.Tokens.{single, is_unequal, in_word, word_size, token_size, token_fault, token_at, scanned, first_fault, begins_forbidden, has_forbidden}
 use Rattle.kmn_lines.specs.declared.token.Token.{Token}
 use Rattle.kmn_lines.proofs.TextSizes.{none_of}
@@ -47,13 +49,13 @@ scanned_step line at byte bytes size blank e some =
     (ap (λ (ts : List Token). token_at line at (take size (byte ∷ bytes)) ∷ ts) rest)
 
 -- a fault of the token that the bytes begin with is the first, else it is among the bytes behind it
-pub first_fault_step : (byte : ℕ) (bytes : List ℕ) (size : ℕ) → is_blank byte ≡ false → size ≡ token_size (byte ∷ bytes) → 0 < size → first_fault 0 (byte ∷ bytes) ≡ or_else (token_fault (take size (byte ∷ bytes))) (first_fault 0 (drop size (byte ∷ bytes)))
+pub first_fault_step : (byte : ℕ) (bytes : List ℕ) (size : ℕ) → is_blank byte ≡ false → size ≡ token_size (byte ∷ bytes) → 0 < size → first_fault 0 (byte ∷ bytes) ≡ option_or (token_fault (take size (byte ∷ bytes))) (first_fault 0 (drop size (byte ∷ bytes)))
 first_fault_step byte bytes size blank e some =
     let rest : first_fault (size - 1) bytes ≡ first_fault 0 (drop size (byte ∷ bytes)) =
     first_fault_skip (size - 1) bytes ∙ ap (λ (bs : List ℕ). first_fault 0 bs) (drop_behind byte bytes size some) in
     cond-false (is_blank byte) _ _ blank
-    ∙ subst (λ (n : ℕ). or_else (token_fault (take n (byte ∷ bytes))) (first_fault (n - 1) bytes) ≡ or_else (token_fault (take size (byte ∷ bytes))) (first_fault 0 (drop size (byte ∷ bytes)))) e
-    (ap (λ (f : Option Code). or_else (token_fault (take size (byte ∷ bytes))) f) rest)
+    ∙ subst (λ (n : ℕ). option_or (token_fault (take n (byte ∷ bytes))) (first_fault (n - 1) bytes) ≡ option_or (token_fault (take size (byte ∷ bytes))) (first_fault 0 (drop size (byte ∷ bytes)))) e
+    (ap (λ (f : Option Code). option_or (token_fault (take size (byte ∷ bytes))) f) rest)
 
 -- a step over a token without a fault
 pub step_on : (old new : List Token) (line at : ℕ) (bytes text : List ℕ) (size : ℕ) (token : Token) → 0 < length bytes → is_blank (get_or bytes 0 0) ≡ false → size ≡ token_size bytes → size ≤ length bytes → 0 < size → text ≡ take size bytes → token_fault text ≡ None → token ≡ token_at line at text → new ≡ old ++ token ∷ [] → Steps old new line at bytes (Ok size)
@@ -66,15 +68,12 @@ step_on old new line at (byte ∷ bytes) text size token long blank e within som
       some,
       within,
       ap (λ (ts : List Token). ts ++ rest) h ∙ append_assoc old (token ∷ []) rest ∙ ap (λ (ts : List Token). old ++ ts) tokens,
-      sym (first_fault_step byte bytes size blank e some ∙ ap (λ (f : Option Code). or_else f (first_fault 0 (drop size (byte ∷ bytes)))) fine),
+      sym (first_fault_step byte bytes size blank e some ∙ ap (λ (f : Option Code). option_or f (first_fault 0 (drop size (byte ∷ bytes)))) fine),
     )
 
 pub first_is : (text : List ℕ) → 0 < length text → get_or text 0 0 ≡ first_or_end text
 first_is [] h = absurd (omega arith)
 first_is (byte ∷ bytes) h = refl
-
-drop-step : (text : List ℕ) (at : ℕ) → at < length text → drop at text ≡ get_or text at 0 ∷ drop (at + 1) text
-drop-step text at h = rw (add-one at) (drop-cons text at 0 h)
 
 either-false : (a b : Bool) → a ≡ false → (a || b) ≡ b
 either-false true b e = cc
@@ -83,11 +82,11 @@ either-false false b e = refl
 -- a forbidden character at a place
 pub forbidden_here : (text : List ℕ) (at : ℕ) → at < length text → begins_forbidden (drop at text) ≡ true → has_forbidden (drop at text) ≡ true
 forbidden_here text at h e =
-    let cons = drop-step text at h in
+    let cons = drop-next text at 0 h in
     ap has_forbidden cons ∙ or_left (begins_forbidden (get_or text at 0 ∷ drop (at + 1) text)) (has_forbidden (drop (at + 1) text)) (ap begins_forbidden (sym cons) ∙ e)
 
 -- no forbidden character at a place
 pub forbidden_step : (text : List ℕ) (at : ℕ) → at < length text → begins_forbidden (drop at text) ≡ false → has_forbidden (drop (at + 1) text) ≡ has_forbidden (drop at text)
 forbidden_step text at h e =
-    let cons = drop-step text at h in
+    let cons = drop-next text at 0 h in
     sym (ap has_forbidden cons ∙ either-false (begins_forbidden (get_or text at 0 ∷ drop (at + 1) text)) (has_forbidden (drop (at + 1) text)) (ap begins_forbidden (sym cons) ∙ e))

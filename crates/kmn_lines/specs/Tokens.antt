@@ -1,12 +1,13 @@
 -- The tokens of a logical line, and the first fault among them.
 use Rattle.std.specs.Prelude.{ℕ, ◌+◌, ◌-◌, ◌*◌, ◌==◌, nat_lt, nat_le, min, zero, suc, Bool, true, false, not, ◌&&◌, ◌||◌, if◌then◌else◌, List, [], ◌∷◌, ◌++◌, length, take, drop, Option, None, Some, is_some, unwrap_or, option_map}
 use Rattle.std.specs.List.{list_all, list_any, starts_with}
+use Rattle.std.specs.Option.{option_or}
 use Rattle.kmn_base.specs.declared.codes.Code.{Code}
 use Rattle.kmn_base.specs.declared.codes.Code.TheVariants.{L02, L03, L04}
 use Rattle.kmn_base.specs.declared.refusals.Refusal.{Refusal}
 use Rattle.kmn_base.specs.Bytes.{is_blank, is_quote, hex_digit}
 use Rattle.kmn_base.specs.Spelling.{is_forbidden}
-use Rattle.kmn_lines.specs.Bytes.{first_or_end, or_else}
+use Rattle.kmn_lines.specs.Bytes.{first_or_end}
 use Rattle.kmn_lines.specs.Lines.{parts_in}
 use Rattle.kmn_lines.specs.declared.logical.Logical.{Logical}
 use Rattle.kmn_lines.specs.declared.logical.Part.{Part}
@@ -144,7 +145,7 @@ first_fault n [] = None
 first_fault (suc n) (byte ∷ bytes) = first_fault n bytes
 first_fault zero (byte ∷ bytes) =
     if is_blank byte then first_fault zero bytes
-    else or_else (token_fault (token_text (byte ∷ bytes))) (first_fault (token_size (byte ∷ bytes) - 1) bytes)
+    else option_or (token_fault (token_text (byte ∷ bytes))) (first_fault (token_size (byte ∷ bytes) - 1) bytes)
 
 -- the text of a part
 abbrev pub part_text : List ℕ → Part → List ℕ
@@ -158,7 +159,7 @@ parts_tokens source (p ∷ ps) = scanned p.line 0 p.from (part_text source p) ++
 -- the first fault in parts
 abbrev pub parts_fault : List ℕ → List Part → Option Code
 parts_fault source [] = None
-parts_fault source (p ∷ ps) = or_else (first_fault 0 (part_text source p)) (parts_fault source ps)
+parts_fault source (p ∷ ps) = option_or (first_fault 0 (part_text source p)) (parts_fault source ps)
 
 -- the tokens of a logical line
 unfoldable pub line_tokens : List ℕ → Logical → List Token
@@ -175,4 +176,4 @@ line_refusal source l = option_map (refusal l.first_line) (parts_fault source (p
 -- the first refusal among the tokens of logical lines
 abbrev pub tokens_refusal : List ℕ → List Logical → Option Refusal
 tokens_refusal source [] = None
-tokens_refusal source (l ∷ ls) = or_else (line_refusal source l) (tokens_refusal source ls)
+tokens_refusal source (l ∷ ls) = option_or (line_refusal source l) (tokens_refusal source ls)

@@ -8,9 +8,10 @@ use Rattle.kmn_base.specs.declared.refusals.Refusal.{Refusal}
 use Rattle.rule_model.specs.declared.program.StoreDef.{StoreDef}
 use Rattle.std.specs.List.{list_any}
 use Rattle.std.specs.Prelude.{◌||◌}
+use Rattle.std.specs.Option.{option_or}
 use Rattle.std.proofs.lemmas.List.Folds.{list_any_more}
 use Rattle.kmn_base.specs.declared.codes.Code.{Code}
-use Rattle.kmn_names.specs.First.{earlier, first_of, or_else, first_code}
+use Rattle.kmn_names.specs.First.{earlier, first_of, first_code}
 use Rattle.std.proofs.lemmas.List.{map-append}
 use Rattle.rule_model.specs.declared.program.GroupDef.{GroupDef}
 use Rattle.kmn_names.specs.Names.{store_names, group_names}
@@ -44,13 +45,13 @@ groups_step xs i x h e = ap group_names (take_next xs i x h e) ∙ map-append _ 
 pub any_step : {X : Type 0} (test : X → Bool) (xs : List X) (i : ℕ) (x : X) → i < length xs → x ≡ get_or xs i x → list_any test (take (i + 1) xs) ≡ (list_any test (take i xs) || test x)
 any_step test xs i x h e = list_any_more test xs i x h ∙ ap (λ y. list_any test (take i xs) || test y) (sym e)
 
-or_else_later : {A : Type 0} (a b c : Option A) → or_else (or_else a b) c ≡ or_else a (or_else b c)
+or_else_later : {A : Type 0} (a b c : Option A) → option_or (option_or a b) c ≡ option_or a (option_or b c)
 or_else_later None b c = refl
 or_else_later (Some a) b c = refl
 
-pub first_code_append : {X : Type 0} (code : X → Option Code) (xs ys : List X) → first_code code (xs ++ ys) ≡ or_else (first_code code xs) (first_code code ys)
+pub first_code_append : {X : Type 0} (code : X → Option Code) (xs ys : List X) → first_code code (xs ++ ys) ≡ option_or (first_code code xs) (first_code code ys)
 first_code_append code [] ys = refl
-first_code_append code (x ∷ xs) ys = ap (or_else (code x)) (first_code_append code xs ys) ∙ sym (or_else_later (code x) (first_code code xs) (first_code code ys))
+first_code_append code (x ∷ xs) ys = ap (option_or (code x)) (first_code_append code xs ys) ∙ sym (or_else_later (code x) (first_code code xs) (first_code code ys))
 
 -- the first so far with one statement more
 pub first_kept : {X : Type 0} (f : List X → X → Option Refusal) (xs : List X) (i : ℕ) (x : X) (best found : Option Refusal) → i < length xs → x ≡ get_or xs i x → found ≡ f (take i xs) x

@@ -12,29 +12,29 @@ use Rattle.std.specs.Prelude.{IsSome}
 use Rattle.indexmap.specs.IndexMap.{insert_entry}
 use Rattle.kmn_base.specs.Names.{same_name}
 use Rattle.rule_model.specs.Dictionary.{place_in}
-use Rattle.kmn_names.specs.First.{or_else}
 use Rattle.kmn_names.specs.Places.{written, ArePlaces, place_behind}
 use Rattle.std.proofs.Common.{suc, drop}
 use Rattle.std.specs.Prelude.{option_map}
+use Rattle.std.specs.Option.{option_or}
 use Rattle.std.proofs.lemmas.List.{drop_more}
 use Rattle.rule_model.proofs.NamePlaces.{position_cons}
 
 pushed : (a b n m : ℕ) (passes : Bool) → a ≤ n → b ≡ cond (eqb a n) (n + cond passes 0 1) a → m ≡ n + 1
-    → cond (nat_lt b m) (Some b) None ≡ or_else (cond (nat_lt a n) (Some a) None) (cond passes (Some n) None)
+    → cond (nat_lt b m) (Some b) None ≡ option_or (cond (nat_lt a n) (Some a) None) (cond passes (Some n) None)
 pushed a b n m passes near here more = grind (arith, nat_tests)
 
 -- a place in a list with one more item
-pub position_push : {X : Type 0} (p : X → Bool) (xs : List X) (y : X) → position p (xs ++ y ∷ []) ≡ or_else (position p xs) (cond (p y) (Some (length xs)) None)
+pub position_push : {X : Type 0} (p : X → Bool) (xs : List X) (y : X) → position p (xs ++ y ∷ []) ≡ option_or (position p xs) (cond (p y) (Some (length xs)) None)
 position_push p xs y =
     pushed (position_or_len p xs) (position_or_len p (xs ++ y ∷ [])) (length xs) (length (xs ++ y ∷ [])) (p y)
     (prefix_len-le-length (λ x. not (p x)) xs) (position_or_len_push p xs y) (length-append xs (y ∷ []))
 
-found_later : {V : Type 0} (here : Bool) (v : V) (all some more : Option V) → all ≡ or_else some more → cond here (Some v) all ≡ or_else (cond here (Some v) some) more
+found_later : {V : Type 0} (here : Bool) (v : V) (all some more : Option V) → all ≡ option_or some more → cond here (Some v) all ≡ option_or (cond here (Some v) some) more
 found_later true v all some more h = refl
 found_later false v all some more h = h
 
 -- what is found among entries with one more
-pub lookup_push : {K V : Type 0} (test : K → Bool) (es : List (K × V)) (k : K) (v : V) → lookup test (es ++ (k, v) ∷ []) ≡ or_else (lookup test es) (cond (test k) (Some v) None)
+pub lookup_push : {K V : Type 0} (test : K → Bool) (es : List (K × V)) (k : K) (v : V) → lookup test (es ++ (k, v) ∷ []) ≡ option_or (lookup test es) (cond (test k) (Some v) None)
 lookup_push test [] k v = refl
 lookup_push test (e ∷ es) k v = found_later (test e.0) e.1 _ _ _ (lookup_push test es k v)
 
@@ -58,7 +58,7 @@ module _ {A : Type 0} (names : List (List ℕ)) (entries : List (Vec ℕ A × �
   new_are_places key folded = record {
     found = λ query.
         lookup_push (λ k. bytes_eq query k.items) entries key (length names)
-        ∙ (λ j. or_else (are.found query j) (cond (bytes_eq query (folded j)) (Some (length names)) None))
+        ∙ (λ j. option_or (are.found query j) (cond (bytes_eq query (folded j)) (Some (length names)) None))
         ∙ sym (position_push (among query) names name);
   }
 
@@ -70,7 +70,7 @@ module _ {A : Type 0} (names : List (List ℕ)) (entries : List (Vec ℕ A × �
   }
     where
       by : (query : List ℕ) (o : Option ℕ) → position (among query) names ≡ o → (b : Bool) → among query name ≡ b
-          → or_else (position (among query) names) (cond (among query name) (Some (length names)) None) ≡ position (among query) names
+          → option_or (position (among query) names) (cond (among query name) (Some (length names)) None) ≡ position (among query) names
       by query (Some k) is b test = rw is refl
       by query None is false test = rw (is, test) refl
       by query None is true test =

@@ -1,12 +1,8 @@
 -- Which refusal of statements is the first: by line, then by reading order in the line, then by code.
 use Rattle.std.specs.Prelude.{ℕ, nat_lt, Bool, if◌then◌else◌, List, [], ◌∷◌, ◌++◌, Option, None, Some, Result, Ok, Err}
+use Rattle.std.specs.Option.{option_or}
 use Rattle.kmn_base.specs.declared.codes.Code.{Code}
 use Rattle.kmn_base.specs.declared.refusals.Refusal.{Refusal}
-
--- the first of two that there may be
-abbrev pub or_else : {A : Type 0} → Option A → Option A → Option A
-or_else None second = second
-or_else (Some first) second = Some first
 
 -- of codes that rise, each with whether its rule is broken at one place, the first whose rule is
 abbrev pub broken : List (Code × Bool) → Option Code
@@ -16,7 +12,7 @@ broken (rule ∷ rules) = if rule.1 then Some rule.0 else broken rules
 -- the code of the first item that breaks a rule
 abbrev pub first_code : {X : Type 0} → (X → Option Code) → List X → Option Code
 first_code code [] = None
-first_code code (item ∷ items) = or_else (code item) (first_code code items)
+first_code code (item ∷ items) = option_or (code item) (first_code code items)
 
 -- the refusal of a statement that breaks a rule, at its line
 abbrev pub at_line : ℕ → Option Code → Option Refusal

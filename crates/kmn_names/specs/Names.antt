@@ -1,6 +1,7 @@
 -- What of a program's names is refused: what is stated twice, and what is named and not stated.
 use Rattle.std.specs.Prelude.{ℕ, Bool, false, not, ◌&&◌, nat_eq, if◌then◌else◌, List, [], ◌∷◌, map, flat_map, is_some, Option}
 use Rattle.std.specs.List.{list_any}
+use Rattle.std.specs.Option.{option_or}
 use Rattle.kmn_base.specs.declared.codes.Code.{Code}
 use Rattle.kmn_base.specs.declared.codes.Code.TheVariants.{C02, C03, C04, C05, C06, C07, C15}
 use Rattle.kmn_base.specs.declared.refusals.Refusal.{Refusal}
@@ -17,7 +18,7 @@ use Rattle.rule_model.specs.declared.program.Program.{Program}
 use Rattle.rule_model.specs.Naming.{is_dropped, rule_items}
 use Rattle.rule_model.specs.Src.{is_unicode, is_on_match, is_on_nomatch}
 use Rattle.kmn_names.specs.declared.stating.Stated.{Stated}
-use Rattle.kmn_names.specs.First.{or_else, broken, first_code, at_line, earlier, first_of}
+use Rattle.kmn_names.specs.First.{broken, first_code, at_line, earlier, first_of}
 
 -- a name is among others
 unfoldable pub is_named : List (List ℕ) → List ℕ → Bool
@@ -120,7 +121,7 @@ store_item_code stated before item =
 
 abbrev pub store_code : Stated → List (List ℕ) → StoreDef → Option Code
 store_code stated before store =
-    or_else (broken ((C03, is_store_again before store) ∷ [])) (first_code (store_item_code stated before) store.items)
+    option_or (broken ((C03, is_store_again before store) ∷ [])) (first_code (store_item_code stated before) store.items)
 
 abbrev pub store_refusal : Stated → List StoreDef → StoreDef → Option Refusal
 store_refusal stated before store = at_line store.line (store_code stated (store_names before) store)
@@ -138,7 +139,7 @@ rule_item_code stated item = broken ((C05, names_no_store stated item) ∷ (C06,
 
 abbrev pub rule_code : Stated → Bool → RuleDef → Option Code
 rule_code stated again rule =
-    or_else (broken ((C15, again) ∷ [])) (first_code (rule_item_code stated) (rule_items rule))
+    option_or (broken ((C15, again) ∷ [])) (first_code (rule_item_code stated) (rule_items rule))
 
 abbrev pub rule_refusal : Stated → List RuleDef → RuleDef → Option Refusal
 rule_refusal stated before rule =

@@ -1,7 +1,6 @@
 //! The names of marks and keys by first appearance, over stores and rules in the order of their lines.
 
 ghost use Rattle.std.specs.Prelude.{◌≡◌, ◌++◌, List, [], flat_map, IfOk, OnOk, option_to_list};
-ghost use Rattle.rule_model.specs.Dictionary.{with_name};
 ghost use Rattle.rule_model.specs.declared.program.GroupDef.{GroupDef};
 ghost use Rattle.rule_model.specs.declared.program.RuleDef.{RuleDef};
 ghost use Rattle.rule_model.specs.Naming.{items_from, rule_items, source_items, store_items, stores_after, stores_before};
@@ -20,18 +19,6 @@ pub struct Appeared {
     pub keys: KeyDictionary,
 }
 
-/// Appends the name of a mark where it is new.
-#[tactic(auto, unfolding(crate::specs::Names::is_named))]
-fn add_mark(marks: &mut NameTable, name: &[u8]) -> Result<(), Memory>
-    ensures { OnOk result (marks.new ≡ with_name marks.old name.now) }
-{
-    if marks.has(name) {
-        Ok(())
-    } else {
-        marks.push(name)
-    }
-}
-
 /// Adds the name of a key while there is a code.
 fn add_key(keys: &mut KeyDictionary, name: &[u8]) -> Result<(), Memory>
     ensures { OnOk result (keys.new ≡ with_key keys.old name.now) }
@@ -47,7 +34,7 @@ fn add_item(appeared: &mut Appeared, item: &SrcItem) -> Result<(), Memory>
     ensures { OnOk result (appeared.new ≡ with_item appeared.old item.now) }
 {
     match item {
-        SrcItem::Dead(name) => add_mark(&mut appeared.marks, name.as_slice()),
+        SrcItem::Dead(name) => appeared.marks.add_new(name.as_slice()),
         SrcItem::Key(key) => {
             if key.code == 0 {
                 add_key(&mut appeared.keys, key.name.as_slice())

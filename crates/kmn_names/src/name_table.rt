@@ -1,7 +1,7 @@
-ghost use Rattle.std.specs.Prelude.{◌≡◌, ◌≤◌, ◌<◌, None, [], ◌∷◌, ◌++◌, length, MatchResult, IfOk, IfSome, IsSome};
+ghost use Rattle.std.specs.Prelude.{◌≡◌, ◌≤◌, ◌<◌, None, [], ◌∷◌, ◌++◌, length, MatchResult, IfOk, OnOk, IfSome, IsSome};
 ghost use Rattle.std.specs.Str.{str_to_ascii_lowercase, bytes_eq};
 ghost use Rattle.std.specs.Map.{lookup};
-ghost use Rattle.rule_model.specs.Dictionary.{place_in};
+ghost use Rattle.rule_model.specs.Dictionary.{place_in, with_name};
 ghost use Rattle.kmn_names.specs.Names.{is_named};
 ghost use Rattle.kmn_names.specs.Places.{written};
 
@@ -65,6 +65,18 @@ impl NameTable {
         match self.place_of(name) {
             Some(_) => self.push_again(copy),
             None => self.push_new(copy),
+        }
+    }
+
+    /// Appends a name where it is new.
+    #[tactic(auto, unfolding(crate::specs::Names::is_named))]
+    pub fn add_new(&mut self, name: &[u8]) -> Result<(), Memory>
+        ensures { OnOk result (self.new ≡ with_name self.old name.now) }
+    {
+        if self.has(name) {
+            Ok(())
+        } else {
+            self.push(name)
         }
     }
 

@@ -2,10 +2,10 @@
 use Rattle.std.proofs.Common.{◌≡◌, ℕ, ◌+◌, ◌-◌, ◌<◌, true, false, not, ◌||◌, List, [], ◌∷◌, ◌++◌, length, take, drop, None, Some, refl, ◌∙◌, ap, arith, length-append}
 use Rattle.std.specs.Prelude.{Ok, nat_lt}
 use Rattle.std.specs.List.{list_all}
+use Rattle.std.specs.Option.{option_or}
 use Rattle.std.proofs.Math.Seq.{take-append_seam, drop-append-add}
 use Rattle.std.proofs.lemmas.Bool.{lt-ltb, cond-true, and_parts}
 use Rattle.kmn_base.specs.declared.codes.Code.TheVariants.{S01, S04, S06}
-use Rattle.kmn_lines.specs.Bytes.{or_else}
 use Rattle.kmn_items.specs.Slots.{unless}
 use Rattle.rule_model.specs.declared.program.SrcItem.{SrcItem}
 use Rattle.rule_model.specs.declared.program.RuleKind.TheVariants.{Plain}
@@ -36,8 +36,8 @@ place-none wanted (first ∷ tokens) none =
 free-head : (arrow place : ℕ) (tokens : List LineToken) → nat_lt arrow (length tokens) ≡ true → has_items (drop (arrow + 1) tokens) ≡ true → rule_head WithoutKeys arrow place tokens ≡ None
 unfolding rule_head
 free-head arrow place tokens e f =
-    ap (λ b. or_else (unless (b || begins_rule tokens) S01) (or_else (or_else (unless b S04) (unless (has_items (drop (arrow + 1) tokens)) S06)) None)) e
-    ∙ ap (λ b. or_else (unless b S06) None) f
+    ap (λ b. option_or (unless (b || begins_rule tokens) S01) (option_or (option_or (unless b S04) (unless (has_items (drop (arrow + 1) tokens)) S06)) None)) e
+    ∙ ap (λ b. option_or (unless b S06) None) f
 
 free-body : (line last arrow plus : ℕ) (tokens : List LineToken) (context output : List SrcItem) (c : List LineToken)
     → take plus tokens ≡ c → read_items section.Context unseen last 0 0 c ≡ Ok context → nat_lt plus arrow ≡ false

@@ -1,5 +1,5 @@
 -- What a line's sections have of its tokens, what a walk over lines has left, and where a rule goes.
-use Rattle.std.proofs.Common.{◌≡◌, ℕ, ◌+◌, ◌≤◌, Bool, true, false, if◌then◌else◌, nat_lt, List, [], ◌∷◌, ◌++◌, length, Option, None, Some, Result, Ok, Err, refl, sym, ap, cond, not, ◌∙◌}
+use Rattle.std.proofs.Common.{◌≡◌, ℕ, ◌+◌, ◌≤◌, nat_lt, List, [], ◌∷◌, ◌++◌, length, Option, None, Some, Result, Ok, Err, refl, sym, ap, cond, not, ◌∙◌}
 use Rattle.std.specs.Prelude.{IsUtf8}
 use Rattle.std.specs.Str.{is_utf8}
 use Rattle.std.proofs.lemmas.Str.{is_utf8-from_IsUtf8, IsUtf8-from_is_utf8}
@@ -7,6 +7,7 @@ use Rattle.kmn_base.specs.declared.codes.Code.TheVariants.{L01, L05}
 use Rattle.kmn_base.specs.declared.refusals.Refusal.{Refusal}
 use Rattle.kmn_lines.specs.declared.logical.Logical.{Logical}
 use Rattle.kmn_base.specs.declared.limits.TheConstants.{TEXT_BYTES}
+use Rattle.kmn_base.proofs.Tests.{second_fails, both_hold}
 use Rattle.kmn_lines.specs.Tokens.{refusal}
 use Rattle.std.specs.List.{All, AllByRecursion, position_or_len}
 use Rattle.std.proofs.lemmas.List.Elements.{All-head, All-tail}
@@ -56,21 +57,11 @@ rule_goes_last [] group rule = refl
 rule_goes_last (first ∷ []) group rule = refl
 rule_goes_last (first ∷ next ∷ groups) group rule = ap (λ gs. first ∷ gs) (rule_goes_last (next ∷ groups) group rule)
 
-two_tests : {X : Type 0} (long text : Bool) (a b c : X) → long ≡ false → text ≡ true → (if long then a else (if not text then b else c)) ≡ c
-two_tests true text a b c e f = cc
-two_tests false true a b c e f = refl
-two_tests false false a b c e f = cc
-
-second_fails : {X : Type 0} (long text : Bool) (a b c : X) → long ≡ false → ¬ (text ≡ true) → (if long then a else (if not text then b else c)) ≡ b
-second_fails true text a b c e f = cc
-second_fails false true a b c e f = absurd (f refl)
-second_fails false false a b c e f = refl
-
 -- a source that is short enough and in UTF-8 is read as text
 pub parsed_text : (source text : List ℕ) → length source ≤ TEXT_BYTES → text ≡ source → IsUtf8 source → parsed source ≡ read_text text
 unfolding parsed
 parsed_text source text short same utf8 =
-    two_tests (nat_lt TEXT_BYTES (length source)) (is_utf8 source) (Err (refusal 1 L05)) (Err (refusal 1 L01)) (read_text source)
+    both_hold (nat_lt TEXT_BYTES (length source)) (is_utf8 source) (Err (refusal 1 L05)) (Err (refusal 1 L01)) (read_text source)
     (le-ltb TEXT_BYTES (length source) short) (is_utf8-from_IsUtf8 source utf8)
     ∙ ap read_text (sym same)
 

@@ -1,11 +1,11 @@
 -- The statement that is read of a line's sound tokens.
 use Rattle.std.proofs.Common.{◌≡◌, ◌≢◌, ℕ, suc, ◌+◌, ◌-◌, Bool, true, false, not, ◌&&◌, ◌||◌, if◌then◌else◌, nat_lt, nat_le, nat_eq, List, [], ◌∷◌, length, take, drop, codes, Option, None, Some, is_some, option_map, unwrap_or, Result, Ok, Err, refl, sym, ◌∙◌, subst, arith}
 use Rattle.std.specs.Prelude.{All, IfSome}
+use Rattle.std.specs.Option.{option_or}
 use Rattle.std.proofs.lemmas.Bool.{and_parts, cond_both, eqb-false, ne_eqb, ltb-true, leb-true, not-true}
 use Rattle.std.proofs.lemmas.List.Elements.{All-nil, All-drop, All-take, All-weaker}
 use Rattle.kmn_base.specs.declared.codes.Code.{Code}
 use Rattle.kmn_base.specs.declared.codes.Code.TheVariants as code
-use Rattle.kmn_lines.specs.Bytes.{or_else}
 use Rattle.kmn_base.specs.Names.{named_in}
 use Rattle.rule_model.specs.declared.program.SrcItem.{SrcItem}
 use Rattle.rule_model.specs.declared.program.RuleDef.{RuleDef}
@@ -25,13 +25,14 @@ use Rattle.kmn_base.specs.Answers.{and_then}
 use Rattle.kmn_items.specs.TokenTexts.{LineToken, fault, text_at, begins_open, is_wordy}
 use Rattle.kmn_items.specs.Words.{is_system_name, bare_name, is_name}
 use Rattle.kmn_base.specs.Texts.{character_count}
+use Rattle.kmn_base.proofs.Options.{option_or-none}
 use Rattle.kmn_items.specs.Slots.{unless, broken}
 use Rattle.kmn_items.specs.Item.{unseen, read_items, read_key}
 use Rattle.kmn_parser.specs.Line.{place_of, begins_word, is_none_left, checked, first_of, behind_close, system_stores, store_system, store_form, store_fault, store_def, read_store, begin_head, begin_fault, read_begin, group_head, group_fault, read_group, no_group, no_output, match_fault, read_match, begins_rule, uses_keys, rule_head, rule_key, rule_body, earliest, rule_at, read_rule, read_tokens, read_line}
 use Rattle.kmn_parser.specs.Source.{last_group}
 use Rattle.kmn_parser.specs.ProgramLaws.{IsName, IsReadItem, StandsAsKey, IsLine, IsReadStore, IsReadBegin, IsReadRule}
 use Rattle.kmn_parser.proofs.CleanTexts.{clean-characters, counted-characters}
-use Rattle.kmn_parser.proofs.SoundTokens.{either-none, IsSoundToken}
+use Rattle.kmn_parser.proofs.SoundTokens.{IsSoundToken}
 use Rattle.kmn_parser.proofs.SoundKeys.{row-found}
 use Rattle.kmn_parser.proofs.ReadItems.{IsClean, text-clean, no-fault, text_at-drop, IsReadIn, AllRead, items-read, KeyRead, one_key-read}
 
@@ -167,8 +168,8 @@ store-of-form : (line last : ℕ) (tokens : List LineToken) (items : List SrcIte
     → IsReadStore (store_def line (text_at 2 tokens) items)
 store-of-form line last tokens items placed sound whole read =
     let name : List ℕ = text_at 2 tokens in
-    let first = either-none (broken last 2 (slot.StoreName ∷ []) (drop 2 tokens)) _ whole in
-    let second = either-none (option_map (fault 2) (unless (is_none_left (drop 3 tokens) || is_some (store_system name)) code.S12)) (broken last 3 (slot.Close ∷ []) (drop 3 tokens)) first.1 in
+    let first = option_or-none (broken last 2 (slot.StoreName ∷ []) (drop 2 tokens)) _ whole in
+    let second = option_or-none (option_map (fault 2) (unless (is_none_left (drop 3 tokens) || is_some (store_system name)) code.S12)) (broken last 3 (slot.Close ∷ []) (drop 3 tokens)) first.1 in
     let either = unless-none (is_none_left (drop 3 tokens) || is_some (store_system name)) code.S12 (mapped-none (fault 2) _ second.0) in
     store-read line name items placed read (text-clean 2 tokens sound)
     (subst (λ (text : List ℕ). is_name (bare_name text) ≡ true) (text_at-drop 2 tokens) (form-store last 2 [] (drop 2 tokens) first.0))
@@ -222,8 +223,8 @@ unfolding read_match match_fault
 match-line kind group line last tokens other placed sound =
     checked-read group (match_fault group (place_of sign.Arrow tokens) tokens) _
     (λ whole.
-    let head = (first-none (or_else (no_group group) (no_output (place_of sign.Arrow tokens) tokens)) _ whole).0 in
-    let opened = some-group group (either-none (no_group group) (no_output (place_of sign.Arrow tokens) tokens) head).0 in
+    let head = (first-none (option_or (no_group group) (no_output (place_of sign.Arrow tokens) tokens)) _ whole).0 in
+    let opened = some-group group (option_or-none (no_group group) (no_output (place_of sign.Arrow tokens) tokens) head).0 in
     then-read group section.Output (read_items section.Output unseen last 0 2 (drop 2 tokens)) _
     (items-read section.Output unseen last 0 2 (drop 2 tokens) (All-drop IsSoundToken 2 tokens sound))
     (λ output read. (uses_keys group, opened, bare-rule (uses_keys group) line kind output placed other read)))
@@ -312,9 +313,9 @@ earliest-read group plus line (Some head) (Err found) placed opened read = tt
 head-read : (group : LastGroup) (arrow plus : ℕ) (tokens : List LineToken) → rule_head group arrow plus tokens ≡ None → IsReadHead group (nat_lt plus arrow)
 unfolding rule_head
 head-read group arrow plus tokens whole =
-    let behind = (either-none (unless (nat_lt arrow (length tokens) || begins_rule tokens) code.S01) _ whole).1 in
-    let opened = either-none (no_group group) _ behind in
-    let keyed = (either-none (no_output arrow tokens) (unless (not (uses_keys group) || nat_lt plus arrow) code.S08) opened.1).1 in
+    let behind = (option_or-none (unless (nat_lt arrow (length tokens) || begins_rule tokens) code.S01) _ whole).1 in
+    let opened = option_or-none (no_group group) _ behind in
+    let keyed = (option_or-none (no_output arrow tokens) (unless (not (uses_keys group) || nat_lt plus arrow) code.S08) opened.1).1 in
     (some-group group opened.0, unless-none (not (uses_keys group) || nat_lt plus arrow) code.S08 keyed)
 
 rule-line : (group : LastGroup) (line last arrow plus : ℕ) (tokens : List LineToken) → IsLine line → All IsSoundToken tokens

@@ -5,10 +5,10 @@ use Rattle.std.specs.List.{list_all}
 use Rattle.std.proofs.Math.Seq.{take-append_seam, drop-append-add}
 use Rattle.std.proofs.lemmas.List.Folds.{list_all-append}
 use Rattle.std.specs.Fmt.{decimal}
+use Rattle.std.specs.Option.{option_or}
 use Rattle.std.proofs.lemmas.Bool.{and_from, lt-ltb, ne_eqb, cond_both, cond-true, cond-false, and_parts}
 use Rattle.kmn_base.specs.Names.{same_name}
 use Rattle.kmn_base.specs.declared.codes.Code.TheVariants.{S01, S04, S06, S08}
-use Rattle.kmn_lines.specs.Bytes.{or_else}
 use Rattle.kmn_lines.specs.Tokens.{starts_number, hex_value}
 use Rattle.kmn_lines.specs.declared.token.TokenKind.TheVariants as kind
 use Rattle.kmn_items.specs.Slots.{unless}
@@ -117,8 +117,8 @@ output-has i rest some = refl
 head-none : (arrow plus : ℕ) (tokens : List LineToken) → nat_lt arrow (length tokens) ≡ true → has_items (drop (arrow + 1) tokens) ≡ true → nat_lt plus arrow ≡ true → rule_head UsingKeys arrow plus tokens ≡ None
 unfolding rule_head
 head-none arrow plus tokens e f g =
-    ap (λ b. or_else (unless (b || begins_rule tokens) S01) (or_else (or_else (unless b S04) (unless (has_items (drop (arrow + 1) tokens)) S06)) (unless (nat_lt plus arrow) S08))) e
-    ∙ ap (λ b. or_else (unless b S06) (unless (nat_lt plus arrow) S08)) f ∙ ap (λ b. unless b S08) g
+    ap (λ b. option_or (unless (b || begins_rule tokens) S01) (option_or (option_or (unless b S04) (unless (has_items (drop (arrow + 1) tokens)) S06)) (unless (nat_lt plus arrow) S08))) e
+    ∙ ap (λ b. option_or (unless b S06) (unless (nat_lt plus arrow) S08)) f ∙ ap (λ b. unless b S08) g
 
 body-ok : (line last arrow plus : ℕ) (tokens : List LineToken) (context output : List SrcItem) (key : SrcItem) (c k : List LineToken)
     → take plus tokens ≡ c → read_items section.Context unseen last 0 0 c ≡ Ok context

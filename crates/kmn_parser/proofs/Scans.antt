@@ -3,8 +3,9 @@ use Rattle.std.proofs.Common.{◌≡◌, ℕ, zero, suc, ◌+◌, ◌-◌, ◌�
 use Rattle.std.proofs.lemmas.List.{drop-take}
 use Rattle.std.proofs.Math.Seq.{take-append_seam, drop-append_seam}
 use Rattle.std.proofs.lemmas.Bool.{cond-false}
+use Rattle.std.specs.Option.{option_or}
 use Rattle.kmn_base.specs.Bytes.{is_blank}
-use Rattle.kmn_lines.specs.Bytes.{first_or_end, or_else}
+use Rattle.kmn_lines.specs.Bytes.{first_or_end}
 use Rattle.kmn_lines.specs.Tokens.{token_kind, token_size, token_text, token_at, token_fault, scanned, first_fault}
 use Rattle.kmn_lines.specs.declared.token.Token.{Token}
 use Rattle.kmn_lines.proofs.TextSizes.{token_size-within}
@@ -90,7 +91,7 @@ fault-token token (byte ∷ bytes) rest e back =
     let less : token_size whole - 1 ≡ length bytes = omega (arith, size) in
     let here : token_text whole ≡ token.text = ap (λ (n : ℕ). take n whole) size ∙ take-append_seam (byte ∷ bytes) rest ∙ sym e in
     cond-false (is_blank byte) _ _ solid
-    ∙ ap (λ f. or_else f (first_fault (token_size whole - 1) (bytes ++ rest))) (ap token_fault here ∙ back.sound)
+    ∙ ap (λ f. option_or f (first_fault (token_size whole - 1) (bytes ++ rest))) (ap token_fault here ∙ back.sound)
     ∙ first_fault_skip (token_size whole - 1) (bytes ++ rest) ∙ ap (λ (n : ℕ). first_fault 0 (drop n (bytes ++ rest))) less ∙ ap (λ (xs : List ℕ). first_fault 0 xs) (drop-append_seam bytes rest)
 
 fault-printed : (ps : List (Option LineToken)) → AreReadBack ps → first_fault 0 (printed ps) ≡ None

@@ -2,6 +2,7 @@
 -- are characters, and their words are plain.
 use Rattle.std.proofs.Common.{◌≡◌, ℕ, zero, suc, ◌+◌, ◌-◌, ◌<◌, ◌≤◌, ◌==◌, Bool, true, false, not, ◌&&◌, ◌||◌, if◌then◌else◌, cond, nat_lt, get_or, List, [], ◌∷◌, length, take, drop, Option, None, Some, option_map, unwrap_or, refl, sym, ◌∙◌, ap, subst, arith, length-drop}
 use Rattle.std.specs.Prelude.{All, IsUtf8}
+use Rattle.std.specs.Option.{option_or}
 use Rattle.std.proofs.lemmas.Bool.{or_parts, eqb-false, cond_both}
 use Rattle.std.proofs.lemmas.List.{length-take, drop-take, take-take}
 use Rattle.std.proofs.lemmas.List.Elements.{All-cons, All-nil, All-append, All-head, All-tail, All-map}
@@ -13,7 +14,8 @@ use Rattle.kmn_lines.specs.declared.token.Token.{Token}
 use Rattle.kmn_lines.specs.declared.token.TokenKind.{TokenKind}
 use Rattle.kmn_lines.specs.declared.token.TokenKind.TheVariants as kind
 use Rattle.kmn_base.specs.Bytes.{is_blank, is_quote}
-use Rattle.kmn_lines.specs.Bytes.{first_or_end, or_else}
+use Rattle.kmn_base.proofs.Options.{option_or-none}
+use Rattle.kmn_lines.specs.Bytes.{first_or_end}
 use Rattle.kmn_lines.specs.Lines.{parts_in}
 use Rattle.kmn_lines.specs.Tokens.{single, is_unequal, starts_number, hex_value, plain_kind, has_forbidden, is_closed, is_scalar, value_fault, digits_fault, token_size, token_text, token_kind, token_at, token_fault, scanned, first_fault, part_text, parts_tokens, parts_fault, line_tokens, line_refusal, tokens_refusal, refusal}
 use Rattle.kmn_lines.specs.Laws.{IsPlain, bytes_between}
@@ -30,10 +32,6 @@ pub record IsFaultless (sort : TokenKind) (text : List ℕ) : Type 0 where
 
 abbrev IsFaultlessIn : List ℕ → Token → Type 0
 IsFaultlessIn source t = IsFaultless t.kind (text_of source t)
-
-pub either-none : {A : Type 0} (first second : Option A) → or_else first second ≡ None → (first ≡ None) × (second ≡ None)
-either-none None second e = (refl, e)
-either-none (Some x) second e = cc
 
 taken-length : (n : ℕ) (bytes : List ℕ) → take (length (take n bytes)) bytes ≡ take n bytes
 taken-length zero bytes = refl
@@ -75,10 +73,10 @@ scanned-faultless source end line zero at (byte ∷ bytes) e none =
     let next = drop-next at (take end source) byte bytes e in
     scanned-if source (is_blank byte) (scanned line zero (at + 1) bytes)
     (token_at line at (token_text text) ∷ scanned line (token_size text - 1) (at + 1) bytes)
-    (or_else (token_fault (token_text text)) (first_fault (token_size text - 1) bytes)) (first_fault zero bytes)
+    (option_or (token_fault (token_text text)) (first_fault (token_size text - 1) bytes)) (first_fault zero bytes)
     (λ rest. scanned-faultless source end line zero (at + 1) bytes next rest)
     (λ both.
-    let parts = either-none (token_fault (token_text text)) (first_fault (token_size text - 1) bytes) both in
+    let parts = option_or-none (token_fault (token_text text)) (first_fault (token_size text - 1) bytes) both in
     All-cons (IsFaultlessIn source) (token_at line at (token_text text)) (scanned line (token_size text - 1) (at + 1) bytes)
     (token-faultless source end line at text e (omega arith) parts.0)
     (scanned-faultless source end line (token_size text - 1) (at + 1) bytes next parts.1))
@@ -87,7 +85,7 @@ scanned-faultless source end line zero at (byte ∷ bytes) e none =
 parts-faultless : (source : List ℕ) (ps : List Part) → parts_fault source ps ≡ None → All (IsFaultlessIn source) (parts_tokens source ps)
 parts-faultless source [] none = All-nil (IsFaultlessIn source)
 parts-faultless source (p ∷ ps) none =
-    let both = either-none (first_fault 0 (part_text source p)) (parts_fault source ps) none in
+    let both = option_or-none (first_fault 0 (part_text source p)) (parts_fault source ps) none in
     All-append (IsFaultlessIn source) (scanned p.line 0 p.from (part_text source p)) (parts_tokens source ps)
     (scanned-faultless source p.to p.line 0 p.from (part_text source p) refl both.0)
     (parts-faultless source ps both.1)
@@ -192,7 +190,7 @@ HasTexts source line = All (IsText source) (line_tokens source line)
 pub lines-sound : (source : List ℕ) (lines : List Logical) → All (HasTexts source) lines → tokens_refusal source lines ≡ None → All (HasSoundTokens source) lines
 lines-sound source [] texts none = All-nil (HasSoundTokens source)
 lines-sound source (line ∷ lines) texts none =
-    let both = either-none (line_refusal source line) (tokens_refusal source lines) none in
+    let both = option_or-none (line_refusal source line) (tokens_refusal source lines) none in
     All-cons (HasSoundTokens source) line lines
     (tokens-sound source line (All-head (HasTexts source) line lines texts) both.0)
     (lines-sound source lines (All-tail (HasTexts source) line lines texts) both.1)

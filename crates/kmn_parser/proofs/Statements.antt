@@ -1,11 +1,11 @@
 -- Each statement but a plain rule is read as it is written.
 use Rattle.std.proofs.Common.{◌≡◌, ℕ, suc, ◌-◌, Bool, true, false, ◌||◌, if◌then◌else◌, ◌==◌, List, [], ◌∷◌, length, Option, None, Some, is_some, refl, ◌∙◌, ap, arith}
 use Rattle.std.specs.Prelude.{Ok, codes, nat_lt, unwrap_or, option_map}
+use Rattle.std.specs.Option.{option_or}
 use Rattle.std.proofs.lemmas.Bool.{lt-ltb, ne_eqb, or_right, cond-false}
 use Rattle.kmn_base.specs.Answers.{and_then}
 use Rattle.kmn_base.specs.Names.{same_name}
 use Rattle.kmn_base.specs.declared.codes.Code.TheVariants.{S02, S04, S06, S12}
-use Rattle.kmn_lines.specs.Bytes.{or_else}
 use Rattle.kmn_lines.specs.declared.token.TokenKind.{TokenKind}
 use Rattle.kmn_lines.specs.declared.token.TokenKind.TheVariants as kind
 use Rattle.rule_model.specs.declared.program.SrcItem.{SrcItem}
@@ -31,8 +31,8 @@ store-fits : (last system : ℕ) (name : List ℕ) (items : List LineToken) → 
     → store_fault last (word (codes "store") ∷ opening ∷ name_token name ∷ closing ∷ items) ≡ None
 unfolding store_fault
 store-fits last system name items fits known =
-    ap (λ f. or_else (or_fault 2 f None) (or_else (option_map (fault 2) (unless (is_none_left (closing ∷ items) || is_some (store_system name)) S12)) None)) fits
-    ∙ ap (λ b. or_else (option_map (fault 2) (unless b S12)) None) (or_right (is_none_left (closing ∷ items)) (is_some (store_system name)) (ap is_some known))
+    ap (λ f. option_or (or_fault 2 f None) (option_or (option_map (fault 2) (unless (is_none_left (closing ∷ items) || is_some (store_system name)) S12)) None)) fits
+    ∙ ap (λ b. option_or (option_map (fault 2) (unless b S12)) None) (or_right (is_none_left (closing ∷ items)) (is_some (store_system name)) (ap is_some known))
 
 pub store_read : (group : LastGroup) (line system : ℕ) (name kept : List ℕ) (content : List LineToken) (items : List SrcItem)
     → slot_fault slot.StoreName (name_token name) ≡ None → store_system name ≡ Some system → (if is_system_name name then [] else name) ≡ kept → ReadsAs section.Store unseen content items
@@ -84,8 +84,8 @@ group-there false = refl
 match-fits : (using_keys : Bool) (first : LineToken) (items : List LineToken) → has_items items ≡ true → match_fault (last_group using_keys) 1 (first ∷ arrow ∷ items) ≡ None
 unfolding match_fault
 match-fits using_keys first items some =
-    ap (λ c. first_of (or_else c (or_else (unless (nat_lt 1 (suc (suc (length items)))) S04) (unless (has_items items) S06))) None) (group-there using_keys)
-    ∙ ap (λ b. first_of (or_else (unless b S04) (unless (has_items items) S06)) None) (lt-ltb 1 (suc (suc (length items))) (omega arith))
+    ap (λ c. first_of (option_or c (option_or (unless (nat_lt 1 (suc (suc (length items)))) S04) (unless (has_items items) S06))) None) (group-there using_keys)
+    ∙ ap (λ b. first_of (option_or (unless b S04) (unless (has_items items) S06)) None) (lt-ltb 1 (suc (suc (length items))) (omega arith))
     ∙ ap (λ b. first_of (unless b S06) None) some
 
 pub match_read : (using_keys : Bool) (line : ℕ) (output : List SrcItem) → has_items (items_tokens output) ≡ true → ArePrinted section.Output unseen output

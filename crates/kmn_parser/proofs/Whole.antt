@@ -2,13 +2,13 @@
 use Rattle.std.proofs.Common.{◌≡◌, ℕ, ◌+◌, not, List, [], ◌∷◌, ◌++◌, length, drop, map, Option, None, Some, refl, sym, ◌∙◌, ap, arith, append_assoc, length-append}
 use Rattle.std.specs.Prelude.{All, Ok, Err, fold, option_map, nat_lt}
 use Rattle.std.specs.Str.{is_utf8}
+use Rattle.std.specs.Option.{option_or}
 use Rattle.std.proofs.Math.Seq.{drop-append_seam}
 use Rattle.std.proofs.lemmas.List.{drop-drop}
 use Rattle.std.proofs.lemmas.List.Elements.{All-cons, All-nil}
 use Rattle.std.proofs.lemmas.Bool.{cond-false, le-ltb}
 use Rattle.kmn_base.specs.declared.refusals.Refusal.{Refusal}
 use Rattle.kmn_base.specs.declared.limits.TheConstants.{TEXT_BYTES}
-use Rattle.kmn_lines.specs.Bytes.{or_else}
 use Rattle.kmn_lines.specs.Lines.{logicals}
 use Rattle.kmn_lines.specs.Tokens.{refusal, part_text, parts_tokens, parts_fault, line_tokens, line_refusal, tokens_refusal, scanned, first_fault}
 use Rattle.kmn_lines.specs.declared.logical.Logical.{Logical}
@@ -52,8 +52,8 @@ unfolding line_refusal
 row-refusal source number at ps rest e back whole =
     let line = printed ps in
     ap (λ (parts : List Part). option_map (refusal number) (parts_fault source parts)) (row_parts source number at line rest e whole)
-    ∙ ap (λ (xs : List ℕ). option_map (refusal number) (or_else (first_fault 0 xs) None)) (line-text source at line (10 ∷ rest) e)
-    ∙ ap (λ f. option_map (refusal number) (or_else f None)) (tokens_read_back source number at ps (10 ∷ rest) e back).1
+    ∙ ap (λ (xs : List ℕ). option_map (refusal number) (option_or (first_fault 0 xs) None)) (line-text source at line (10 ∷ rest) e)
+    ∙ ap (λ f. option_map (refusal number) (option_or f None)) (tokens_read_back source number at ps (10 ∷ rest) e back).1
 
 next-row : (source : List ℕ) (at : ℕ) (line rest : List ℕ) → drop at source ≡ line ++ 10 ∷ rest → drop (at + length line + 1) source ≡ rest
 next-row source at line rest e =
@@ -76,7 +76,7 @@ none-refused : (source : List ℕ) (group : LastGroup) (number at : ℕ) (lines 
 none-refused source group number at [] statements e prints = refl
 none-refused source group number at (line ∷ lines) [] e prints = absurd prints
 none-refused source group number at (line ∷ lines) (s ∷ statements) e (back, whole, read, more) =
-    ap (λ f. or_else f (tokens_refusal source (row_lines (number + 1) (at + length (printed line) + 1) (map printed lines)))) (row-refusal source number at line (rows (map printed lines)) e back whole)
+    ap (λ f. option_or f (tokens_refusal source (row_lines (number + 1) (at + length (printed line) + 1) (map printed lines)))) (row-refusal source number at line (rows (map printed lines)) e back whole)
     ∙ none-refused source (group_after group s) (number + 1) (at + length (printed line) + 1) lines statements (next-row source at (printed line) (rows (map printed lines)) e) more
 
 all-read : (source : List ℕ) (group : LastGroup) (program : Program) (number at : ℕ) (lines : List (List (Option LineToken))) (statements : List Statement) → drop at source ≡ rows (map printed lines) → ReadAsStatements group number lines statements

@@ -3,10 +3,10 @@ use Rattle.std.specs.Prelude.{ℕ, ◌+◌, ◌-◌, ◌==◌, nat_eq, nat_lt, B
 use Rattle.std.specs.List.{list_any, position_or_len}
 use Rattle.std.specs.Ordering.{nat_cmp, is_lt}
 use Rattle.std.specs.Cmp.Lexicographic.{slice_cmp}
+use Rattle.std.specs.Option.{option_or}
 use Rattle.kmn_base.specs.CodeTexts.{code_text}
 use Rattle.kmn_base.specs.declared.codes.Code.{Code}
 use Rattle.kmn_base.specs.declared.codes.Code.TheVariants as code
-use Rattle.kmn_lines.specs.Bytes.{or_else}
 use Rattle.kmn_lines.specs.declared.token.TokenKind.{TokenKind}
 use Rattle.kmn_lines.specs.declared.token.TokenKind.TheVariants as kind
 use Rattle.kmn_base.specs.Names.{same_name}
@@ -88,8 +88,8 @@ store_system name = if is_system_name name then named_in system_stores (bare_nam
 -- store: a known name and ); that the line breaks off at the name goes before that it isn't known
 abbrev pub store_form : ℕ → List LineToken → Option TokenRefusal
 store_form last tokens =
-    or_else (broken last 2 (slot.StoreName ∷ []) (drop 2 tokens))
-    (or_else (option_map (fault 2) (unless (is_none_left (drop 3 tokens) || is_some (store_system (text_at 2 tokens))) code.S12))
+    option_or (broken last 2 (slot.StoreName ∷ []) (drop 2 tokens))
+    (option_or (option_map (fault 2) (unless (is_none_left (drop 3 tokens) || is_some (store_system (text_at 2 tokens))) code.S12))
     (broken last 3 (slot.Close ∷ []) (drop 3 tokens)))
 
 -- store: a ( behind the word, then the form
@@ -119,7 +119,7 @@ is_use tokens = begins_word (codes "use") tokens && begins_open (drop 1 tokens) 
 -- begin, with its first > at a place: a form that lacks its > alone is another fault than a different form
 abbrev pub begin_head : ℕ → List LineToken → Option Code
 begin_head arrow tokens =
-    or_else (unless (begins_kind (drop 1 tokens) && is_use (drop (if arrow == 2 then 3 else 2) tokens)) code.S01)
+    option_or (unless (begins_kind (drop 1 tokens) && is_use (drop (if arrow == 2 then 3 else 2) tokens)) code.S01)
     (unless (arrow == 2) code.S04)
 
 unfoldable pub begin_fault : ℕ → List LineToken → Option TokenRefusal
@@ -165,12 +165,12 @@ has_items tokens = list_any (λ token. not (is_empty_quote token)) tokens
 
 -- with the first > at a place: there is no >, or no item behind it
 abbrev pub no_output : ℕ → List LineToken → Option Code
-no_output arrow tokens = or_else (unless (nat_lt arrow (length tokens)) code.S04) (unless (has_items (drop (arrow + 1) tokens)) code.S06)
+no_output arrow tokens = option_or (unless (nat_lt arrow (length tokens)) code.S04) (unless (has_items (drop (arrow + 1) tokens)) code.S06)
 
 -- match: the > stands right behind the word
 unfoldable pub match_fault : LastGroup → ℕ → List LineToken → Option TokenRefusal
 match_fault group arrow tokens =
-    first_of (or_else (no_group group) (no_output arrow tokens)) (option_map (fault 1) (unless (arrow == 1) code.S05))
+    first_of (option_or (no_group group) (no_output arrow tokens)) (option_map (fault 1) (unless (arrow == 1) code.S05))
 
 -- match > output, nomatch > output
 unfoldable pub read_match : RuleKind → LastGroup → ℕ → ℕ → List LineToken → Result Statement TokenRefusal
@@ -193,9 +193,9 @@ uses_keys other = false
 -- the codes of a rule that stand at its first token; the first > and the first + before it stand at these places
 unfoldable pub rule_head : LastGroup → ℕ → ℕ → List LineToken → Option Code
 rule_head group arrow plus tokens =
-    or_else (unless (nat_lt arrow (length tokens) || begins_rule tokens) code.S01)
-    (or_else (no_group group)
-    (or_else (no_output arrow tokens) (unless (not (uses_keys group) || nat_lt plus arrow) code.S08)))
+    option_or (unless (nat_lt arrow (length tokens) || begins_rule tokens) code.S01)
+    (option_or (no_group group)
+    (option_or (no_output arrow tokens) (unless (not (uses_keys group) || nat_lt plus arrow) code.S08)))
 
 -- the key, which stands between + and >, in a group with keys alone
 unfoldable pub rule_key : LastGroup → ℕ → ℕ → ℕ → List LineToken → Result (Option SrcItem) TokenRefusal

@@ -18,13 +18,14 @@ use Rattle.rule_checker.proofs.Reading.{own_keys_read}
 use Rattle.kmn_parser.proofs.Programs.{programs_read_back}
 use Rattle.decompile_program.specs.Back.{back}
 use Rattle.decompile_program.proofs.Numbering.{keys-are}
+use Rattle.decompile_program.proofs.FewNames.{HasFewElements}
 use Rattle.kmx_decompiler.specs.Laws.{HasTextNames, HasText, SpelledIsSpelled, SpelledNamesStand, SpelledItemsStand, TextIsAccepted, TextKeepsMeaning}
 use Rattle.kmx_decompiler.specs.Unspelled.{unspelled}
 use Rattle.kmx_decompiler.proofs.Sayable.{sayable}
 use Rattle.kmx_decompiler.proofs.WrittenOut.{spelled_written_out}
 use Rattle.kmx_decompiler.proofs.SpelledPrograms.{spelled_is_spelled}
 use Rattle.kmx_decompiler.proofs.Meaning.{is_read, keeps_meaning}
-use Rattle.kmx_decompiler.proofs.ShortTexts.{IsShortStore, stores_short}
+use Rattle.kmx_decompiler.proofs.ShortTexts.{stores_short}
 use Rattle.kmx_decompiler.proofs.DictionarySizes.{dictionary-total, names-fit}
 use Rattle.kmx_decompiler.proofs.UnrefusedNames.{spelled_names_stand}
 use Rattle.kmx_decompiler.proofs.UnrefusedStores.{spelled_items_stand}
@@ -39,7 +40,7 @@ unrefused bytes can texts none =
     let keys = keys-are tables can out in
     let own : All IsOwnKey (tab_dictionary tables.stores) = subst (All IsOwnKey) keys (own_keys_read program (is_read bytes can texts none).statements) in
     let fit = names-fit (tab_dictionary tables.stores) own (dictionary-total tables can) in
-    let short : AllByRecursion IsShortStore (dictionary_stores (names_of program).keys) = subst (λ (names : List (List ℕ)). AllByRecursion IsShortStore (dictionary_stores names)) (sym keys) fit.1 in
+    let short : AllByRecursion HasFewElements (dictionary_stores (names_of program).keys) = subst (λ (names : List (List ℕ)). AllByRecursion HasFewElements (dictionary_stores names)) (sym keys) fit.1 in
     text_unrefused bytes can texts none (stores_short tables can out (sayable bytes none) fit.0 short)
 
 -- the names of a file that has a text

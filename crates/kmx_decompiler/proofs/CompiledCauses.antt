@@ -11,6 +11,7 @@ use Rattle.std.proofs.lemmas.Option.{same_Some}
 use Rattle.kmn_base.specs.declared.items.Element.TheVariants as element
 use Rattle.kmn_base.specs.declared.limits.TheConstants.{FILE_BYTES}
 use Rattle.kmn_base.specs.Names.{same_name}
+use Rattle.kmn_base.proofs.Elements.{All-append_parts}
 use Rattle.rule_model.specs.declared.program.RuleDef.{RuleDef}
 use Rattle.rule_model.specs.declared.program.GroupDef.{GroupDef}
 use Rattle.rule_model.specs.declared.program.Program.{Program}
@@ -38,7 +39,7 @@ use Rattle.kmn_names.specs.Known.{known}
 use Rattle.item_checker.specs.Items.{is_option, rule_code, rule_refusal, rules_refusal}
 use Rattle.rule_checker.specs.Refused.{IsRead, refused}
 use Rattle.rule_checker.proofs.Unrefused.{none_at_line, Stands, none_first}
-use Rattle.rule_checker.proofs.Lists.{All-append_parts, all_true}
+use Rattle.rule_checker.proofs.Lists.{all_true}
 use Rattle.rule_checker.proofs.Accepted.{IsUnrefused, unrefused}
 use Rattle.rule_checker.proofs.Named.{well_named}
 use Rattle.rule_checker.proofs.Numbers.{has_keys, has_marks, keys_appear, marks_appear, rule_items_pass}

@@ -3,6 +3,7 @@ use Rattle.std.proofs.Common.{◌≡◌, ℕ, suc, ◌+◌, ◌<◌, Bool, true,
 use Rattle.std.specs.Prelude.{nat_lt, slice_index_or, option_map, ◌==◌}
 use Rattle.std.specs.List.Sorted.{IsSortedBy}
 use Rattle.std.specs.Ordering.{is_lt, ordering_then, nat_cmp}
+use Rattle.std.specs.Option.{option_or}
 use Rattle.std.proofs.lemmas.Bool.{cond-false}
 use Rattle.rule_model.specs.declared.program.Program.{Program}
 use Rattle.rule_model.specs.declared.tables.Rule.{Rule}
@@ -11,7 +12,6 @@ use Rattle.rule_model.specs.declared.tables.Tables.{Tables}
 use Rattle.kmx_format.specs.TablesOf.{rule_without_place, group_without_places, no_places}
 use Rattle.kmx_format.proofs.FileLaw.{law}
 use Rattle.kmx_format.specs.Compiles.{stands_before, Compiles}
-use Rattle.kmn_names.specs.First.{or_else}
 use Rattle.kmx_decompiler.specs.declared.no_spelling.NoSpelling.TheVariants.{Order}
 use Rattle.kmx_decompiler.specs.Unspelled.{longer_behind, first_longer, disorder}
 use Rattle.kmx_decompiler.specs.Laws.{CompiledIsInOrder}
@@ -41,7 +41,7 @@ group-in-order (rule ∷ rules) up = none-longer 1 rule rules up
 
 none-else : (g : ℕ) (group : Group) (groups : List Group) → first_longer (group_without_places group).rules ≡ None → disorder (g + 1) (map group_without_places groups) ≡ None
     → disorder g (map group_without_places (group ∷ groups)) ≡ None
-none-else g group groups e f = (λ i. or_else (option_map (λ (rule : ℕ). Order g rule) (e i)) (disorder (g + 1) (map group_without_places groups))) ∙ f
+none-else g group groups e f = (λ i. option_or (option_map (λ (rule : ℕ). Order g rule) (e i)) (disorder (g + 1) (map group_without_places groups))) ∙ f
 
 in-order : (g : ℕ) (groups : List Group) → ((k : ℕ) (d : Group) → k < length groups → IsSortedBy stands_before (slice_index_or groups k d).rules) → disorder g (map group_without_places groups) ≡ None
 in-order g [] up = refl

@@ -2,6 +2,7 @@
 use Rattle.std.proofs.Common.{◌≡◌, ℕ, suc, zero, ◌+◌, Bool, true, false, not, ◌&&◌, ◌||◌, List, [], ◌∷◌, ◌++◌, length, map, Option, None, Some, refl, sym, ◌∙◌, ap, arith, if◌then◌else◌}
 use Rattle.std.specs.Prelude.{All, nat_eq, nat_lt, filter, find, flat_map, option_to_list, slice_get, unwrap_or}
 use Rattle.std.specs.List.{list_all, list_any, AllByRecursion}
+use Rattle.std.specs.Option.{option_or}
 use Rattle.std.proofs.lemmas.Bool.{and_parts, or_parts, ne_eqb, le-ltb, cond_both}
 use Rattle.std.proofs.lemmas.List.Elements.{All-head, All-tail, All-from_recursion, recursion_from_All}
 use Rattle.std.proofs.lemmas.List.Folds.{list_all-append, list_any-append}
@@ -11,6 +12,8 @@ use Rattle.kmn_base.specs.declared.items.Element.{Element}
 use Rattle.kmn_base.specs.declared.items.Element.TheVariants as element
 use Rattle.kmn_base.specs.declared.keys.RuleKey.{RuleKey}
 use Rattle.kmn_base.specs.declared.keys.RuleKey.TheVariants as key
+use Rattle.kmn_base.proofs.Options.{option_or-none}
+use Rattle.kmn_base.proofs.Elements.{All-append_parts}
 use Rattle.rule_model.specs.Dictionary.{is_nameable}
 use Rattle.rule_model.specs.declared.program.SrcItem.{SrcItem}
 use Rattle.rule_model.specs.declared.program.SrcItem.TheVariants as source
@@ -42,9 +45,7 @@ use Rattle.kmn_parser.specs.ProgramLaws.{IsCharacter, IsReadItem}
 use Rattle.kmn_names.specs.Known.{known}
 use Rattle.item_checker.specs.Items.{is_no_character, is_pattern_item, context_item_code, context_code, key_code, rule_output_code, rule_code}
 use Rattle.rule_checker.specs.Refused.{IsRead}
-use Rattle.kmn_names.specs.First.{or_else, first_code}
-use Rattle.rule_checker.proofs.Unrefused.{none_both}
-use Rattle.rule_checker.proofs.Lists.{All-append_parts}
+use Rattle.kmn_names.specs.First.{first_code}
 use Rattle.rule_checker.proofs.Accepted.{IsUnrefused}
 use Rattle.rule_checker.proofs.Numbers.{has_keys, has_marks}
 use Rattle.rule_checker.proofs.Elements.{IsSoundElement, found_sound, stated_sound}
@@ -114,7 +115,7 @@ module _ (numbers : Numbers) where
   nul-count before [] stands code = refl
   nul-count before (item ∷ items) stands code =
       let s = and_parts (stands_in_context item) (list_all stands_in_context items) stands in
-      let c = none_both (context_item_code before item) (context_code (before ++ item ∷ []) items) code in
+      let c = option_or-none (context_item_code before item) (context_code (before ++ item ∷ []) items) code in
       let rest = nul-count (before ++ item ∷ []) items s.1 c.1 in
       (λ i. length (if nul-same before item s.0 c.0 i then file_pattern numbers item ∷ filter is_nul (map (file_pattern numbers) items) else filter is_nul (map (file_pattern numbers) items)))
       ∙ longer (is_nul_item item) (file_pattern numbers item) item (filter is_nul (map (file_pattern numbers) items)) (filter is_nul_item items) rest
@@ -318,7 +319,7 @@ module _ (program : Program) (read : IsRead program) (whole : IsUnrefused progra
   -- a plain rule's context has no item that is refused
   plain-context : (rule : RuleDef) (kind : RuleKind) → is_plain_kind kind ≡ true → rule_code (known program) kind rule ≡ None → context_code [] rule.context ≡ None
   plain-context rule Plain is code =
-      (none_both (context_code [] rule.context) (or_else (key_code (known program) rule.key) (first_code (rule_output_code (known program) rule) rule.output)) code).0
+      (option_or-none (context_code [] rule.context) (option_or (key_code (known program) rule.key) (first_code (rule_output_code (known program) rule) rule.output)) code).0
   plain-context rule OnMatch is code = absurd (cc)
   plain-context rule OnNoMatch is code = absurd (cc)
 

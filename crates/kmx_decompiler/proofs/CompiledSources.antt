@@ -1,8 +1,8 @@
 -- Nothing stands against the text of a file that a source compiles to but its size.
 use Rattle.std.specs.Prelude.{option_map}
+use Rattle.std.specs.Option.{option_or}
 use Rattle.kmx_format.specs.File.{file_of}
 use Rattle.kmx_format.specs.TablesOf.{tables_of}
-use Rattle.kmn_names.specs.First.{or_else}
 use Rattle.rule_checker.proofs.Written.{tables_written}
 use Rattle.rule_checker.proofs.Sources.{source_read, accepted_parts}
 use Rattle.decompile_program.specs.Back.{back}
@@ -27,4 +27,4 @@ compiled_lacks_no_text source program tables picture e compiles small =
     let can = tables_written program tables (source_read source program parts.0) parts.1 compiles in
     let order = compiled_is_in_order program tables picture compiles can small in
     let causes = compiled_has_no_causes source program tables picture e compiles small in
-    λ i. or_else (order i) (or_else (option_map Unspelled (least (causes i))) (excess (back (tables_of (file_of tables picture)))))
+    λ i. option_or (order i) (option_or (option_map Unspelled (least (causes i))) (excess (back (tables_of (file_of tables picture)))))

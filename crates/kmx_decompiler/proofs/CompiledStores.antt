@@ -8,6 +8,7 @@ use Rattle.std.proofs.lemmas.List.Folds.{list_any-append}
 use Rattle.std.proofs.lemmas.Option.{none-some, same_Some}
 use Rattle.kmn_base.specs.declared.items.Element.{Element}
 use Rattle.kmn_base.specs.Names.{same_name}
+use Rattle.kmn_base.proofs.Elements.{slice_get-append_left}
 use Rattle.rule_model.specs.declared.program.Program.{Program}
 use Rattle.rule_model.specs.declared.tables.Store.{Store}
 use Rattle.rule_model.specs.declared.tables.Tables.{Tables}
@@ -15,7 +16,7 @@ use Rattle.rule_model.specs.Naming.{names_of, stores_of}
 use Rattle.rule_model.specs.Tab.{is_dictionary}
 use Rattle.kmx_format.specs.Numbers.{values_of, value_store, dictionary_stores, compiled_stores, numbers_of, number_of_store}
 use Rattle.kmx_format.specs.WellNamed.{is_store}
-use Rattle.kmx_format.proofs.PlacedItems.{FirstPlace, first_place, at_place, slice_get-append_left}
+use Rattle.kmx_format.proofs.PlacedItems.{FirstPlace, first_place, at_place}
 use Rattle.kmn_names.specs.Known.{known}
 use Rattle.rule_checker.specs.Refused.{IsRead}
 use Rattle.rule_checker.proofs.Accepted.{IsUnrefused}

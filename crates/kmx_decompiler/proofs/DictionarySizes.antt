@@ -24,8 +24,8 @@ use Rattle.kmx_format.specs.Numbers.{dictionary_stores}
 use Rattle.rule_checker.proofs.Sizes.{joined_size}
 use Rattle.kmn_parser.proofs.Values.{all-scalars}
 use Rattle.decompile_program.proofs.WrittenCharacters.{characters-few}
+use Rattle.decompile_program.proofs.FewNames.{HasFewElements}
 use Rattle.kmx_decompiler.proofs.SpelledItems.{value-characters}
-use Rattle.kmx_decompiler.proofs.ShortTexts.{IsShortStore}
 
 -- the characters of texts, and one for each text
 abbrev pub total : List (List ℕ) → ℕ
@@ -126,7 +126,7 @@ dictionary-total tables can =
 
 -- so they are few, and joined again they are no longer than a store may be
 pub names-fit : (names : List (List ℕ)) → All IsOwnKey names → total names ≤ suc STORE_ELEMENTS
-    → (length names ≤ STORE_ELEMENTS) × AllByRecursion IsShortStore (dictionary_stores names)
+    → (length names ≤ STORE_ELEMENTS) × AllByRecursion HasFewElements (dictionary_stores names)
 names-fit [] own few = ((omega arith), tt)
 names-fit (name ∷ names) own few =
     let size = names-total (name ∷ names) own in

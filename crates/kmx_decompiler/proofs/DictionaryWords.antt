@@ -7,7 +7,7 @@ use Rattle.std.specs.Str.{is_utf8}
 use Rattle.std.proofs.lemmas.Str.{is_utf8-from_IsUtf8, IsUtf8-from_is_utf8}
 use Rattle.kmn_base.specs.Names.{same_name}
 use Rattle.kmn_names.specs.Names.{is_named}
-use Rattle.rule_model.proofs.NamePlaces.{some_place, same_either_way}
+use Rattle.rule_model.proofs.NamePlaces.{some_place, any_name}
 use Rattle.kmx_decompiler.specs.Causes.{is_dictionary_name, are_repeated}
 use Rattle.kmx_decompiler.specs.Words.{are_unfit, not_empty}
 
@@ -22,14 +22,10 @@ other_test false other = refl
 pub is_no_text : (bytes : List ℕ) → ¬ (IsUtf8 bytes) → is_utf8 bytes ≡ false
 is_no_text bytes other = other_test (is_utf8 bytes) (λ e. other (IsUtf8-from_is_utf8 bytes e))
 
-either_way : (name : List ℕ) (names : List (List ℕ)) → list_any (same_name name) names ≡ list_any (λ known. same_name known name) names
-either_way name [] = refl
-either_way name (known ∷ names) = λ j. same_either_way name known j || either_way name names j
-
 -- a table has a name where one of its names is the same
 pub named_is : (names : List (List ℕ)) (name : List ℕ) → is_named names name ≡ list_any (λ known. same_name known name) names
 unfolding is_named
-named_is names name = some_place (same_name name) names ∙ either_way name names
+named_is names name = some_place (same_name name) names ∙ any_name name names
 
 either_unfit : (fits : Bool) (known rest all repeated : Bool) → rest ≡ (not all || repeated)
     → (not fits || (known || rest)) ≡ (not (fits && all) || (known || repeated))

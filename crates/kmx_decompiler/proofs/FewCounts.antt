@@ -11,6 +11,7 @@ use Rattle.std.proofs.lemmas.List.Sums.{sum_by-cons, sum_by-append}
 use Rattle.std.proofs.lemmas.Map.Keys.{IsDistinct-head, IsDistinct-tail, IsDistinct-cons, IsDistinct-from_apart}
 use Rattle.std.proofs.lemmas.Map.Made.{length-le_from_is_member}
 use Rattle.std.proofs.lemmas.Slice.Eq.{bytes_eq-Decides}
+use Rattle.std.proofs.lemmas.Bool.{or_parts}
 use Rattle.kmn_base.specs.declared.limits.TheConstants.{STORE_ELEMENTS}
 use Rattle.kmn_base.proofs.StandingItems.{listed}
 use Rattle.rule_model.specs.declared.tables.Store.{Store}
@@ -123,17 +124,13 @@ few_characters tables can = let few = spaced-few tables can in omega (arith, few
 
 -- ---- values
 
-neither : (a b : Bool) → (a || b) ≡ false → (a ≡ false) × (b ≡ false)
-neither true b e = absurd (cc)
-neither false b e = (refl, e)
-
 none-distinct : IsDistinct bytes_eq []
 none-distinct = IsDistinct-from_apart bytes_eq [] (λ i j d h k. absurd (omega (arith, k)))
 
 distinct-more : (seen : List (List ℕ)) (x : List ℕ) → list_any (λ y. bytes_eq y x) seen ≡ false → IsDistinct bytes_eq seen → IsDistinct bytes_eq (seen ++ x ∷ [])
 distinct-more [] x fresh h = IsDistinct-cons bytes_eq x [] tt none-distinct
 distinct-more (y ∷ seen) x fresh h =
-    let parts = neither (bytes_eq y x) (list_any (λ z. bytes_eq z x) seen) fresh in
+    let parts = or_parts (bytes_eq y x) (list_any (λ z. bytes_eq z x) seen) fresh in
     IsDistinct-cons bytes_eq y (seen ++ x ∷ []) (all_join (λ z. bytes_eq y z ≡ false) seen (x ∷ []) (IsDistinct-head bytes_eq y seen h) (parts.0, tt))
     (distinct-more seen x parts.1 (IsDistinct-tail bytes_eq y seen h))
 

@@ -8,6 +8,7 @@ use Rattle.std.proofs.lemmas.List.Folds.{list_any-append}
 use Rattle.kmn_base.specs.declared.codes.Code.TheVariants.{C05, C06, C15}
 use Rattle.kmn_base.specs.declared.keys.RuleKey.{RuleKey}
 use Rattle.kmn_base.specs.declared.keys.RuleKey.TheVariants as key
+use Rattle.kmn_base.proofs.Options.{option_or-none}
 use Rattle.rule_model.specs.declared.program.SrcItem.{SrcItem}
 use Rattle.rule_model.specs.declared.program.RuleDef.{RuleDef}
 use Rattle.rule_model.specs.declared.program.RuleKind.TheVariants.{OnMatch, OnNoMatch}
@@ -24,7 +25,6 @@ use Rattle.rule_model.specs.Src.{is_on_match, is_on_nomatch}
 use Rattle.kmn_names.specs.declared.stating.Stated.{Stated}
 use Rattle.kmn_names.specs.First.{broken, first_code, first_of}
 use Rattle.kmn_names.specs.Names.{is_named, names_no_store, names_no_group, is_second, is_again, rule_item_code, rule_code, rule_refusal, rules_refusal}
-use Rattle.rule_checker.proofs.Unrefused.{none_both}
 use Rattle.decompile_program.specs.Items.{Names, store_called, group_called, back_pattern, back_output, back_key, some_items}
 use Rattle.decompile_program.specs.Back.{back_rule, back_rules, back_statement, match_line, nomatch_line, back_group, back_groups}
 use Rattle.decompile_program.proofs.Good.{IsNamed, GoodPattern, GoodOutput, GoodRule, GoodGroup}
@@ -58,7 +58,7 @@ module _ (stated : Stated) where
   codes-append : (xs ys : List SrcItem) → first_code (rule_item_code stated) xs ≡ None → first_code (rule_item_code stated) ys ≡ None → first_code (rule_item_code stated) (xs ++ ys) ≡ None
   codes-append [] ys h k = k
   codes-append (x ∷ xs) ys h k =
-      let both = none_both (rule_item_code stated x) (first_code (rule_item_code stated) xs) h in
+      let both = option_or-none (rule_item_code stated x) (first_code (rule_item_code stated) xs) h in
       no-else (rule_item_code stated x) (first_code (rule_item_code stated) (xs ++ ys)) both.0 (codes-append xs ys both.1 k)
 
   module _ (tables : Tables) (names : Names)

@@ -1,7 +1,8 @@
 -- Which stores have an option number.
-use Rattle.std.proofs.Common.{◌≡◌, ℕ, zero, suc, ◌+◌, ◌<◌, Bool, true, false, List, [], ◌∷◌, ◌++◌, length, Some, None, refl, ap, ◌∙◌, arith}
-use Rattle.std.specs.Prelude.{nat_eq, slice_get, is_some, if◌then◌else◌}
+use Rattle.std.proofs.Common.{◌≡◌, ℕ, zero, suc, ◌+◌, ◌<◌, List, [], ◌∷◌, ◌++◌, length, ap, ◌∙◌, arith}
+use Rattle.std.specs.Prelude.{nat_eq, slice_get, is_some}
 use Rattle.std.specs.List.{list_any}
+use Rattle.kmn_base.proofs.Options.{is_some-if}
 use Rattle.rule_model.specs.declared.tables.Store.{Store}
 use Rattle.rule_model.specs.declared.tables.Tables.{Tables}
 use Rattle.rule_model.specs.Keyboard.{Numbered, StoreMeaning}
@@ -9,16 +10,12 @@ use Rattle.rule_model.specs.Content.{option_of, option_number, options_before}
 use Rattle.rule_model.specs.System.{system_options}
 use Rattle.rule_model.specs.Tab.{with_options, tab_options}
 
-flagged : (flag : Bool) (option : ℕ) → is_some (if flag then Some option else None) ≡ flag
-flagged true option = refl
-flagged false option = refl
-
 -- a store has one where its number is listed, whatever stands behind the stores
 numbered : (options : List ℕ) (option k n : ℕ) (stores : List Store) (others : List StoreMeaning) → n < length stores
     → is_some (option_of option (slice_get (with_options options k stores ++ others) n)) ≡ list_any (nat_eq (k + n)) options
 numbered options option k n [] others within = absurd (omega arith)
 numbered options option k zero (store ∷ stores) others within =
-    let here : k ≡ k + 0 = omega arith in flagged (list_any (nat_eq k) options) option ∙ ap (λ m. list_any (nat_eq m) options) here
+    let here : k ≡ k + 0 = omega arith in is_some-if (list_any (nat_eq k) options) option ∙ ap (λ m. list_any (nat_eq m) options) here
 numbered options option k (suc n) (store ∷ stores) others within =
     let here : k + 1 + n ≡ k + suc n = omega arith in
     let less : n < length stores = omega arith in

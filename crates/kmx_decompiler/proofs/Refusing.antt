@@ -2,13 +2,13 @@
 use Rattle.std.proofs.Common.{◌≡◌, ℕ, ◌<◌, ◌≤◌, ◌^◌, true, false, List, [], ◌∷◌, length, length-append, Option, Some, None, ap, sym, subst, ◌∙◌, arith}
 use Rattle.std.specs.Prelude.{All, flat_map, nat_lt, if◌then◌else◌, option_map}
 use Rattle.std.specs.Str.{IsUtf8}
+use Rattle.std.specs.Option.{option_or}
 use Rattle.std.proofs.lemmas.List.Elements.{All-nil, All-cons, All-weaker}
 use Rattle.kmn_base.specs.declared.limits.TheConstants.{KEY_NAMES, RECORDS, TEXT_BYTES}
 use Rattle.rule_model.specs.declared.program.Program.{Program}
 use Rattle.rule_model.specs.declared.tables.Group.{Group}
 use Rattle.rule_model.specs.declared.tables.Tables.{Tables}
 use Rattle.rule_model.specs.Tab.{tab_dictionary}
-use Rattle.kmn_names.specs.First.{or_else}
 use Rattle.kmx_format.specs.File.{rules_of}
 use Rattle.kmx_format.specs.Playable.{IsPlayable, IsPlayableStore}
 use Rattle.kmx_format.specs.TablesOf.{tables_of}
@@ -57,21 +57,21 @@ text_within program size is within =
 pub unspelled_order : (bytes : List ℕ) (why : NoSpelling) → disorder 0 (tables_of bytes).groups ≡ Some why → unspelled bytes ≡ Some why
 unfolding unspelled
 unspelled_order bytes why e =
-    ap (λ first. or_else first (or_else (option_map Unspelled (least (cause_places bytes))) (excess (back (tables_of bytes))))) e
+    ap (λ first. option_or first (option_or (option_map Unspelled (least (cause_places bytes))) (excess (back (tables_of bytes))))) e
 
 pub unspelled_cause : (bytes : List ℕ) (tables : Tables) (at : ℕ) (place : Option ℕ)
     → tables ≡ tables_of bytes → disorder 0 tables.groups ≡ None → place ≡ least (cause_places bytes) → place ≡ Some at → unspelled bytes ≡ Some (Unspelled at)
 unfolding unspelled
 unspelled_cause bytes tables at place of_bytes order is found =
     let in_order : disorder 0 (tables_of bytes).groups ≡ None = sym (ap (λ (t : Tables). disorder 0 t.groups) of_bytes) ∙ order in
-    ap (λ first. or_else first (or_else (option_map Unspelled (least (cause_places bytes))) (excess (back (tables_of bytes))))) in_order
-    ∙ ap (λ p. or_else (option_map Unspelled p) (excess (back (tables_of bytes)))) (sym is ∙ found)
+    ap (λ first. option_or first (option_or (option_map Unspelled (least (cause_places bytes))) (excess (back (tables_of bytes))))) in_order
+    ∙ ap (λ p. option_or (option_map Unspelled p) (excess (back (tables_of bytes)))) (sym is ∙ found)
 
 pub unspelled_excess : (bytes : List ℕ) → disorder 0 (tables_of bytes).groups ≡ None → least (cause_places bytes) ≡ None → unspelled bytes ≡ excess (back (tables_of bytes))
 unfolding unspelled
 unspelled_excess bytes order e =
-    ap (λ first. or_else first (or_else (option_map Unspelled (least (cause_places bytes))) (excess (back (tables_of bytes))))) order
-    ∙ ap (λ place. or_else (option_map Unspelled place) (excess (back (tables_of bytes)))) e
+    ap (λ first. option_or first (option_or (option_map Unspelled (least (cause_places bytes))) (excess (back (tables_of bytes))))) order
+    ∙ ap (λ place. option_or (option_map Unspelled place) (excess (back (tables_of bytes)))) e
 
 -- where no part up to the causes tells why, the tables can be written out, and their keys have names in UTF-8
 pub written : (bytes : List ℕ) (tables : Tables) (place : Option ℕ)

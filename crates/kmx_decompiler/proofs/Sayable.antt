@@ -2,11 +2,14 @@
 use Rattle.std.proofs.Common.{◌≡◌, ℕ, zero, suc, ◌+◌, ◌≤◌, Bool, true, false, List, [], ◌∷◌, ◌++◌, length, Option, None, Some, refl, sym, subst, arith, if◌then◌else◌}
 use Rattle.std.specs.Prelude.{All, nat_lt, nat_le, option_map, slice_get}
 use Rattle.std.specs.List.{list_any, AllByRecursion}
+use Rattle.std.specs.Option.{option_or}
 use Rattle.std.proofs.lemmas.Bool.{and_from, ltb-false}
 use Rattle.std.proofs.lemmas.Bool.Decides.{nat_tests}
 use Rattle.std.proofs.lemmas.List.Elements.{All-nil, All-cons}
 use Rattle.std.proofs.lemmas.Option.{none-some, same_Some}
 use Rattle.kmn_base.specs.declared.limits.TheConstants.{TEXT_BYTES, STORES, ALL_ELEMENTS}
+use Rattle.kmn_base.proofs.Options.{option_or-none}
+use Rattle.kmn_base.proofs.Elements.{append_empty}
 use Rattle.rule_model.specs.declared.program.Program.{Program}
 use Rattle.rule_model.specs.declared.tables.Rule.{Rule}
 use Rattle.rule_model.specs.declared.tables.Store.{Store}
@@ -16,8 +19,6 @@ use Rattle.rule_model.specs.Tab.{tab_options}
 use Rattle.kmx_format.specs.declared.sizes.TheConstants.{STORE_BYTES, GROUP_BYTES, RULE_BYTES}
 use Rattle.kmx_format.specs.TablesOf.{word_at, tables_of}
 use Rattle.kmn_parser.proofs.ReadStatements.{mapped-none}
-use Rattle.kmn_names.specs.First.{or_else}
-use Rattle.rule_checker.proofs.Unrefused.{none_both}
 use Rattle.decompile_program.specs.Items.{Names}
 use Rattle.decompile_program.specs.Back.{names_for, back}
 use Rattle.decompile_program.specs.WrittenOut.{fall_from, has_falling_contexts}
@@ -31,10 +32,6 @@ use Rattle.kmx_decompiler.specs.Unspelled.{longer_behind, first_longer, disorder
 none-least : (places : List ℕ) → least places ≡ None → places ≡ []
 none-least [] h = refl
 none-least (p ∷ places) h = absurd (cc)
-
-nil-parts : (xs ys : List ℕ) → xs ++ ys ≡ [] → (xs ≡ []) × (ys ≡ [])
-nil-parts [] ys h = (refl, h)
-nil-parts (x ∷ xs) ys h = absurd (cc)
 
 no-cause : (place : ℕ) (cause : Bool) → at_cause place cause ≡ [] → cause ≡ false
 no-cause place true h = absurd (cc)
@@ -65,7 +62,7 @@ group-falls (rule ∷ rules) h = falls 1 (length rule.context) rules h
 all-fall : (g : ℕ) (groups : List Group) → disorder g groups ≡ None → All Falls groups
 all-fall g [] h = All-nil Falls
 all-fall g (group ∷ groups) h =
-    let parts = none_both (option_map (λ (rule : ℕ). Order g rule) (first_longer group.rules)) (disorder (g + 1) groups) h in
+    let parts = option_or-none (option_map (λ (rule : ℕ). Order g rule) (first_longer group.rules)) (disorder (g + 1) groups) h in
     All-cons Falls group groups (group-falls group.rules (mapped-none (λ (rule : ℕ). Order g rule) (first_longer group.rules) parts.0)) (all-fall (g + 1) groups parts.1)
 
 -- no cause holds of a record, of a group, of the stores from a number on
@@ -89,9 +86,9 @@ sayable-rules names place (rule ∷ rules) h =
     let rest : List ℕ = rule_causes names (place + RULE_BYTES) rules in
     let context : List ℕ = at_cause (place + 16) (is_unspelled_context names rule.context) in
     let output : List ℕ = at_cause (place + 12) (list_any (is_unspelled_output names) rule.output) in
-    let one = nil-parts (at_cause place (is_unspelled_key names rule.key)) (output ++ (context ++ rest)) h in
-    let two = nil-parts output (context ++ rest) one.1 in
-    let three = nil-parts context rest two.1 in (
+    let one = append_empty (at_cause place (is_unspelled_key names rule.key)) (output ++ (context ++ rest)) h in
+    let two = append_empty output (context ++ rest) one.1 in
+    let three = append_empty context rest two.1 in (
       record {
         key = no-cause place (is_unspelled_key names rule.key) one.0;
         output = no-cause (place + 12) (list_any (is_unspelled_output names) rule.output) two.0;
@@ -106,9 +103,9 @@ sayable-groups bytes names place (group ∷ groups) h =
     let rest : List ℕ = group_causes bytes names (place + GROUP_BYTES) groups in
     let rules : List ℕ = rule_causes names (word_at bytes (place + 4)) group.rules in
     let unmatched : List ℕ = at_cause (place + 12) (list_any (is_unspelled_output names) group.on_nomatch) in
-    let one = nil-parts (at_cause (place + 8) (list_any (is_unspelled_output names) group.on_match)) (unmatched ++ (rules ++ rest)) h in
-    let two = nil-parts unmatched (rules ++ rest) one.1 in
-    let three = nil-parts rules rest two.1 in (
+    let one = append_empty (at_cause (place + 8) (list_any (is_unspelled_output names) group.on_match)) (unmatched ++ (rules ++ rest)) h in
+    let two = append_empty unmatched (rules ++ rest) one.1 in
+    let three = append_empty rules rest two.1 in (
       record {
         on_match = no-cause (place + 8) (list_any (is_unspelled_output names) group.on_match) one.0;
         on_nomatch = no-cause (place + 12) (list_any (is_unspelled_output names) group.on_nomatch) two.0;
@@ -120,7 +117,7 @@ sayable-groups bytes names place (group ∷ groups) h =
 sayable-stores : (names : Names) (options : List ℕ) (place n : ℕ) (stores : List Store) → store_causes names options place n stores ≡ [] → AreSayable names options n stores
 sayable-stores names options place n [] h = tt
 sayable-stores names options place n (store ∷ stores) h =
-    let parts = nil-parts (at_cause (place + 8) (is_unspelled_store names options n store)) (store_causes names options (place + STORE_BYTES) (n + 1) stores) h in
+    let parts = append_empty (at_cause (place + 8) (is_unspelled_store names options n store)) (store_causes names options (place + STORE_BYTES) (n + 1) stores) h in
     (no-cause (place + 8) (is_unspelled_store names options n store) parts.0, sayable-stores names options (place + STORE_BYTES) (n + 1) stores parts.1)
 
 -- what holds of the store of a number
@@ -164,7 +161,7 @@ no_cause_holds bytes order places =
     let tables : Tables = tables_of bytes in
     let of_stores : List ℕ = store_causes (names_for tables) (tab_options tables) (word_at bytes 32) 0 tables.stores in
     let of_groups : List ℕ = group_causes bytes (names_for tables) (word_at bytes 36) tables.groups in
-    let parts = nil-parts of_stores of_groups (none-least (cause_places bytes) places) in
+    let parts = append_empty of_stores of_groups (none-least (cause_places bytes) places) in
     record {
       order = all-fall 0 tables.groups order;
       stores = sayable-stores (names_for tables) (tab_options tables) (word_at bytes 32) 0 tables.stores parts.0;
@@ -185,7 +182,7 @@ pub sayable : (bytes : List ℕ) → unspelled bytes ≡ None → IsSayable (tab
 unfolding unspelled
 sayable bytes h =
     let tables : Tables = tables_of bytes in
-    let one = none_both (disorder 0 tables.groups) (or_else (option_map Unspelled (least (cause_places bytes))) (excess (back tables))) h in
-    let two = none_both (option_map Unspelled (least (cause_places bytes))) (excess (back tables)) one.1 in
+    let one = option_or-none (disorder 0 tables.groups) (option_or (option_map Unspelled (least (cause_places bytes))) (excess (back tables))) h in
+    let two = option_or-none (option_map Unspelled (least (cause_places bytes))) (excess (back tables)) one.1 in
     let none = no_cause_holds bytes one.0 (mapped-none Unspelled (least (cause_places bytes)) two.0) in
     record { order = none.order; stores = none.stores; groups = none.groups; small = small (back tables) two.1 }

@@ -19,25 +19,23 @@ use Rattle.decompile_program.specs.Back.{back_stores, numbered, mark_stores, fro
 use Rattle.decompile_program.specs.WrittenOut.{CanBeWrittenOut}
 use Rattle.decompile_program.proofs.Linking.{stores-mapped}
 use Rattle.decompile_program.proofs.Choosing.{all_join}
+use Rattle.decompile_program.proofs.FewNames.{HasFewElements}
 use Rattle.kmx_decompiler.proofs.Sayable.{IsSayable}
 use Rattle.kmx_decompiler.proofs.SpelledPrograms.{greatest_near}
 use Rattle.kmx_decompiler.proofs.CountedSizes.{AreShortStores, simple}
 use Rattle.kmx_decompiler.proofs.ShortStores.{IsShortStatement, version_short, front_short, back_short}
 use Rattle.kmx_decompiler.proofs.ShortValues.{IsShortValue, values_short}
 
-abbrev pub IsShortStore : Store → Type 0
-IsShortStore store = length store.elements ≤ STORE_ELEMENTS
-
-all-short : (stores : List Store) → AllByRecursion IsShortStore stores → list_any (nat_lt STORE_ELEMENTS) (map element_count stores) ≡ false
+all-short : (stores : List Store) → AllByRecursion HasFewElements stores → list_any (nat_lt STORE_ELEMENTS) (map element_count stores) ≡ false
 all-short [] h = refl
 all-short (s ∷ stores) h =
     or_from (nat_lt STORE_ELEMENTS (length s.elements)) (list_any (nat_lt STORE_ELEMENTS) (map element_count stores)) (le-ltb STORE_ELEMENTS (length s.elements) h.0) (all-short stores h.1)
 
-statements-short : (names : SourceNames) (stores : List StoreDef) → AllByRecursion (IsShortStatement names) stores → AllByRecursion IsShortStore (map (store_of names []) stores)
+statements-short : (names : SourceNames) (stores : List StoreDef) → AllByRecursion (IsShortStatement names) stores → AllByRecursion HasFewElements (map (store_of names []) stores)
 statements-short names [] h = tt
 statements-short names (s ∷ stores) h = (h.0, statements-short names stores h.1)
 
-value-stores : (values : List (List ℕ)) → AllByRecursion IsShortValue values → AllByRecursion IsShortStore (map value_store values)
+value-stores : (values : List (List ℕ)) → AllByRecursion IsShortValue values → AllByRecursion HasFewElements (map value_store values)
 value-stores [] h = tt
 value-stores (value ∷ values) h = ((let few = h.0 in let l = length-map value element.Char in omega (arith, few, l)), value-stores values h.1)
 
@@ -45,10 +43,10 @@ module _ (tables : Tables) (can : IsPlayable tables) (out : CanBeWrittenOut tabl
   abbrev names : SourceNames
   names = names_of (back tables)
 
-  own-short : AllByRecursion IsShortStore (stores_of (back tables))
+  own-short : AllByRecursion HasFewElements (stores_of (back tables))
   unfolding stores_of back
   own-short =
-      subst (AllByRecursion IsShortStore) (sym (stores-mapped names [] (written_stores tables) (simple tables can out)))
+      subst (AllByRecursion HasFewElements) (sym (stores-mapped names [] (written_stores tables) (simple tables can out)))
       (statements-short names (written_stores tables)
       (all_join (IsShortStatement names) (numbered 1 (front_stores tables)) (back_stores (names_for tables) (1 + length (front_stores tables)) (names_for tables).stores tables.stores) (
         version_short names tables.version can.version,
@@ -57,8 +55,8 @@ module _ (tables : Tables) (can : IsPlayable tables) (out : CanBeWrittenOut tabl
       )
       (back_short names (names_for tables) (1 + length (front_stores tables)) (names_for tables).stores tables.stores can.stores)))
 
-  pub stores_short : AllByRecursion IsShortStore (dictionary_stores names.keys) → AreShortStores tables can out
+  pub stores_short : AllByRecursion HasFewElements (dictionary_stores names.keys) → AreShortStores tables can out
   stores_short keys =
       all-short (compiled_stores (back tables))
-      (all_join IsShortStore (stores_of (back tables)) (dictionary_stores names.keys ++ map value_store (values_of (back tables))) own-short
-      (all_join IsShortStore (dictionary_stores names.keys) (map value_store (values_of (back tables))) keys (value-stores (values_of (back tables)) (values_short tables can))))
+      (all_join HasFewElements (stores_of (back tables)) (dictionary_stores names.keys ++ map value_store (values_of (back tables))) own-short
+      (all_join HasFewElements (dictionary_stores names.keys) (map value_store (values_of (back tables))) keys (value-stores (values_of (back tables)) (values_short tables can))))

@@ -9,6 +9,7 @@ use Rattle.std.proofs.lemmas.List.Elements.{All-nil, All-cons, All-head, All-tai
 use Rattle.std.proofs.lemmas.List.Folds.{list_any-append}
 use Rattle.kmn_base.specs.declared.codes.Code.TheVariants.{C03, C12, C13, C14, C25}
 use Rattle.kmn_base.specs.declared.items.Element.{Element}
+use Rattle.kmn_base.proofs.Options.{option_or-none}
 use Rattle.rule_model.specs.declared.program.SrcItem.{SrcItem}
 use Rattle.rule_model.specs.declared.program.StoreDef.{StoreDef}
 use Rattle.rule_model.specs.declared.program.Program.{Program}
@@ -22,7 +23,7 @@ use Rattle.kmn_names.specs.Names.{store_refusal as name_refusal, store_item_code
 use Rattle.kmn_names.specs.Known.{Known, known, brought, statement_elements}
 use Rattle.item_checker.specs.Items.{is_no_character, is_left_out, is_layout_text, is_system_text, is_other_text, puts_option, wants_characters, wants_plain_keys, brings_no_character, brings_no_plain_key, store_item_code, store_head_code, store_code, store_refusal}
 use Rattle.rule_checker.specs.Refused.{IsRead}
-use Rattle.rule_checker.proofs.Unrefused.{none_both, none_earlier, none_at_line, none_broken, Stands, none_first}
+use Rattle.rule_checker.proofs.Unrefused.{none_earlier, none_at_line, none_broken, Stands, none_first}
 use Rattle.rule_checker.proofs.Accepted.{IsUnrefused}
 use Rattle.rule_checker.proofs.Sizes.{items_before, onto, names_next}
 use Rattle.kmx_decompiler.specs.Causes.{is_unspelled_system}
@@ -50,7 +51,7 @@ module _ (facts : Known) (names_stated : Stated) where
   stores-stated before defined [] names h all is ok codes done = done
   stores-stated before defined (store ∷ stores) names h all is ok codes done =
       let both = none_earlier (name_refusal names_stated defined store) (first_of (name_refusal names_stated) (defined ++ store ∷ []) stores) h in
-      let parts = none_both (broken ((C03, is_store_again (store_names defined) store) ∷ [])) (first_code (name_item_code names_stated (store_names defined)) store.items)
+      let parts = option_or-none (broken ((C03, is_store_again (store_names defined) store) ∷ [])) (first_code (name_item_code names_stated (store_names defined)) store.items)
       (none_at_line store.line (name_code names_stated (store_names defined) store) both.0) in
       let items = subst (λ (ns : List (List ℕ)). first_code (name_item_code names_stated ns) store.items ≡ None) (sym names) parts.1 in
       by (is_dropped store) refl items all
@@ -109,12 +110,12 @@ module _ (facts : Known) (s : Store) (stated : IsStatedStore facts s) where
   keys = wants_plain_keys def
 
   code_parts : (store_head_code facts def ≡ None) × (first_code (store_item_code facts wants keys) def.items ≡ None)
-  code_parts = none_both (store_head_code facts def) (first_code (store_item_code facts wants keys) def.items) stated.code
+  code_parts = option_or-none (store_head_code facts def) (first_code (store_item_code facts wants keys) def.items) stated.code
 
   items-alone : (items : List SrcItem) → wants ≡ true → first_code (store_item_code facts wants keys) items ≡ None → list_any is_no_character (flat_map (brought facts) items) ≡ false
   items-alone [] want h = refl
   items-alone (item ∷ items) want h =
-      let both = none_both (store_item_code facts wants keys item) (first_code (store_item_code facts wants keys) items) h in
+      let both = option_or-none (store_item_code facts wants keys item) (first_code (store_item_code facts wants keys) items) h in
       let one = none_broken C13 (puts_option facts item) ((C14, wants && brings_no_character facts item) ∷ (C25, keys && brings_no_plain_key facts item) ∷ []) both.0 in
       let two = none_broken C14 (wants && brings_no_character facts item) ((C25, keys && brings_no_plain_key facts item) ∷ []) one.1 in
       list_any-append is_no_character (brought facts item) (flat_map (brought facts) items)

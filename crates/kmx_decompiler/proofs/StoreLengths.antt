@@ -8,7 +8,7 @@ use Rattle.std.proofs.lemmas.Bool.Decides.{nat_tests}
 use Rattle.std.proofs.lemmas.List.{map-append, length-map}
 use Rattle.std.proofs.lemmas.List.Elements.{All-head, All-tail}
 use Rattle.std.proofs.lemmas.List.FromFn.{length-range_with_len}
-use Rattle.std.proofs.lemmas.Str.{chars-append, encode_ascii}
+use Rattle.std.proofs.lemmas.Str.{chars-append}
 use Rattle.kmn_base.specs.declared.items.Element.TheVariants as element
 use Rattle.kmn_parser.proofs.CleanTexts.{counted-characters}
 use Rattle.rule_model.specs.declared.program.SrcItem.TheVariants as source
@@ -22,6 +22,7 @@ use Rattle.rule_checker.proofs.Sizes.{space_chars}
 use Rattle.decompile_program.specs.Marks.{greatest_mark}
 use Rattle.decompile_program.specs.Items.{Names, back_element}
 use Rattle.kmx_format.specs.Versions.{version_text}
+use Rattle.kmx_format.proofs.Dictionary.{space_text}
 use Rattle.decompile_program.specs.Back.{back_stores, numbered, stated_marks, stated_key, mark_store, key_store, mark_stores, key_stores, front_stores, free_stores, names_for, written_stores}
 use Rattle.decompile_text.proofs.WholeTexts.{first_left, one_less}
 use Rattle.kmx_decompiler.specs.Counting.{some_length, called_lengths, spaced_size, joined_length}
@@ -101,10 +102,6 @@ module _ (names : SourceNames) where
       lengths-append (numbered 1 (front_stores tables)) (back_stores (names_for tables) (1 + length (front_stores tables)) calls tables.stores)
       ∙ (λ j. front_lengths tables j
       ++ (back-listed (names_for tables) (1 + length (front_stores tables)) calls tables.stores ∙ from_number calls 0 calls tables.stores refl) j)
-
--- the names of a dictionary, joined by spaces
-space_text : IsUtf8 (32 ∷ [])
-space_text = (32 ∷ [], (refl, ap (λ bs. bs ++ []) (encode_ascii 32 (omega arith))))
 
 joined-size : (name : List ℕ) (names : List (List ℕ)) → All IsUtf8 (name ∷ names) → length (chars (join_with_byte 32 (name ∷ names))) + 1 ≡ spaced_size (name ∷ names)
 joined-size name [] utf8 = let here = counted-characters name (All-head IsUtf8 name [] utf8) in omega (arith, here)

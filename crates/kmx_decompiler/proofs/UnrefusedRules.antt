@@ -3,6 +3,7 @@
 use Rattle.std.proofs.Common.{◌≡◌, ℕ, zero, suc, ◌+◌, ◌^◌, ◌<◌, ◌≤◌, Bool, true, false, List, [], ◌∷◌, ◌++◌, length, take, drop, map, Option, None, Some, is_some, refl, sym, ◌∙◌, subst, arith, append-nil, append_assoc}
 use Rattle.std.specs.Prelude.{All, nat_eq, nat_lt, slice_get, slice_index_or, unwrap_or, IsSomeAnd}
 use Rattle.std.specs.List.{AllByRecursion}
+use Rattle.std.specs.Option.{option_or}
 use Rattle.std.proofs.lemmas.Bool.{ne_eqb, not_from_true, and_right, cond-false}
 use Rattle.std.proofs.lemmas.Bool.Decides.{nat_tests}
 use Rattle.std.proofs.lemmas.List.{length-map, map-append}
@@ -27,14 +28,14 @@ use Rattle.kmx_format.specs.Writable.{is_any, PointsTo, PointsBack, PointsInto, 
 use Rattle.rule_model.specs.Patterns.{is_matched}
 use Rattle.kmx_format.specs.TablesOf.{tables_of}
 use Rattle.kmx_format.specs.Playable.{IsPlayable, IsPlayableGroup}
-use Rattle.kmn_names.specs.First.{or_else, broken, first_code, at_line, earlier, first_of}
+use Rattle.kmn_names.specs.First.{broken, first_code, at_line, earlier, first_of}
 use Rattle.kmn_names.specs.Known.{Known, known}
 use Rattle.item_checker.specs.Items.{is_pattern_item, is_any_item, passes, points_to, is_key_place, misses_pattern, misses_any, is_far, index_code, context_at_code, context_item_code, context_code, key_code, key_index_code, rule_output_code, match_output_code, rule_code, rule_refusal, rules_refusal}
 use Rattle.decompile_program.specs.Items.{Names, store_called, back_pattern, back_output, back_key, some_items}
 use Rattle.decompile_program.specs.Back.{back_rule, back_rules, back_statement, match_line, nomatch_line, back_group, back_groups, names_for, written_stores, written_begins, back}
 
 -- refusals that there aren't
-pub no-else : {A : Type 0} (a b : Option A) → a ≡ None → b ≡ None → or_else a b ≡ None
+pub no-else : {A : Type 0} (a b : Option A) → a ≡ None → b ≡ None → option_or a b ≡ None
 no-else None b e f = f
 no-else (Some x) b e f = absurd (cc)
 

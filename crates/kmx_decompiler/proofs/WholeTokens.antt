@@ -2,12 +2,13 @@
 use Rattle.std.proofs.Common.{◌≡◌, ℕ, zero, suc, ◌+◌, ◌-◌, ◌<◌, Bool, true, false, not, ◌&&◌, if◌then◌else◌, List, [], ◌∷◌, length, take, drop, map, Option, None, refl, sym, ◌∙◌, ap, subst, arith, length-drop, length-append, inl, inr}
 use Rattle.std.specs.Prelude.{All}
 use Rattle.std.specs.List.{list_all}
+use Rattle.std.specs.Option.{option_or}
 use Rattle.std.proofs.lemmas.Bool.{cases_lt, cond_both}
 use Rattle.std.proofs.lemmas.List.{length-take, drop-take, drop-drop, take-take, take-append-le}
 use Rattle.std.proofs.lemmas.List.Elements.{All-cons, All-nil, All-append, All-head, All-tail, All-take, All-drop}
 use Rattle.kmn_base.specs.declared.codes.Code.{Code}
 use Rattle.kmn_base.specs.Bytes.{is_blank}
-use Rattle.kmn_lines.specs.Bytes.{or_else}
+use Rattle.kmn_base.proofs.Options.{option_or-none}
 use Rattle.kmn_lines.specs.declared.line_state.PhysicalLine.{PhysicalLine}
 use Rattle.kmn_lines.specs.declared.logical.Logical.{Logical}
 use Rattle.kmn_lines.specs.declared.logical.Part.{Part}
@@ -19,7 +20,7 @@ use Rattle.kmn_lines.specs.Tokens.{token_size, token_text, token_kind, token_at,
 use Rattle.kmn_lines.proofs.LineTexts.{parts_are_texts}
 use Rattle.kmn_lines.proofs.Numbered.{drop-next}
 use Rattle.kmn_items.specs.TokenTexts.{LineToken, text_of, with_text, with_texts}
-use Rattle.kmn_parser.proofs.SoundTokens.{IsSoundToken, HasTexts, HasSoundTokens, either-none, text-at, no-refusal, lines-sound}
+use Rattle.kmn_parser.proofs.SoundTokens.{IsSoundToken, HasTexts, HasSoundTokens, text-at, no-refusal, lines-sound}
 use Rattle.kmn_parser.specs.Names.{is_inner}
 use Rattle.kmx_decompiler.proofs.RetakenTokens.{token_alone}
 
@@ -123,10 +124,10 @@ scanned-whole source end line zero at (byte ∷ bytes) e inner none =
     let rest = All-tail IsInLine byte bytes inner in
     scanned-if source (is_blank byte) (scanned line zero (at + 1) bytes)
     (token_at line at (token_text text) ∷ scanned line (token_size text - 1) (at + 1) bytes)
-    (or_else (token_fault (token_text text)) (first_fault (token_size text - 1) bytes)) (first_fault zero bytes)
+    (option_or (token_fault (token_text text)) (first_fault (token_size text - 1) bytes)) (first_fault zero bytes)
     (λ f. scanned-whole source end line zero (at + 1) bytes next rest f)
     (λ f.
-    let parts = either-none (token_fault (token_text text)) (first_fault (token_size text - 1) bytes) f in
+    let parts = option_or-none (token_fault (token_text text)) (first_fault (token_size text - 1) bytes) f in
     All-cons (IsWholeIn source) (token_at line at (token_text text)) (scanned line (token_size text - 1) (at + 1) bytes)
     (token-whole source end line at text e (omega arith) inner parts.0)
     (scanned-whole source end line (token_size text - 1) (at + 1) bytes next rest parts.1))
@@ -135,7 +136,7 @@ scanned-whole source end line zero at (byte ∷ bytes) e inner none =
 parts-whole : (source : List ℕ) (ps : List Part) → All (IsInner source) ps → parts_fault source ps ≡ None → All (IsWholeIn source) (parts_tokens source ps)
 parts-whole source [] inner none = All-nil (IsWholeIn source)
 parts-whole source (p ∷ ps) inner none =
-    let both = either-none (first_fault 0 (part_text source p)) (parts_fault source ps) none in
+    let both = option_or-none (first_fault 0 (part_text source p)) (parts_fault source ps) none in
     All-append (IsWholeIn source) (scanned p.line 0 p.from (part_text source p)) (parts_tokens source ps)
     (scanned-whole source p.to p.line 0 p.from (part_text source p) refl (All-head (IsInner source) p ps inner) both.0)
     (parts-whole source ps (All-tail (IsInner source) p ps inner) both.1)
@@ -162,7 +163,7 @@ both-all f (t ∷ tokens) sound whole =
 lines-both : (source : List ℕ) (lines : List Logical) → All (HasSoundTokens source) lines → All (HasInnerParts source) lines → tokens_refusal source lines ≡ None → All (HasWholeTokens source) lines
 lines-both source [] sound inner none = All-nil (HasWholeTokens source)
 lines-both source (line ∷ lines) sound inner none =
-    let both = either-none (line_refusal source line) (tokens_refusal source lines) none in
+    let both = option_or-none (line_refusal source line) (tokens_refusal source lines) none in
     All-cons (HasWholeTokens source) line lines
     (both-all (with_text source) (line_tokens source line) (All-head (HasSoundTokens source) line lines sound) (line-whole source line (All-head (HasInnerParts source) line lines inner) both.0))
     (lines-both source lines (All-tail (HasSoundTokens source) line lines sound) (All-tail (HasInnerParts source) line lines inner) both.1)

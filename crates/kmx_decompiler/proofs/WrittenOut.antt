@@ -11,6 +11,7 @@ use Rattle.kmn_base.specs.declared.items.Element.{Element}
 use Rattle.kmn_base.specs.declared.items.Element.TheVariants as element
 use Rattle.kmn_base.specs.declared.keys.RuleKey.{RuleKey}
 use Rattle.kmn_base.specs.declared.keys.RuleKey.TheVariants as key
+use Rattle.kmn_base.proofs.Elements.{All-append_parts}
 use Rattle.rule_model.specs.declared.tables.Pat.{Pat}
 use Rattle.rule_model.specs.declared.tables.Pat.TheVariants as pattern
 use Rattle.rule_model.specs.declared.tables.Out.{Out}
@@ -24,7 +25,6 @@ use Rattle.item_checker.specs.Items.{is_no_character}
 use Rattle.kmx_format.specs.Writable.{stores_of_pattern, stores_of_output, IsWritableRule}
 use Rattle.kmx_format.specs.TablesOf.{tables_of}
 use Rattle.kmx_format.specs.Playable.{IsPlayable, IsPlayableGroup}
-use Rattle.rule_checker.proofs.Lists.{All-append_parts}
 use Rattle.decompile_program.specs.Items.{Names, store_called}
 use Rattle.decompile_program.specs.Names.{named_by_pattern, named_by_output, named_by_rule, named_by_group, named_stores}
 use Rattle.decompile_program.specs.Back.{names_for}

@@ -11,6 +11,8 @@ use Rattle.kmn_base.specs.declared.codes.Code.{Code}
 use Rattle.kmn_base.specs.declared.codes.Code.TheVariants as code
 use Rattle.kmn_base.specs.declared.refusals.Refusal.{Refusal}
 use Rattle.kmn_base.specs.Answers.{and_then}
+use Rattle.kmn_base.proofs.Options.{option_or-none}
+use Rattle.kmn_base.proofs.Elements.{All-append_parts}
 use Rattle.kmn_lines.specs.declared.logical.Logical.{Logical}
 use Rattle.kmn_lines.specs.Lines.{logicals}
 use Rattle.kmn_lines.specs.Tokens.{line_tokens, tokens_refusal}
@@ -37,12 +39,10 @@ use Rattle.kmn_parser.specs.declared.statement.Statement.TheVariants as statemen
 use Rattle.kmn_parser.specs.Line.{place_of, begins_word, is_none_left, checked, store_form, store_fault, store_def, read_store, begin_fault, read_begin, group_fault, read_group, match_fault, read_match, uses_keys, rule_head, rule_key, rule_body, earliest, read_rule, read_tokens, read_line}
 use Rattle.kmn_parser.specs.Source.{at_line, line_statement, group_after, with_rule, with_statement, no_program, read_lines, read_text, parsed}
 use Rattle.kmn_parser.specs.ProgramLaws.{IsName, IsReadStore, IsReadProgram}
-use Rattle.kmn_parser.proofs.SoundTokens.{either-none}
 use Rattle.kmn_parser.proofs.ReadItems.{text_at-drop}
 use Rattle.kmn_parser.proofs.ReadStatements.{first-none}
 use Rattle.kmn_parser.proofs.ReadPrograms.{programs_are_read}
 use Rattle.kmn_parser.specs.Spelled.{IsSpelledName, IsStoreName}
-use Rattle.rule_checker.proofs.Lists.{All-append_parts}
 use Rattle.kmx_decompiler.specs.Laws.{ReadWasWritten}
 use Rattle.kmx_decompiler.specs.Written.{IsWrittenItem, IsWrittenContext, IsWrittenRule, IsWrittenStore}
 use Rattle.kmx_decompiler.proofs.WholeTokens.{IsWholeToken, HasWholeTokens, lines_whole}
@@ -85,7 +85,7 @@ store-named line name items ok named = record {
 
 store-name : (last : ℕ) (tokens : List LineToken) → All IsWholeToken tokens → store_form last tokens ≡ None → is_system_name (text_at 2 tokens) ≡ false → IsStoreName (text_at 2 tokens)
 store-name last tokens ok whole ordinary =
-    let first = either-none (broken last 2 (slot.StoreName ∷ []) (drop 2 tokens)) _ whole in
+    let first = option_or-none (broken last 2 (slot.StoreName ∷ []) (drop 2 tokens)) _ whole in
     let same = text_at-drop 2 tokens in
     record {
       named = subst IsSpelledName same (store_at last 2 0 (slot.StoreName ∷ []) (drop 2 tokens) (All-drop IsWholeToken 2 tokens ok) first.0 refl (ap is_system_name same ∙ ordinary));

@@ -1,9 +1,9 @@
 -- Why a file has no text: the order of its records, else what has no spelling at the least place, else what is too large.
 use Rattle.std.specs.Prelude.{ℕ, ◌+◌, nat_lt, if◌then◌else◌, List, [], ◌∷◌, length, Option, Some, None, option_map}
+use Rattle.std.specs.Option.{option_or}
 use Rattle.rule_model.specs.declared.tables.Rule.{Rule}
 use Rattle.rule_model.specs.declared.tables.Group.{Group}
 use Rattle.kmx_format.specs.TablesOf.{tables_of}
-use Rattle.kmn_names.specs.First.{or_else}
 use Rattle.decompile_program.specs.Back.{back}
 use Rattle.kmx_decompiler.specs.declared.no_spelling.NoSpelling.{NoSpelling}
 use Rattle.kmx_decompiler.specs.declared.no_spelling.NoSpelling.TheVariants.{Order, Unspelled}
@@ -24,10 +24,10 @@ first_longer (rule ∷ rules) = longer_behind 1 (length rule.context) rules
 -- the first of all groups, which count from a number on
 abbrev pub disorder : ℕ → List Group → Option NoSpelling
 disorder g [] = None
-disorder g (group ∷ groups) = or_else (option_map (λ rule. Order g rule) (first_longer group.rules)) (disorder (g + 1) groups)
+disorder g (group ∷ groups) = option_or (option_map (λ rule. Order g rule) (first_longer group.rules)) (disorder (g + 1) groups)
 
 -- why a file has no text, or None where it has one
 unfoldable pub unspelled : List ℕ → Option NoSpelling
 unspelled bytes =
-    or_else (disorder 0 (tables_of bytes).groups)
-    (or_else (option_map Unspelled (least (cause_places bytes))) (excess (back (tables_of bytes))))
+    option_or (disorder 0 (tables_of bytes).groups)
+    (option_or (option_map Unspelled (least (cause_places bytes))) (excess (back (tables_of bytes))))

@@ -53,7 +53,7 @@ word_parts name h =
     let second = and_parts (not (list_any (nat_eq 32) name)) (is_utf8 name) first.1 in
     record { some = first.0; whole = passes_none (nat_eq 32) name (not-true _ second.0); text = IsUtf8-from_is_utf8 name second.1 }
 
-space_text : IsUtf8 (32 ∷ [])
+pub space_text : IsUtf8 (32 ∷ [])
 space_text = (32 ∷ [], (refl, ap (λ bs. bs ++ []) (encode_ascii 32 (omega arith))))
 
 -- joined words are text, and part again

@@ -1,6 +1,6 @@
 -- Programs and their tables played side by side by computation, and a program that meets what the law rests on.
-use Rattle.std.proofs.Common.{◌≡◌, ℕ, zero, suc, ◌<◌, true, List, [], ◌∷◌, ◌++◌, map, replicate, Option, Some, None, refl, sym, subst, arith, length, lit<, if◌then◌else◌}
-use Rattle.std.specs.Prelude.{codes, find, slice_index_or}
+use Rattle.std.proofs.Common.{◌≡◌, ℕ, zero, suc, ◌<◌, true, List, [], ◌∷◌, ◌++◌, map, replicate, Option, Some, None, refl, sym, subst, arith, length, lit<}
+use Rattle.std.specs.Prelude.{codes, slice_index_or}
 use Rattle.std.specs.Char.{encode_utf8}
 use Rattle.std.specs.Str.{chars, is_utf8}
 use Rattle.rule_model.specs.Keys.{us_characters}
@@ -29,38 +29,18 @@ use Rattle.rule_model.specs.declared.tables.Rule.{Rule}
 use Rattle.rule_model.specs.declared.tables.Group.{Group}
 use Rattle.rule_model.specs.declared.tables.Tables.{Tables}
 use Rattle.rule_model.specs.Naming.{names_of, stores_of}
-use Rattle.rule_model.specs.Src.{src, src_options, is_unicode, cased_keys}
+use Rattle.rule_model.specs.Src.{src, src_options, cased_keys}
 use Rattle.rule_model.specs.Tab.{tab, tab_options, tab_dictionary}
 use Rattle.rule_model.specs.KeyEvent.{after_key}
 use Rattle.rule_model.specs.Enter.{by_default}
 use Rattle.rule_model.specs.Event.{happening}
 use Rattle.rule_model.specs.Trace.{Step, trace}
-use Rattle.kmx_format.specs.Numbers.{values_of, numbers_of, version_of, number_of_start, compiled_stores}
-use Rattle.kmx_format.specs.Compiles.{Compiles, IsOrderedGroup, AreOrderedGroups, stands_before, file_group, is_ansi}
+use Rattle.kmx_format.specs.Numbers.{values_of, numbers_of}
+use Rattle.kmx_format.specs.Compiles.{Compiles, IsOrderedGroup, AreOrderedGroups, stands_before, file_group}
 use Rattle.kmx_format.specs.WellNamed.{IsWellNamed}
 use Rattle.kmx_format.proofs.Whole.{meaning_kept}
-
--- the tables of a program, with the records of each group in order
-abbrev put_record : Rule → List Rule → List Rule
-put_record x [] = x ∷ []
-put_record x (y ∷ ys) = if stands_before y x then y ∷ put_record x ys else x ∷ y ∷ ys
-
-abbrev in_order : List Rule → List Rule
-in_order [] = []
-in_order (x ∷ xs) = put_record x (in_order xs)
-
-abbrev ordered : Group → Group
-ordered g = record g { rules = in_order g.rules }
-
-abbrev compiled : Program → Tables
-compiled p =
-    record {
-      version = version_of p;
-      start_ansi = number_of_start (numbers_of p) (find is_ansi p.begins);
-      start_unicode = number_of_start (numbers_of p) (find is_unicode p.begins);
-      stores = compiled_stores p;
-      groups = map (λ g. ordered (file_group (numbers_of p) g)) p.groups;
-    }
+use Rattle.kmx_format.specs.Ordered.{compiled_tables}
+use Rattle.kmx_format.proofs.CompiledExamples.{store}
 
 -- what is seen of each step: what it deleted and inserted, the items before the caret, and the current and saved values but
 -- for the system options
@@ -73,8 +53,8 @@ seen step =
 
 -- a program and its tables, played with the same events
 played : Program → List Event → List Seen × List Seen
-unfolding trace src src_options cased_keys names_of stores_of values_of tab tab_options tab_dictionary after_key happening by_default key_fits char_of_press same_name name_chars code_in us_characters chars encode_utf8
-played p events = (map seen (trace (src p) events).done, map seen (trace (tab (compiled p)) events).done)
+unfolding trace compiled_tables src src_options cased_keys names_of stores_of values_of tab tab_options tab_dictionary after_key happening by_default key_fits char_of_press same_name name_chars code_in us_characters chars encode_utf8
+played p events = (map seen (trace (src p) events).done, map seen (trace (tab (compiled_tables p)) events).done)
 
 abbrev both : List Seen → List Seen × List Seen
 both steps = (steps, steps)
@@ -84,9 +64,6 @@ press code = event.Key (record { code = code; mods = 0 })
 
 abbrev shift_press : ℕ → Event
 shift_press code = event.Key (record { code = code; mods = 16 })
-
-abbrev store : ℕ → List ℕ → List SrcItem → StoreDef
-store line name items = record { line = line; system = 0; name = name; items = items }
 
 abbrev rule : ℕ → List SrcItem → SrcItem → List SrcItem → RuleDef
 rule line context wanted output = record { line = line; kind = Plain; context = context; key = Some wanted; output = output }
@@ -137,7 +114,7 @@ unfolding played
 key_by_key = refl
 
 key_records :
-    map (λ (g : Group). g.rules) (compiled (along (virtual 0x4000 65 ∷ virtual 0x4010 65 ∷ []) (codes "xy"))).groups
+    map (λ (g : Group). g.rules) (compiled_tables (along (virtual 0x4000 65 ∷ virtual 0x4010 65 ∷ []) (codes "xy"))).groups
     ≡ (record { line = 5; place = 0; key = key.Virtual 0x4000 65; context = []; output = output.Char 120 ∷ [] }
     ∷ record { line = 5; place = 2; key = key.Virtual 0x4010 65; context = []; output = output.Char 121 ∷ [] }
     ∷ []) ∷ []
@@ -207,7 +184,7 @@ switched_and_back = refl
 
 -- each value has one store, behind those of the statements
 values_once :
-    (compiled switching).stores
+    (compiled_tables switching).stores
     ≡ record { system = 0; name = codes "o"; elements = map element.Char (codes "0") }
     ∷ record { system = 0; name = []; elements = map element.Char (codes "1") }
     ∷ record { system = 0; name = []; elements = map element.Char (codes "0") }
@@ -245,7 +222,7 @@ naming =
     ∷ [])
 
 names_once :
-    (compiled naming).stores
+    (compiled_tables naming).stores
     ≡ record { system = 34; name = []; elements = map element.Char (codes "T_B T_A U_0043") } ∷ []
 unfolding played
 names_once = refl

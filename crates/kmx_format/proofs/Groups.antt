@@ -2,12 +2,12 @@
 use Rattle.std.proofs.Common.{◌≡◌, ℕ, zero, suc, ◌+◌, ◌<◌, Bool, true, List, [], ◌∷◌, length, map, get_or, Option, Some, None, refl, ap, sym, ◌∙◌, subst, arith, if◌then◌else◌}
 use Rattle.std.specs.Prelude.{find, filter, option_map, option_and_then, position, slice_get, unwrap_or, flat_map}
 use Rattle.std.specs.List.{list_all}
-use Rattle.std.proofs.lemmas.Bool.{and_parts}
-use Rattle.std.proofs.lemmas.Option.{slice_get-map, slice_get-get_or, get_or_from_slice_get, same_Some, none-some}
+use Rattle.std.proofs.lemmas.Option.{slice_get-map, slice_get-get_or, get_or_from_slice_get}
 use Rattle.std.proofs.lemmas.List.{length-map}
 use Rattle.kmn_base.specs.declared.keys.KeyPress.{KeyPress}
 use Rattle.kmn_base.specs.Lists.{without_last}
 use Rattle.kmn_base.specs.Names.{same_name}
+use Rattle.kmn_base.proofs.Elements.{all_at}
 use Rattle.rule_model.specs.Dictionary.{name_in}
 use Rattle.rule_model.specs.declared.event_state.EventState.{EventState}
 use Rattle.rule_model.specs.declared.program.Program.{Program}
@@ -114,11 +114,6 @@ pub record GroupPlace (p : Program) (t : Tables) (name : List ℕ) : Type 0 wher
   pub numbered : group_at (tab t).groups (Numbered (number_of_group (numbers_of p) name)) ≡ Some (tab_group t.stores compiled)
   pub ordered : IsOrderedGroup (file_group (numbers_of p) stated) compiled
   pub known : KnownGroup p stated
-
-all_at : {X : Type 0} (q : X → Bool) (xs : List X) (k : ℕ) (x : X) → list_all q xs ≡ true → slice_get xs k ≡ Some x → q x ≡ true
-all_at q [] k x h e = absurd (none-some x e)
-all_at q (y ∷ xs) zero x h e = ap q (sym (same_Some y x e)) ∙ (and_parts (q y) (list_all q xs) h).0
-all_at q (y ∷ xs) (suc k) x h e = all_at q xs k x (and_parts (q y) (list_all q xs) h).1 e
 
 module _ (p : Program) (t : Tables) (ok : IsWellNamed p) (c : Compiles p t) (name : List ℕ) (k : ℕ)
     (at_k : position (λ (g : GroupDef). same_name g.name name) p.groups ≡ Some k) (here : FirstPlace (λ (g : GroupDef). same_name g.name name) p.groups k) where

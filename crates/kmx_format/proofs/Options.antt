@@ -7,11 +7,13 @@ use Rattle.std.proofs.lemmas.List.{nil_from_length}
 use Rattle.std.proofs.lemmas.List.Concat.{flat_map-append}
 use Rattle.std.proofs.lemmas.List.Folds.{list_any-append}
 use Rattle.std.proofs.lemmas.List.Sorted.{list_any-IsPermutation}
+use Rattle.std.proofs.Math.Bool.{or-false}
 use Rattle.kmn_base.specs.declared.items.Element.{Element}
 use Rattle.kmn_base.specs.declared.items.Element.TheVariants as element
 use Rattle.kmn_base.specs.declared.keys.RuleKey.{RuleKey}
 use Rattle.kmn_base.specs.declared.keys.RuleKey.TheVariants as key
 use Rattle.kmn_base.specs.Names.{same_name}
+use Rattle.kmn_base.proofs.Elements.{any_flat_map}
 use Rattle.rule_model.specs.declared.program.Program.{Program}
 use Rattle.rule_model.specs.declared.program.GroupDef.{GroupDef}
 use Rattle.rule_model.specs.declared.program.RuleDef.{RuleDef}
@@ -33,10 +35,6 @@ use Rattle.kmx_format.specs.WellNamed.{IsWellNamed, is_known_pattern, is_known_o
 use Rattle.kmx_format.proofs.Known.{KnownRule, KnownStatement, KnownGroup, group_known, has_values}
 use Rattle.kmx_format.proofs.Values.{values_known}
 use Rattle.kmx_format.proofs.PlacedItems.{first_place}
-
-pub any_flat_map : {X Y : Type 0} (q : Y → Bool) (f : X → List Y) (xs : List X) → list_any q (flat_map f xs) ≡ list_any (λ x. list_any q (f x)) xs
-any_flat_map q f [] = refl
-any_flat_map q f (x ∷ xs) = list_any-append q (f x) (flat_map f xs) ∙ ap (λ b. list_any q (f x) || b) (any_flat_map q f xs)
 
 -- a number that there is, as a list
 listed : (o : Option ℕ) → is_some o ≡ true → unwrap_or o 0 ∷ [] ≡ option_to_list o ++ []
@@ -108,10 +106,6 @@ module _ (p : Program) where
     again true xs e rest h = refl
     again false xs e rest h = (λ i. e i || rest) ∙ h
 
-    no_more : (a : Bool) → (a || false) ≡ a
-    no_more true = refl
-    no_more false = refl
-
     twice : (a : Bool) → (a || a) ≡ a
     twice true = refl
     twice false = refl
@@ -141,7 +135,7 @@ module _ (p : Program) where
 
     store-options : (using_keys : Bool) (r : RuleDef) → KnownRule p using_keys r → (n : ℕ) (es : List Element) →
         (list_any q (numbers (rule_uses r)) || list_any q (flat_map rule_options (records_from (numbers_of p) r n es))) ≡ list_any q (numbers (rule_uses r))
-    store-options using_keys r known n [] = no_more (list_any q (numbers (rule_uses r)))
+    store-options using_keys r known n [] = or-false (list_any q (numbers (rule_uses r)))
     store-options using_keys r known n (e ∷ es) =
         let k = unwrap_or (key_of_element e) key.Any in
         (λ i. list_any q (numbers (rule_uses r)) || key-options using_keys r known (Some n) k (records_from (numbers_of p) r (n + 1) es) (store-options using_keys r known (n + 1) es) i)
@@ -160,7 +154,7 @@ module _ (p : Program) where
         first-options using_keys r known (elements_named (stores_of p) s) (and_parts (is_fixed p s) (are_keys (elements_named (stores_of p) s)) whole.1).1
     keyed-options using_keys r known item keyed =
         ap (λ xs. list_any q (flat_map rule_options xs)) (sym (append-nil (key_records (numbers_of p) r None (own_key (numbers_of p) item))))
-        ∙ key-options using_keys r known None (own_key (numbers_of p) item) [] (no_more (list_any q (numbers (rule_uses r))))
+        ∙ key-options using_keys r known None (own_key (numbers_of p) item) [] (or-false (list_any q (numbers (rule_uses r))))
 
     rules-options : (using_keys : Bool) (rs : List RuleDef) → AllByRecursion (KnownRule p using_keys) rs →
         list_any q (flat_map rule_options (flat_map (rule_records (numbers_of p)) rs)) ≡ list_any q (numbers (flat_map rule_uses rs))

@@ -1,5 +1,5 @@
 -- The first place that passes a test, and what stands there.
-use Rattle.std.proofs.Common.{◌≡◌, ℕ, zero, suc, ◌<◌, Bool, true, List, [], ◌∷◌, ◌++◌, length, get_or, Option, Some, None, refl, arith, is_some}
+use Rattle.std.proofs.Common.{◌≡◌, ℕ, ◌<◌, Bool, true, List, [], ◌∷◌, length, get_or, Option, Some, None, refl, is_some}
 use Rattle.std.specs.Prelude.{slice_get, position}
 use Rattle.std.proofs.lemmas.List.Quantifiers.{position-Some}
 use Rattle.std.proofs.lemmas.Option.{slice_get-get_or, none-some}
@@ -17,11 +17,6 @@ first_place p [] k e = absurd (none-some k e)
 first_place p (x ∷ xs) k e =
     let found = position-Some p (x ∷ xs) k x e in
     record { item = get_or (x ∷ xs) k x; reads = slice_get-get_or (x ∷ xs) k x found.0; passes = found.1; within = found.0 }
-
-pub slice_get-append_left : {X : Type 0} (xs ys : List X) (k : ℕ) → k < length xs → slice_get (xs ++ ys) k ≡ slice_get xs k
-slice_get-append_left [] ys k h = absurd (omega arith)
-slice_get-append_left (x ∷ xs) ys zero h = refl
-slice_get-append_left (x ∷ xs) ys (suc k) h = slice_get-append_left xs ys k (omega arith)
 
 -- what there is, with its value
 pub at_place : {X : Type 0} (o : Option X) → is_some o ≡ true → (x : X) × (o ≡ Some x)

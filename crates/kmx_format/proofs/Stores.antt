@@ -9,6 +9,7 @@ use Rattle.std.proofs.lemmas.List.Elements.{filter-append}
 use Rattle.std.proofs.lemmas.Option.{slice_get-map}
 use Rattle.kmn_base.specs.declared.items.Element.{Element}
 use Rattle.kmn_base.specs.Names.{same_name}
+use Rattle.kmn_base.proofs.Elements.{slice_get-append_left}
 use Rattle.rule_model.specs.declared.program.Program.{Program}
 use Rattle.rule_model.specs.declared.tables.Store.{Store}
 use Rattle.rule_model.specs.declared.tables.Tables.{Tables}
@@ -28,7 +29,7 @@ use Rattle.rule_model.proofs.SystemOptions.{names_behind, system_option_is, cont
 use Rattle.kmx_format.proofs.Keyboards.{src_stores, tab_stores}
 use Rattle.kmx_format.proofs.Linked.{Linked, is_value}
 use Rattle.kmx_format.proofs.Options.{options-same, options-within}
-use Rattle.kmx_format.proofs.PlacedItems.{FirstPlace, first_place, at_place, slice_get-append_left}
+use Rattle.kmx_format.proofs.PlacedItems.{FirstPlace, first_place, at_place}
 use Rattle.rule_model.proofs.NamePlaces.{position_cons}
 
 with_options-same : (a b : List ℕ) → ((n : ℕ) → list_any (nat_eq n) a ≡ list_any (nat_eq n) b) → (n : ℕ) (xs : List Store) → with_options a n xs ≡ with_options b n xs
@@ -121,7 +122,7 @@ first_state-same p t ok c =
     }
 
 -- a name in a rule means a store that is no system option
-abbrev is_called : List ℕ → StoreMeaning → Bool
+abbrev pub is_called : List ℕ → StoreMeaning → Bool
 is_called name store = not store.is_system && same_name store.name name
 
 place-named : (name : List ℕ) (options : List ℕ) (n : ℕ) (xs : List Store) →

@@ -1,12 +1,13 @@
 -- A string spells no more parts than it has bytes.
 use Rattle.std.proofs.Common.{ℕ, zero, suc, ◌+◌, ◌-◌, ◌≤◌, List, [], ◌∷◌, length, arith}
 use Rattle.std.specs.Prelude.{Option, Some, None, Result, Ok, Err}
-use Rattle.std.specs.List.{cons_option, filter_map}
+use Rattle.std.specs.List.{filter_map}
 use Rattle.kmn_base.specs.declared.units.UnitItem.{UnitItem}
 use Rattle.kmn_base.specs.declared.units.BadKind.{BadKind}
 use Rattle.kmn_base.specs.declared.units.BadUnits.{BadUnits}
 use Rattle.kmn_base.specs.Spelling.{unit_bytes, whole_units, fault_at}
 use Rattle.kmn_base.specs.FirstItem.{first_item}
+use Rattle.kmn_base.proofs.Elements.{length-cons_option}
 use Rattle.kmx_format.specs.Walk.{spelled_size, results_at, results_from, results_of, items_given}
 use Rattle.kmx_format.specs.TablesOf.{items_of}
 
@@ -28,13 +29,9 @@ few_given [] = omega arith
 few_given (Ok item ∷ results) = omega (arith, few_given results)
 few_given (Err bad ∷ results) = omega arith
 
-few_more : {Y : Type 0} (y : Option Y) (ys : List Y) → length (cons_option y ys) ≤ suc (length ys)
-few_more None ys = omega arith
-few_more (Some y) ys = omega arith
-
 few_mapped : {X Y : Type 0} (f : X → Option Y) (xs : List X) → length (filter_map f xs) ≤ length xs
 few_mapped f [] = omega arith
-few_mapped f (x ∷ xs) = omega (arith, few_more (f x) (filter_map f xs), few_mapped f xs)
+few_mapped f (x ∷ xs) = omega (arith, length-cons_option (f x) (filter_map f xs), few_mapped f xs)
 
 pub few_parts : {T : Type 0} (f : UnitItem → Option T) (units : List ℕ) → length (filter_map f (items_of units)) ≤ length (unit_bytes units)
 unfolding items_of results_of

@@ -1,6 +1,7 @@
 -- The converse of `Sound`: items that stand have no fault.
 use Rattle.std.proofs.Common.{◌≡◌, ℕ, ◌+◌, Bool, true, false, not, List, [], ◌∷◌, ◌++◌, map, Option, None, refl, ◌∙◌, ap}
 use Rattle.std.specs.Prelude.{Ok}
+use Rattle.std.specs.Option.{option_or}
 use Rattle.kmn_base.specs.declared.codes.Code.{Code}
 use Rattle.kmn_base.specs.declared.units.UnitItem.{UnitItem}
 use Rattle.kmx_format.specs.Walk.{spelled_size}
@@ -9,11 +10,11 @@ use Rattle.kmx_verifier.specs.declared.faults.StringKind.{StringKind}
 use Rattle.kmx_verifier.specs.declared.faults.StringKind.TheVariants as of
 use Rattle.kmx_verifier.specs.declared.faults.Target.{Target}
 use Rattle.kmx_verifier.specs.Items.{target_of}
-use Rattle.kmx_verifier.specs.FaultOf.{or_else, broken, broken_by, item_fault, walk_fault, context_fault}
+use Rattle.kmx_verifier.specs.FaultOf.{broken, broken_by, item_fault, walk_fault, context_fault}
 use Rattle.kmx_verifier.proofs.Sound.{ItemStands, ItemsStand, ContextStands}
 
-pub both : (a b : Option Fault) → a ≡ None → b ≡ None → or_else a b ≡ None
-both a b h g = ap (λ f. or_else f b) h ∙ g
+pub both : (a b : Option Fault) → a ≡ None → b ≡ None → option_or a b ≡ None
+both a b h g = ap (λ f. option_or f b) h ∙ g
 
 pub unbroken : (code : Code) (at : ℕ) (c : Bool) → c ≡ false → broken code at c ≡ None
 unbroken code at c h = ap (broken code at) h

@@ -2,6 +2,7 @@
 use Rattle.std.proofs.Common.{◌≡◌, ℕ, ◌+◌, ◌<◌, ◌≤◌, List, [], ◌∷◌, ◌++◌, length, map, Option, None, Some, refl, sym, ◌∙◌, ap, arith, append_assoc}
 use Rattle.std.specs.Prelude.{Ok}
 use Rattle.std.specs.List.{All}
+use Rattle.std.specs.Option.{option_or}
 use Rattle.kmn_base.specs.declared.units.UnitItem.{UnitItem}
 use Rattle.kmx_format.specs.Walk.{spelled_size, items_given, results_of}
 use Rattle.kmx_verifier.specs.declared.contexts.TheConstants.{OFFSET_REACH}
@@ -11,10 +12,10 @@ use Rattle.kmx_verifier.specs.declared.faults.VerifyError.TheVariants.{Refused, 
 use Rattle.kmx_verifier.specs.declared.faults.StringKind.TheVariants as of
 use Rattle.kmx_verifier.specs.declared.faults.Target.{Target}
 use Rattle.kmx_verifier.specs.Items.{target_of, reached}
-use Rattle.kmx_verifier.specs.FaultOf.{or_else, item_fault, context_fault, IsRefusal}
+use Rattle.kmx_verifier.specs.FaultOf.{item_fault, context_fault, IsRefusal}
 use Rattle.kmx_verifier.proofs.Reach.{reached-more, length-reached}
 use Rattle.kmx_format.proofs.ItemSizes.{sizes, sizes_within}
-use Rattle.kmx_verifier.proofs.Walking.{Results}
+use Rattle.kmx_format.proofs.Results.{Results}
 
 -- a walk from a place on, after some items, whose answer and targets are those of the whole walk
 pub record ContextWalksOn (bytes : List ℕ) (answer : Option Fault) (total : List Target) (end at : ℕ) (targets : List Target) (results : Results) : Type 0 where
@@ -44,7 +45,7 @@ context_goes_on bytes answer total end at targets more item results h none is =
     record {
       before = before;
       is_reached = is ∙ ap (λ (ts : List Target). reached (ts ++ target_of item ∷ [])) h.is_reached ∙ reached-more h.before (target_of item);
-      fault = sym (ap (λ fault. or_else fault (context_fault bytes before (at + spelled_size item) results)) (none h.before h.is_reached).0) ∙ h.fault;
+      fault = sym (ap (λ fault. option_or fault (context_fault bytes before (at + spelled_size item) results)) (none h.before h.is_reached).0) ∙ h.fault;
       all = append_assoc h.before (target_of item ∷ []) (map target_of (items_given results)) ∙ h.all;
       room = omega (arith, h.room);
     }
@@ -55,5 +56,5 @@ pub context_stops : (bytes : List ℕ) (answer : Option Fault) (total : List Tar
     → ((before : List Target) → targets ≡ reached before → IsRefusal error (λ found. item_fault bytes of.Context before item at ≡ Some found))
     → IsRefusal error (λ found. answer ≡ Some found)
 context_stops bytes answer total end at targets item results (Refused found) h is =
-    sym h.fault ∙ ap (λ fault. or_else fault (context_fault bytes (h.before ++ target_of item ∷ []) (at + spelled_size item) results)) (is h.before h.is_reached)
+    sym h.fault ∙ ap (λ fault. option_or fault (context_fault bytes (h.before ++ target_of item ∷ []) (at + spelled_size item) results)) (is h.before h.is_reached)
 context_stops bytes answer total end at targets item results Memory h is = tt

@@ -3,6 +3,7 @@ use Rattle.std.proofs.Common.{◌≡◌, ℕ, zero, suc, ◌+◌, ◌*◌, ◌-�
 use Rattle.std.specs.Prelude.{Ok, Err, nat_le, if◌then◌else◌}
 use Rattle.std.specs.List.{All, list_any}
 use Rattle.std.specs.Int.{w32, from_le_bytes}
+use Rattle.std.specs.Option.{option_or}
 use Rattle.std.proofs.lemmas.List.{drop-drop, drop-take, take-take}
 use Rattle.std.proofs.lemmas.List.Elements.{All-head, All-tail}
 use Rattle.kmn_base.specs.Spelling.{unit_bytes, whole_units}
@@ -10,18 +11,18 @@ use Rattle.kmn_base.specs.declared.codes.Code.TheVariants.{V01, V02, V03, V04, V
 use Rattle.kmn_base.specs.declared.keys.TheConstants.{SHIFT_FLAGS}
 use Rattle.kmn_base.specs.declared.limits.TheConstants.{FILE_NAME_UNITS, CONTEXT_ITEMS, OUTPUT_ITEMS, STORES, GROUPS, RECORDS, PICTURE_BYTES, FILE_BYTES}
 use Rattle.kmn_base.specs.declared.units.UnitItem.{UnitItem}
+use Rattle.kmn_base.proofs.Elements.{All-append_parts}
 use Rattle.kmx_format.specs.Walk.{spelled_size, results_of}
 use Rattle.kmx_format.specs.TablesOf.{word_at, before_zero, string_at, items_of, uses_keys_at}
 use Rattle.kmx_format.specs.Versions.{is_version}
+use Rattle.kmx_format.proofs.Results.{Results}
 use Rattle.kmx_parts.specs.View.{has_zero, is_ended, store_count, group_count}
 use Rattle.kmx_verifier.specs.declared.faults.StringKind.{StringKind}
 use Rattle.kmx_verifier.specs.declared.faults.StringKind.TheVariants as of
 use Rattle.kmx_verifier.specs.declared.faults.Target.{Target}
 use Rattle.kmx_verifier.specs.Items.{target_of, may_stand, code_of, stores_named, groups_named, points_right}
-use Rattle.kmx_verifier.specs.FaultOf.{or_else, broken, broken_by, item_fault, walk_fault, context_fault, read_at, item_count, string_fault, context_string_fault, name_fault, too_many_elements, store_fault, elements_in, stores_fault, context_targets, flags_fault, record_fault, records_fault, records_place_fault, group_strings_fault, group_fault, groups_fault, size_fault, header_fault, arrays_fault, fault_of, no_group}
+use Rattle.kmx_verifier.specs.FaultOf.{broken, broken_by, item_fault, walk_fault, context_fault, read_at, item_count, string_fault, context_string_fault, name_fault, too_many_elements, store_fault, elements_in, stores_fault, context_targets, flags_fault, record_fault, records_fault, records_place_fault, group_strings_fault, group_fault, groups_fault, size_fault, header_fault, arrays_fault, fault_of, no_group}
 use Rattle.kmx_verifier.specs.Looked.{Range, string_range, header_looked, stores_looked, records_looked, groups_looked, IsSameAt, OtherBytesChangeNothing}
-use Rattle.kmx_verifier.proofs.Walking.{Results}
-use Rattle.kmx_verifier.proofs.Written.{parted}
 
 -- ---- bytes that are the same
 
@@ -110,18 +111,18 @@ string_same bytes other offset same_length same = by_test (nat_eq offset 0) same
 module _ (bytes other : List ℕ) (stores : store_count bytes ≡ store_count other) (groups : group_count bytes ≡ group_count other) where
   pub item_same : (kind : StringKind) (targets : List Target) (item : UnitItem) (at : ℕ) → item_fault bytes kind targets item at ≡ item_fault other kind targets item at
   item_same kind targets item at =
-      ap₂ (λ n g. or_else (broken_by (code_of item) at (not (may_stand kind item)))
-      (or_else (broken V12 at (list_any (nat_lt n) (stores_named item) || list_any (nat_lt g) (groups_named item))) (or_else (broken V13 at (not (points_right targets item))) None))) stores groups
+      ap₂ (λ n g. option_or (broken_by (code_of item) at (not (may_stand kind item)))
+      (option_or (broken V12 at (list_any (nat_lt n) (stores_named item) || list_any (nat_lt g) (groups_named item))) (option_or (broken V13 at (not (points_right targets item))) None))) stores groups
 
   pub walk_same : (kind : StringKind) (targets : List Target) (at : ℕ) (results : Results) → walk_fault bytes kind targets at results ≡ walk_fault other kind targets at results
   walk_same kind targets at [] = refl
   walk_same kind targets at (Err bad ∷ results) = refl
-  walk_same kind targets at (Ok item ∷ results) = ap₂ or_else (item_same kind targets item at) (walk_same kind targets (at + spelled_size item) results)
+  walk_same kind targets at (Ok item ∷ results) = ap₂ option_or (item_same kind targets item at) (walk_same kind targets (at + spelled_size item) results)
 
   pub context_same : (before : List Target) (at : ℕ) (results : Results) → context_fault bytes before at results ≡ context_fault other before at results
   context_same before at [] = refl
   context_same before at (Err bad ∷ results) = refl
-  context_same before at (Ok item ∷ results) = ap₂ or_else (item_same of.Context before item at) (context_same (before ++ target_of item ∷ []) (at + spelled_size item) results)
+  context_same before at (Ok item ∷ results) = ap₂ option_or (item_same of.Context before item at) (context_same (before ++ target_of item ∷ []) (at + spelled_size item) results)
 
   module _ (same_length : length bytes ≡ length other) where
     module _ (place : ℕ) (word_is : word_at bytes place ≡ word_at other place) (same : IsSameAt bytes other (string_range bytes (word_at bytes place))) where
@@ -132,7 +133,7 @@ module _ (bytes other : List ℕ) (stores : store_count bytes ≡ store_count ot
       ended_same = (string_same bytes other (word_at bytes place) same_length same).1 ∙ ap (is_ended other) word_is
 
       name_same : name_fault bytes place ≡ name_fault other place
-      name_same = ap₂ (λ e (s : List ℕ). or_else (broken V10 place (not e)) (or_else (broken V15 place (nat_lt FILE_NAME_UNITS (length s))) None)) ended_same read_same
+      name_same = ap₂ (λ e (s : List ℕ). option_or (broken V10 place (not e)) (option_or (broken V15 place (nat_lt FILE_NAME_UNITS (length s))) None)) ended_same read_same
 
       count_same : item_count bytes (word_at bytes place) ≡ item_count other (word_at other place)
       count_same = ap (λ (s : List ℕ). length (items_of s)) read_same
@@ -142,16 +143,16 @@ module _ (bytes other : List ℕ) (stores : store_count bytes ≡ store_count ot
 
       string_fault-same : (kind : StringKind) (targets : List Target) (too_many : ℕ → Bool) → string_fault bytes kind targets place too_many ≡ string_fault other kind targets place too_many
       string_fault-same kind targets too_many =
-          ap₂ or_else
-          (ap₂ or_else (ap (λ e. broken V10 place (not e)) ended_same)
+          ap₂ option_or
+          (ap₂ option_or (ap (λ e. broken V10 place (not e)) ended_same)
           (walk_same kind targets (word_at bytes place) (read_at bytes (word_at bytes place))
           ∙ ap₂ (λ at (s : List ℕ). walk_fault other kind targets at (results_of (unit_bytes s))) word_is read_same))
           (ap (λ n. broken V15 place (too_many n)) count_same)
 
       context_string-same : context_string_fault bytes place ≡ context_string_fault other place
       context_string-same =
-          ap₂ or_else
-          (ap₂ or_else (ap (λ e. broken V10 place (not e)) ended_same)
+          ap₂ option_or
+          (ap₂ option_or (ap (λ e. broken V10 place (not e)) ended_same)
           (context_same [] (word_at bytes place) (read_at bytes (word_at bytes place))
           ∙ ap₂ (λ at (s : List ℕ). context_fault other [] at (results_of (unit_bytes s))) word_is read_same))
           (ap (λ n. broken V15 place (nat_lt CONTEXT_ITEMS n)) count_same)
@@ -183,9 +184,9 @@ module _ (bytes other : List ℕ) (stores : store_count bytes ≡ store_count ot
         word_same bytes other same_length fields 4 (place + 8) (omega arith) (omega arith) at in
         let content_at : IsSameAt bytes other content = first_same content rest h2 in
         let store : store_fault bytes before place ≡ store_fault other before place =
-        ap₂ or_else (name_same (place + 4) name_is (first_same name (content ∷ rest) h1))
-        (ap (λ f. or_else f None) (string_fault-same (place + 8) content_is content_at of.Store [] (too_many_elements before))) in
-        ap₂ or_else store
+        ap₂ option_or (name_same (place + 4) name_is (first_same name (content ∷ rest) h1))
+        (ap (λ f. option_or f None) (string_fault-same (place + 8) content_is content_at of.Store [] (too_many_elements before))) in
+        ap₂ option_or store
         (stores_same (before + elements_in bytes place) (place + 12) count (others_same content rest h2)
         ∙ ap (λ n. stores_fault other (before + n) (place + 12) count) (count_same (place + 8) content_is content_at))
 
@@ -224,12 +225,12 @@ module _ (bytes other : List ℕ) (stores : store_count bytes ≡ store_count ot
         let offsets = offsets_same using_keys place at in
         let context_at : IsSameAt bytes other context = first_same context (output ∷ rest) h1 in
         let same_record : record_fault bytes using_keys place ≡ record_fault other using_keys place =
-        ap₂ or_else (flags_same using_keys place at)
-        (ap₂ or_else (context_string-same (place + 16) offsets.1 context_at)
-        (ap (λ f. or_else f None)
+        ap₂ option_or (flags_same using_keys place at)
+        (ap₂ option_or (context_string-same (place + 16) offsets.1 context_at)
+        (ap (λ f. option_or f None)
         (ap (λ (ts : List Target). string_fault bytes of.Output ts (place + 12) (nat_lt OUTPUT_ITEMS)) (targets_same (place + 16) offsets.1 context_at)
         ∙ string_fault-same (place + 12) offsets.0 (first_same output rest h2) of.Output (context_targets other (word_at other (place + 16))) (nat_lt OUTPUT_ITEMS)))) in
-        ap₂ or_else same_record (records_same using_keys (place + 20) count (others_same output rest h2))
+        ap₂ option_or same_record (records_same using_keys (place + 20) count (others_same output rest h2))
 
     groups_same : (before place count : ℕ) → AllSame (groups_looked bytes place count) → groups_fault bytes before place count ≡ groups_fault other before place count
     groups_same before place zero h = refl
@@ -243,7 +244,7 @@ module _ (bytes other : List ℕ) (stores : store_count bytes ≡ store_count ot
         let h1 : AllSame (name ∷ on_match ∷ on_nomatch ∷ (records ++ rest)) = others_same fields (name ∷ on_match ∷ on_nomatch ∷ (records ++ rest)) h in
         let h2 : AllSame (on_match ∷ on_nomatch ∷ (records ++ rest)) = others_same name (on_match ∷ on_nomatch ∷ (records ++ rest)) h1 in
         let h3 : AllSame (on_nomatch ∷ (records ++ rest)) = others_same on_match (on_nomatch ∷ (records ++ rest)) h2 in
-        let both : AllSame records × AllSame rest = parted (IsSameAt bytes other) records rest (others_same on_nomatch (records ++ rest) h3) in
+        let both : AllSame records × AllSame rest = All-append_parts (IsSameAt bytes other) records rest (others_same on_nomatch (records ++ rest) h3) in
         let at : IsSameAt bytes other fields = first_same fields (name ∷ on_match ∷ on_nomatch ∷ (records ++ rest)) h in
         let name_is : word_at bytes place ≡ word_at other place =
         word_same bytes other same_length fields 0 place (omega arith) (omega arith) at in
@@ -253,12 +254,12 @@ module _ (bytes other : List ℕ) (stores : store_count bytes ≡ store_count ot
         let count_is : word_at bytes (place + 16) ≡ word_at other (place + 16) = same_word bytes other same_length fields 16 (omega arith) at in
         let using_is : word_at bytes (place + 20) ≡ word_at other (place + 20) = same_word bytes other same_length fields 20 (omega arith) at in
         let in_place : records_place_fault bytes before place ≡ records_place_fault other before place =
-        λ i. or_else (broken V15 (place + 16) (nat_lt RECORDS (before + count_is i)))
-        (or_else (broken V09 (place + 4) (nat_lt 0 (count_is i) && not (nat_le (keys_are i + 20 * count_is i) (same_length i)))) None) in
+        λ i. option_or (broken V15 (place + 16) (nat_lt RECORDS (before + count_is i)))
+        (option_or (broken V09 (place + 4) (nat_lt 0 (count_is i) && not (nat_le (keys_are i + 20 * count_is i) (same_length i)))) None) in
         let strings : group_strings_fault bytes place ≡ group_strings_fault other place =
-        ap₂ or_else (name_same place name_is (first_same name (on_match ∷ on_nomatch ∷ (records ++ rest)) h1))
-        (ap₂ or_else (string_fault-same (place + 8) match_is (first_same on_match (on_nomatch ∷ (records ++ rest)) h2) of.Match [] (nat_lt OUTPUT_ITEMS))
-        (ap (λ f. or_else f None) (string_fault-same (place + 12) nomatch_is (first_same on_nomatch (records ++ rest) h3) of.Match [] (nat_lt OUTPUT_ITEMS)))) in
+        ap₂ option_or (name_same place name_is (first_same name (on_match ∷ on_nomatch ∷ (records ++ rest)) h1))
+        (ap₂ option_or (string_fault-same (place + 8) match_is (first_same on_match (on_nomatch ∷ (records ++ rest)) h2) of.Match [] (nat_lt OUTPUT_ITEMS))
+        (ap (λ f. option_or f None) (string_fault-same (place + 12) nomatch_is (first_same on_nomatch (records ++ rest) h3) of.Match [] (nat_lt OUTPUT_ITEMS)))) in
         let by_fields : records_fault other (uses_keys_at bytes place) (word_at bytes (place + 4)) (word_at bytes (place + 16))
         ≡ records_fault other (uses_keys_at other place) (word_at other (place + 4)) (word_at other (place + 16)) =
         λ i. records_fault other (not (nat_eq (using_is i) 0)) (keys_are i) (count_is i) in
@@ -266,8 +267,8 @@ module _ (bytes other : List ℕ) (stores : store_count bytes ≡ store_count ot
         ≡ records_fault other (uses_keys_at other place) (word_at other (place + 4)) (word_at other (place + 16)) =
         records_same (uses_keys_at bytes place) (word_at bytes (place + 4)) (word_at bytes (place + 16)) both.0 ∙ by_fields in
         let group : group_fault bytes before place ≡ group_fault other before place =
-        ap₂ or_else in_place (ap₂ or_else strings (ap (λ f. or_else f None) all_records)) in
-        ap₂ or_else group
+        ap₂ option_or in_place (ap₂ option_or strings (ap (λ f. option_or f None) all_records)) in
+        ap₂ option_or group
         (groups_same (before + word_at bytes (place + 16)) (place + 24) count both.1
         ∙ ap (λ n. groups_fault other (before + n) (place + 24) count) count_is)
 
@@ -279,8 +280,8 @@ other_bytes_change_nothing bytes other same_length h =
     let third : Range = record { place = 56; size = 8 } in
     let stores : List Range = stores_looked bytes (word_at bytes 32) (store_count bytes) in
     let groups : List Range = groups_looked bytes (word_at bytes 36) (group_count bytes) in
-    let parts = parted (IsSameAt bytes other) header_looked (stores ++ groups) h in
-    let arrays = parted (IsSameAt bytes other) stores groups parts.1 in
+    let parts = All-append_parts (IsSameAt bytes other) header_looked (stores ++ groups) h in
+    let arrays = All-append_parts (IsSameAt bytes other) stores groups parts.1 in
     let head : All (IsSameAt bytes other) (first ∷ second ∷ third ∷ []) = parts.0 in
     let more : All (IsSameAt bytes other) (second ∷ third ∷ []) = All-tail (IsSameAt bytes other) first (second ∷ third ∷ []) head in
     let last : All (IsSameAt bytes other) (third ∷ []) = All-tail (IsSameAt bytes other) second (third ∷ []) more in
@@ -299,17 +300,17 @@ other_bytes_change_nothing bytes other same_length h =
     let w56 : word_at bytes 56 ≡ word_at other 56 = same_word bytes other same_length third 0 (omega arith) at56 in
     let w60 : word_at bytes 60 ≡ word_at other 60 = same_word bytes other same_length third 4 (omega arith) at56 in
     let size_is : size_fault bytes ≡ size_fault other =
-    ap (λ n. or_else (broken V15 0 (nat_lt FILE_BYTES n)) (or_else (broken V01 n (nat_lt n 64)) None)) same_length in
+    ap (λ n. option_or (broken V15 0 (nat_lt FILE_BYTES n)) (option_or (broken V01 n (nat_lt n 64)) None)) same_length in
     let head_is : header_fault bytes ≡ header_fault other =
-    λ i. or_else (broken V02 0 (not (nat_eq (w0 i) 0x5354_584B))) (or_else (broken V03 4 (not (is_version (w4 i)))) (or_else (broken V04 48 (nat_lt 0x1F (w48 i)))
-    (or_else (broken V15 24 (nat_lt STORES (w24 i))) (or_else (broken V15 28 (nat_lt GROUPS (w28 i))) (or_else (broken V05 44 (nat_eq (w44 i) no_group))
-    (or_else (broken V06 40 (not (nat_eq (w40 i) no_group) && not (nat_lt (w40 i) (w28 i)))) (or_else (broken V06 44 (not (nat_lt (w44 i) (w28 i)))) None))))))) in
+    λ i. option_or (broken V02 0 (not (nat_eq (w0 i) 0x5354_584B))) (option_or (broken V03 4 (not (is_version (w4 i)))) (option_or (broken V04 48 (nat_lt 0x1F (w48 i)))
+    (option_or (broken V15 24 (nat_lt STORES (w24 i))) (option_or (broken V15 28 (nat_lt GROUPS (w28 i))) (option_or (broken V05 44 (nat_eq (w44 i) no_group))
+    (option_or (broken V06 40 (not (nat_eq (w40 i) no_group) && not (nat_lt (w40 i) (w28 i)))) (option_or (broken V06 44 (not (nat_lt (w44 i) (w28 i)))) None))))))) in
     let arrays_are : arrays_fault bytes ≡ arrays_fault other =
-    λ i. or_else (broken V07 32 (nat_lt 0 (w24 i) && not (nat_le (w32 i + 12 * w24 i) (same_length i))))
-    (or_else (broken V08 36 (nat_lt 0 (w28 i) && not (nat_le (w36 i + 24 * w28 i) (same_length i))))
-    (or_else (broken V16 56 (nat_lt 0 (w60 i) && (not (nat_le (w56 i + w60 i) (same_length i)) || nat_lt PICTURE_BYTES (w60 i)))) None)) in
-    ap₂ or_else size_is (ap₂ or_else head_is (ap₂ or_else arrays_are
-    (ap₂ or_else
+    λ i. option_or (broken V07 32 (nat_lt 0 (w24 i) && not (nat_le (w32 i + 12 * w24 i) (same_length i))))
+    (option_or (broken V08 36 (nat_lt 0 (w28 i) && not (nat_le (w36 i + 24 * w28 i) (same_length i))))
+    (option_or (broken V16 56 (nat_lt 0 (w60 i) && (not (nat_le (w56 i + w60 i) (same_length i)) || nat_lt PICTURE_BYTES (w60 i)))) None)) in
+    ap₂ option_or size_is (ap₂ option_or head_is (ap₂ option_or arrays_are
+    (ap₂ option_or
     (stores_same bytes other w24 w28 same_length 0 (word_at bytes 32) (store_count bytes) arrays.0 ∙ ap₂ (stores_fault other 0) w32 w24)
-    (ap (λ f. or_else f None)
+    (ap (λ f. option_or f None)
     (groups_same bytes other w24 w28 same_length 0 (word_at bytes 36) (group_count bytes) arrays.1 ∙ ap₂ (groups_fault other 0) w36 w28)))))

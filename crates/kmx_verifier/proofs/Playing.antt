@@ -23,22 +23,23 @@ use Rattle.kmx_verifier.specs.declared.faults.Target.{Target}
 use Rattle.kmx_verifier.specs.Items.{target_of, points_right}
 use Rattle.kmx_verifier.specs.FaultOf.{walk_fault, context_fault, item_count, read_at, read_fault, string_fault, read_context_fault, context_string_fault, context_targets, too_many_elements, store_fault, stores_fault, elements_in, flags_fault, record_fault, records_fault, records_place_fault, group_strings_fault, group_fault, groups_fault, no_group, size_fault, header_fault, arrays_fault, fault_of, IsValid}
 use Rattle.kmn_base.proofs.SmallBytes.{AreBytes}
+use Rattle.kmn_base.proofs.Options.{option_or-none}
 use Rattle.kmx_format.proofs.SmallNumbers.{word_at-small, half_at-small, half_at-word, string_at-small}
-use Rattle.kmx_verifier.proofs.Sound.{or_else-none, broken-none, broken_by-none, ItemStands}
+use Rattle.kmx_verifier.proofs.Sound.{broken-none, broken_by-none, ItemStands}
 use Rattle.kmx_verifier.proofs.Contents.{Contents, elements_read, outputs_read, match_outputs_read, acts_alone, outputs_stores, outputs_groups, outputs_systems, match_systems, targets_of, ContextRead, context_read, points_into}
 
 -- a string without a fault: its walk has none, and its items aren't too many
 string_walk : (bytes : List ℕ) (kind : StringKind) (targets : List Target) (place : ℕ) (too_many : ℕ → Bool) → string_fault bytes kind targets place too_many ≡ None
     → (walk_fault bytes kind targets (word_at bytes place) (read_at bytes (word_at bytes place)) ≡ None) × (too_many (item_count bytes (word_at bytes place)) ≡ false)
 string_walk bytes kind targets place too_many h =
-    let parts = or_else-none (read_fault bytes kind targets place) _ h in
-    ((or_else-none _ _ parts.0).1, broken-none _ place _ parts.1)
+    let parts = option_or-none (read_fault bytes kind targets place) _ h in
+    ((option_or-none _ _ parts.0).1, broken-none _ place _ parts.1)
 
 context_walk : (bytes : List ℕ) (place : ℕ) → context_string_fault bytes place ≡ None
     → (context_fault bytes [] (word_at bytes place) (read_at bytes (word_at bytes place)) ≡ None) × (nat_lt CONTEXT_ITEMS (item_count bytes (word_at bytes place)) ≡ false)
 context_walk bytes place h =
-    let parts = or_else-none (read_context_fault bytes place) _ h in
-    ((or_else-none _ _ parts.0).1, broken-none _ place _ parts.1)
+    let parts = option_or-none (read_context_fault bytes place) _ h in
+    ((option_or-none _ _ parts.0).1, broken-none _ place _ parts.1)
 
 elements_fit : (before count : ℕ) → too_many_elements before count ≡ false → (count ≤ STORE_ELEMENTS) × (before + count ≤ ALL_ELEMENTS)
 elements_fit before count h = (grind (arith, h), grind (arith, h))
@@ -75,7 +76,7 @@ module _ (bytes : List ℕ) (are_bytes : AreBytes bytes) where
       → IsPlayableStore (store_at bytes place) × (before + length (store_at bytes place).elements ≤ ALL_ELEMENTS) × (length (store_at bytes place).elements ≡ elements_in bytes place)
   store_playable before place h =
       let offset : ℕ = word_at bytes (place + 8) in
-      let content = or_else-none _ _ (or_else-none _ _ h).1 in
+      let content = option_or-none _ _ (option_or-none _ _ h).1 in
       let walk = string_walk bytes of.Store [] (place + 8) (too_many_elements before) content.0 in
       let read = elements_read bytes offset (string_at bytes offset) (string_at-small bytes offset are_bytes) walk.0 in
       let fit = elements_fit before (item_count bytes offset) walk.1 in (
@@ -88,7 +89,7 @@ module _ (bytes : List ℕ) (are_bytes : AreBytes bytes) where
       → All IsPlayableStore (stores_from bytes place count) × (before + length (flat_map elements_of (stores_from bytes place count)) ≤ ALL_ELEMENTS)
   stores_playable before place zero few h = (All-nil IsPlayableStore, omega (arith, few))
   stores_playable before place (suc count) few h =
-      let parts = or_else-none (store_fault bytes before place) _ h in
+      let parts = option_or-none (store_fault bytes before place) _ h in
       let first = store_playable before place parts.0 in
       let others = stores_playable (before + elements_in bytes place) (place + 12) count (omega (arith, first.1, first.2)) parts.1 in (
         All-cons IsPlayableStore (store_at bytes place) (stores_from bytes (place + 12) count) first.0 others.0,
@@ -101,9 +102,9 @@ module _ (bytes : List ℕ) (are_bytes : AreBytes bytes) where
   rule_playable using_keys place h =
       let context_offset : ℕ = word_at bytes (place + 16) in
       let output_offset : ℕ = word_at bytes (place + 12) in
-      let first = or_else-none (flags_fault bytes using_keys (place + 8)) _ h in
-      let second = or_else-none (context_string_fault bytes (place + 16)) _ first.1 in
-      let third = or_else-none _ _ second.1 in
+      let first = option_or-none (flags_fault bytes using_keys (place + 8)) _ h in
+      let second = option_or-none (context_string_fault bytes (place + 16)) _ first.1 in
+      let third = option_or-none _ _ second.1 in
       let walk = context_walk bytes (place + 16) second.0 in
       let read : ContextRead bytes (string_at bytes context_offset) (patterns_at bytes context_offset) =
       context_read bytes (string_at bytes context_offset) context_offset (string_at-small bytes context_offset are_bytes) walk.0 (ltb-false CONTEXT_ITEMS (item_count bytes context_offset) walk.1) in
@@ -133,7 +134,7 @@ module _ (bytes : List ℕ) (are_bytes : AreBytes bytes) where
       → All (IsWritableRule (store_count bytes) (group_count bytes) using_keys) (rules_from bytes using_keys place count)
   rules_playable using_keys place zero h = All-nil (IsWritableRule (store_count bytes) (group_count bytes) using_keys)
   rules_playable using_keys place (suc count) h =
-      let parts = or_else-none (record_fault bytes using_keys place) _ h in
+      let parts = option_or-none (record_fault bytes using_keys place) _ h in
       All-cons (IsWritableRule (store_count bytes) (group_count bytes) using_keys) (rule_at bytes using_keys place) (rules_from bytes using_keys (place + 20) count)
       (rule_playable using_keys place parts.0) (rules_playable using_keys (place + 20) count parts.1)
 
@@ -160,12 +161,12 @@ module _ (bytes : List ℕ) (are_bytes : AreBytes bytes) where
   group_playable : (before place : ℕ) → group_fault bytes before place ≡ None
       → IsPlayableGroup (store_count bytes) (group_count bytes) (group_at bytes place) × (before + word_at bytes (place + 16) ≤ RECORDS)
   group_playable before place h =
-      let first = or_else-none (records_place_fault bytes before place) _ h in
-      let second = or_else-none (group_strings_fault bytes place) _ first.1 in
-      let third = or_else-none _ _ second.1 in
-      let strings = or_else-none _ _ (or_else-none _ _ second.0).1 in
-      let last = or_else-none _ _ strings.1 in
-      let count : nat_lt RECORDS (before + word_at bytes (place + 16)) ≡ false = broken-none _ (place + 16) _ (or_else-none _ _ first.0).0 in (
+      let first = option_or-none (records_place_fault bytes before place) _ h in
+      let second = option_or-none (group_strings_fault bytes place) _ first.1 in
+      let third = option_or-none _ _ second.1 in
+      let strings = option_or-none _ _ (option_or-none _ _ second.0).1 in
+      let last = option_or-none _ _ strings.1 in
+      let count : nat_lt RECORDS (before + word_at bytes (place + 16)) ≡ false = broken-none _ (place + 16) _ (option_or-none _ _ first.0).0 in (
         record {
           rules = rules_playable (uses_keys_at bytes place) (word_at bytes (place + 4)) (word_at bytes (place + 16)) third.0;
           on_match = match_playable (place + 8) strings.0;
@@ -179,7 +180,7 @@ module _ (bytes : List ℕ) (are_bytes : AreBytes bytes) where
   groups_playable before place zero few h = (All-nil (IsPlayableGroup (store_count bytes) (group_count bytes)), omega (arith, few))
   groups_playable before place (suc count) few h =
       let rules : ℕ = word_at bytes (place + 16) in
-      let parts = or_else-none (group_fault bytes before place) _ h in
+      let parts = option_or-none (group_fault bytes before place) _ h in
       let first = group_playable before place parts.0 in
       let others = groups_playable (before + rules) (place + 24) count first.1 parts.1 in (
         All-cons (IsPlayableGroup (store_count bytes) (group_count bytes)) (group_at bytes place) (groups_from bytes (place + 24) count) first.0 others.0,
@@ -201,20 +202,20 @@ module _ (bytes : List ℕ) (are_bytes : AreBytes bytes) where
   pub valid_playable : IsValid bytes → IsPlayable (tables_of bytes)
   unfolding fault_of size_fault header_fault tables_of
   valid_playable h =
-      let size = or_else-none (size_fault bytes) _ h in
-      let head = or_else-none (header_fault bytes) _ size.1 in
-      let arrays = or_else-none (arrays_fault bytes) _ head.1 in
-      let stores = or_else-none (stores_fault bytes 0 (word_at bytes 32) (store_count bytes)) _ arrays.1 in
-      let groups = or_else-none _ _ stores.1 in
-      let long : nat_lt (length bytes) 64 ≡ false = broken-none _ _ _ (or_else-none _ _ (or_else-none _ _ size.0).1).0 in
-      let identifier = or_else-none _ _ head.0 in
-      let version = or_else-none _ _ identifier.1 in
-      let flags = or_else-none _ _ version.1 in
-      let many_stores = or_else-none _ _ flags.1 in
-      let many_groups = or_else-none _ _ many_stores.1 in
-      let no_unicode = or_else-none _ _ many_groups.1 in
-      let ansi = or_else-none _ _ no_unicode.1 in
-      let unicode = or_else-none _ _ ansi.1 in
+      let size = option_or-none (size_fault bytes) _ h in
+      let head = option_or-none (header_fault bytes) _ size.1 in
+      let arrays = option_or-none (arrays_fault bytes) _ head.1 in
+      let stores = option_or-none (stores_fault bytes 0 (word_at bytes 32) (store_count bytes)) _ arrays.1 in
+      let groups = option_or-none _ _ stores.1 in
+      let long : nat_lt (length bytes) 64 ≡ false = broken-none _ _ _ (option_or-none _ _ (option_or-none _ _ size.0).1).0 in
+      let identifier = option_or-none _ _ head.0 in
+      let version = option_or-none _ _ identifier.1 in
+      let flags = option_or-none _ _ version.1 in
+      let many_stores = option_or-none _ _ flags.1 in
+      let many_groups = option_or-none _ _ many_stores.1 in
+      let no_unicode = option_or-none _ _ many_groups.1 in
+      let ansi = option_or-none _ _ no_unicode.1 in
+      let unicode = option_or-none _ _ ansi.1 in
       let known : is_version (word_at bytes 4) ≡ true = not-false _ (broken-none _ 4 _ version.0) in
       let lower : half_at bytes 4 ≡ word_at bytes 4 = half_at-word bytes 4 are_bytes (omega (arith, ltb-false (length bytes) 64 long)) (version-small (word_at bytes 4) known) in
       let store_total = stores_playable 0 (word_at bytes 32) (store_count bytes) (lit≤ tt) stores.0 in

@@ -1,5 +1,5 @@
 -- What holds of a string whose walk finds no fault.
-use Rattle.std.proofs.Common.{◌≡◌, ℕ, ◌+◌, ◌-◌, ◌<◌, ◌⊎◌, Bool, true, false, List, [], ◌∷◌, ◌++◌, map, Option, None, Some, refl, sym, ◌∙◌, ap, inl, inr, arith}
+use Rattle.std.proofs.Common.{◌≡◌, ℕ, ◌+◌, ◌-◌, ◌<◌, ◌⊎◌, Bool, true, false, List, [], ◌∷◌, ◌++◌, map, None, Some, refl, sym, ◌∙◌, ap, inl, inr, arith}
 use Rattle.std.specs.Prelude.{Ok, Err}
 use Rattle.std.proofs.lemmas.Bool.{not-false}
 use Rattle.kmn_base.specs.declared.codes.Code.{Code}
@@ -7,22 +7,18 @@ use Rattle.kmn_base.specs.declared.items.Element.{Element}
 use Rattle.kmn_base.specs.declared.units.UnitItem.{UnitItem}
 use Rattle.kmn_base.specs.declared.units.UnitItem.TheVariants.{Char, Any, Index, Context, Nul, Enter, Stop, Beep, Dead, Key, ContextAt, NotAny, Set, Test, SystemTest, SetSystem, Save, Reset}
 use Rattle.kmn_base.specs.Spelling.{IsSpellable}
+use Rattle.kmn_base.proofs.Options.{option_or-none}
 use Rattle.kmx_format.specs.Walk.{spelled_size, items_given}
 use Rattle.rule_model.specs.declared.tables.Pat.{Pat}
 use Rattle.rule_model.specs.declared.tables.Out.{Out}
 use Rattle.kmx_format.specs.FileUnits.{unit_item_of_element, unit_item_of_pattern, unit_item_of_output}
 use Rattle.kmx_format.specs.TablesOf.{element_of_unit_item, comparison_of, system_comparison_of, pattern_of_unit_item, output_of_unit_item}
-use Rattle.kmx_verifier.specs.declared.faults.Fault.{Fault}
+use Rattle.kmx_format.proofs.Results.{Results}
 use Rattle.kmx_verifier.specs.declared.faults.StringKind.{StringKind}
 use Rattle.kmx_verifier.specs.declared.faults.StringKind.TheVariants as of
 use Rattle.kmx_verifier.specs.declared.faults.Target.{Target}
 use Rattle.kmx_verifier.specs.Items.{may_stand, target_of, points_right, code_of}
-use Rattle.kmx_verifier.specs.FaultOf.{or_else, broken, broken_by, names_outside, item_fault, walk_fault, context_fault}
-use Rattle.kmx_verifier.proofs.Walking.{Results}
-
-pub or_else-none : (a b : Option Fault) → or_else a b ≡ None → (a ≡ None) × (b ≡ None)
-or_else-none None b h = (refl, h)
-or_else-none (Some fault) b h = absurd (cc)
+use Rattle.kmx_verifier.specs.FaultOf.{broken, broken_by, names_outside, item_fault, walk_fault, context_fault}
 
 pub broken-none : (code : Code) (at : ℕ) (c : Bool) → broken code at c ≡ None → c ≡ false
 broken-none code at true h = absurd (cc)
@@ -41,9 +37,9 @@ pub record ItemStands (bytes : List ℕ) (kind : StringKind) (targets : List Tar
 pub item_stands : (bytes : List ℕ) (kind : StringKind) (targets : List Target) (item : UnitItem) (at : ℕ)
     → item_fault bytes kind targets item at ≡ None → ItemStands bytes kind targets item
 item_stands bytes kind targets item at h =
-    let first = or_else-none _ _ h in
-    let second = or_else-none _ _ first.1 in
-    let third = or_else-none _ _ second.1 in
+    let first = option_or-none _ _ h in
+    let second = option_or-none _ _ first.1 in
+    let third = option_or-none _ _ second.1 in
     record {
       stands = not-false _ (broken_by-none (code_of item) at _ first.0);
       named = broken-none _ at _ second.0;
@@ -66,28 +62,28 @@ pub walk_readable : (bytes : List ℕ) (kind : StringKind) (targets : List Targe
 walk_readable bytes kind targets at [] h = refl
 walk_readable bytes kind targets at (Err bad ∷ results) h = absurd (cc)
 walk_readable bytes kind targets at (Ok item ∷ results) h =
-    ap (λ (rs : Results). Ok item ∷ rs) (walk_readable bytes kind targets (at + spelled_size item) results (or_else-none _ _ h).1)
+    ap (λ (rs : Results). Ok item ∷ rs) (walk_readable bytes kind targets (at + spelled_size item) results (option_or-none _ _ h).1)
 
 pub context_readable : (bytes : List ℕ) (before : List Target) (at : ℕ) (results : Results)
     → context_fault bytes before at results ≡ None → results ≡ map Ok (items_given results)
 context_readable bytes before at [] h = refl
 context_readable bytes before at (Err bad ∷ results) h = absurd (cc)
 context_readable bytes before at (Ok item ∷ results) h =
-    ap (λ (rs : Results). Ok item ∷ rs) (context_readable bytes (before ++ target_of item ∷ []) (at + spelled_size item) results (or_else-none _ _ h).1)
+    ap (λ (rs : Results). Ok item ∷ rs) (context_readable bytes (before ++ target_of item ∷ []) (at + spelled_size item) results (option_or-none _ _ h).1)
 
 pub walk_stands : (bytes : List ℕ) (kind : StringKind) (targets : List Target) (at : ℕ) (results : Results)
     → walk_fault bytes kind targets at results ≡ None → ItemsStand bytes kind targets (items_given results)
 walk_stands bytes kind targets at [] h = tt
 walk_stands bytes kind targets at (Err bad ∷ results) h = absurd (cc)
 walk_stands bytes kind targets at (Ok item ∷ results) h =
-    (item_stands bytes kind targets item at (or_else-none _ _ h).0, walk_stands bytes kind targets (at + spelled_size item) results (or_else-none _ _ h).1)
+    (item_stands bytes kind targets item at (option_or-none _ _ h).0, walk_stands bytes kind targets (at + spelled_size item) results (option_or-none _ _ h).1)
 
 pub context_stands : (bytes : List ℕ) (before : List Target) (at : ℕ) (results : Results)
     → context_fault bytes before at results ≡ None → ContextStands bytes before (items_given results)
 context_stands bytes before at [] h = tt
 context_stands bytes before at (Err bad ∷ results) h = absurd (cc)
 context_stands bytes before at (Ok item ∷ results) h =
-    (item_stands bytes of.Context before item at (or_else-none _ _ h).0, context_stands bytes (before ++ target_of item ∷ []) (at + spelled_size item) results (or_else-none _ _ h).1)
+    (item_stands bytes of.Context before item at (option_or-none _ _ h).0, context_stands bytes (before ++ target_of item ∷ []) (at + spelled_size item) results (option_or-none _ _ h).1)
 
 -- an item that may stand in a store is an element, spelled so
 pub element_again : (item : UnitItem) → may_stand of.Store item ≡ true → IsSpellable item

@@ -1,13 +1,14 @@
 -- Records one after the other with a running total, as a loop does them.
 use Rattle.std.proofs.Common.{◌≡◌, ℕ, suc, ◌+◌, ◌*◌, ◌-◌, ◌<◌, Option, None, Some, sym, ◌∙◌, ap, arith}
+use Rattle.std.specs.Option.{option_or}
 use Rattle.kmx_verifier.specs.declared.faults.Fault.{Fault}
 use Rattle.kmx_verifier.specs.declared.faults.VerifyError.{VerifyError}
 use Rattle.kmx_verifier.specs.declared.faults.VerifyError.TheVariants.{Refused, Memory}
-use Rattle.kmx_verifier.specs.FaultOf.{or_else, IsRefusal}
+use Rattle.kmx_verifier.specs.FaultOf.{IsRefusal}
 
 -- one record more, which has no fault
 pub total_more : (fault : ℕ → ℕ → Option Fault) (counted : ℕ → ℕ) (size : ℕ) (faults : ℕ → ℕ → ℕ → Option Fault)
-    → ((before place count : ℕ) → faults before place (suc count) ≡ or_else (fault before place) (faults (before + counted place) (place + size) count))
+    → ((before place count : ℕ) → faults before place (suc count) ≡ option_or (fault before place) (faults (before + counted place) (place + size) count))
     → (before place count i : ℕ) (answer : Option Fault)
     → i < count → fault before (place + size * i) ≡ None
     → faults before (place + size * i) (count - i) ≡ answer
@@ -18,13 +19,13 @@ total_more fault counted size faults unfolds before place count i answer below n
     let here : ℕ = place + size * i in
     let step : faults before here (count - i) ≡ faults (before + counted here) (place + size * (i + 1)) (count - (i + 1)) =
     ap (faults before here) next ∙ unfolds before here (count - (i + 1))
-    ∙ ap (λ f. or_else f (faults (before + counted here) (here + size) (count - (i + 1)))) none
+    ∙ ap (λ f. option_or f (faults (before + counted here) (here + size) (count - (i + 1)))) none
     ∙ ap (λ p. faults (before + counted here) p (count - (i + 1))) behind in
     sym step ∙ so_far
 
 -- one record that has a fault
 pub total_stops : (fault : ℕ → ℕ → Option Fault) (counted : ℕ → ℕ) (size : ℕ) (faults : ℕ → ℕ → ℕ → Option Fault)
-    → ((before place count : ℕ) → faults before place (suc count) ≡ or_else (fault before place) (faults (before + counted place) (place + size) count))
+    → ((before place count : ℕ) → faults before place (suc count) ≡ option_or (fault before place) (faults (before + counted place) (place + size) count))
     → (before place count i : ℕ) (answer : Option Fault) (found : Fault)
     → i < count → fault before (place + size * i) ≡ Some found
     → faults before (place + size * i) (count - i) ≡ answer
@@ -33,11 +34,11 @@ total_stops fault counted size faults unfolds before place count i answer found 
     let next : count - i ≡ suc (count - (i + 1)) = omega arith in
     let here : ℕ = place + size * i in
     sym so_far ∙ ap (faults before here) next ∙ unfolds before here (count - (i + 1))
-    ∙ ap (λ f. or_else f (faults (before + counted here) (here + size) (count - (i + 1)))) is
+    ∙ ap (λ f. option_or f (faults (before + counted here) (here + size) (count - (i + 1)))) is
 
 -- the same of an error
 pub refusal_stops : (fault : ℕ → ℕ → Option Fault) (counted : ℕ → ℕ) (size : ℕ) (faults : ℕ → ℕ → ℕ → Option Fault)
-    → ((before place count : ℕ) → faults before place (suc count) ≡ or_else (fault before place) (faults (before + counted place) (place + size) count))
+    → ((before place count : ℕ) → faults before place (suc count) ≡ option_or (fault before place) (faults (before + counted place) (place + size) count))
     → (before place count i : ℕ) (answer : Option Fault) (error : VerifyError)
     → i < count → IsRefusal error (λ found. fault before (place + size * i) ≡ Some found)
     → faults before (place + size * i) (count - i) ≡ answer

@@ -1,21 +1,19 @@
 -- A walk over the items of a string, as a loop does it.
 use Rattle.std.proofs.Common.{◌≡◌, ℕ, ◌+◌, ◌/◌, ◌<◌, ◌≤◌, List, [], ◌∷◌, length, Option, None, refl, sym, ◌∙◌, ap, arith, append-nil}
-use Rattle.std.specs.Prelude.{Result, Ok}
+use Rattle.std.specs.Prelude.{Ok}
 use Rattle.std.specs.List.{All}
+use Rattle.std.specs.Option.{option_or}
 use Rattle.kmn_base.specs.declared.units.UnitItem.{UnitItem}
-use Rattle.kmn_base.specs.declared.units.BadUnits.{BadUnits}
 use Rattle.kmn_base.specs.Spelling.{unit_bytes}
 use Rattle.kmn_base.proofs.UnitBytes.{length-unit_bytes}
 use Rattle.kmn_base.proofs.Spelling.{spellings_are_short}
 use Rattle.kmx_format.specs.Walk.{spelled_size, items_given, results_of}
 use Rattle.kmx_format.proofs.ItemSizes.{sizes, sizes_within}
+use Rattle.kmx_format.proofs.Results.{Results}
 use Rattle.kmx_verifier.specs.declared.faults.Fault.{Fault}
 use Rattle.kmx_verifier.specs.declared.faults.StringKind.{StringKind}
 use Rattle.kmx_verifier.specs.declared.faults.Target.{Target}
-use Rattle.kmx_verifier.specs.FaultOf.{or_else, item_fault, walk_fault}
-
-abbrev pub Results : Type 0
-Results = List (Result UnitItem BadUnits)
+use Rattle.kmx_verifier.specs.FaultOf.{item_fault, walk_fault}
 
 -- a walk from a place on, after so many items, whose answer is that of the whole walk
 pub record WalksOn (bytes : List ℕ) (kind : StringKind) (targets : List Target) (answer : Option Fault) (total end at count : ℕ) (results : Results) : Type 0 where
@@ -36,7 +34,7 @@ pub walks_on : (bytes : List ℕ) (kind : StringKind) (targets : List Target) (a
     → WalksOn bytes kind targets answer total end at count (Ok item ∷ results)
     → WalksOn bytes kind targets answer total end (at + spelled_size item) (count + 1) results
 walks_on bytes kind targets answer total end at count item results none h = record {
-  fault = sym (ap (λ fault. or_else fault (walk_fault bytes kind targets (at + spelled_size item) results)) none) ∙ h.fault;
+  fault = sym (ap (λ fault. option_or fault (walk_fault bytes kind targets (at + spelled_size item) results)) none) ∙ h.fault;
   counted = omega (arith, h.counted);
   room = omega (arith, h.room);
   few = omega (arith, h.few, (spellings_are_short item).0);

@@ -5,7 +5,7 @@ use Rattle.std.specs.List.{All, flat_map, list_any}
 use Rattle.std.specs.Str.{chars}
 use Rattle.std.proofs.lemmas.Bool.{or_right, le-ltb}
 use Rattle.std.proofs.lemmas.List.{length-map}
-use Rattle.std.proofs.lemmas.List.Elements.{All-nil, All-cons, All-head, All-tail, All-map}
+use Rattle.std.proofs.lemmas.List.Elements.{All-nil, All-head, All-tail, All-map}
 use Rattle.kmn_base.specs.declared.codes.Code.TheVariants.{V10, V15}
 use Rattle.kmn_base.specs.declared.items.Element.{Element}
 use Rattle.kmn_base.specs.declared.items.Element.TheVariants as element
@@ -13,6 +13,7 @@ use Rattle.kmn_base.specs.declared.limits.TheConstants.{FILE_NAME_UNITS, CONTEXT
 use Rattle.kmn_base.specs.declared.units.UnitItem.{UnitItem}
 use Rattle.kmn_base.specs.Spelling.{char_units, IsSpellable, unit_bytes, whole_units}
 use Rattle.kmn_base.proofs.UnitBytes.{whole_units-unit_bytes}
+use Rattle.kmn_base.proofs.Elements.{All-append_parts}
 use Rattle.kmx_format.specs.Walk.{results_of}
 use Rattle.kmx_format.proofs.Results.{spelled_gives_its_items}
 use Rattle.rule_model.specs.declared.tables.Pat.{Pat}
@@ -254,12 +255,6 @@ element_stands bytes (element.Key flags code) = record { stands = refl; named = 
 
 -- ---- whole contents
 
-pub parted : {X : Type 0} (P : X → Type 0) (xs ys : List X) → All P (xs ++ ys) → All P xs × All P ys
-parted P [] ys h = (All-nil P, h)
-parted P (x ∷ xs) ys h =
-    let others = parted P xs ys (All-tail P x (xs ++ ys) h) in
-    (All-cons P x xs (All-head P x (xs ++ ys) h) others.0, others.1)
-
 pub elements_stand : (bytes : List ℕ) (elements : List Element) → ItemsStand bytes of.Store [] (map unit_item_of_element elements)
 elements_stand bytes [] = tt
 elements_stand bytes (e ∷ elements) = (element_stands bytes e, elements_stand bytes elements)
@@ -269,8 +264,8 @@ pub outputs_stand : (bytes : List ℕ) (context : List Pat) (outputs : List Out)
     → ItemsStand bytes of.Output (targets_of context) (map unit_item_of_output outputs)
 outputs_stand bytes context [] s g y h = tt
 outputs_stand bytes context (o ∷ outputs) s g y h =
-    let stores = parted (λ store. store < store_count bytes) (stores_of_output o) (flat_map stores_of_output outputs) s in
-    let groups = parted (λ group. group < group_count bytes) (groups_of_output o) (flat_map groups_of_output outputs) g in (
+    let stores = All-append_parts (λ store. store < store_count bytes) (stores_of_output o) (flat_map stores_of_output outputs) s in
+    let groups = All-append_parts (λ group. group < group_count bytes) (groups_of_output o) (flat_map groups_of_output outputs) g in (
       record {
         stands = output_stands o ∙ All-head (λ q. sets_system_id q ≡ true) o outputs y;
         named = output_names (store_count bytes) (group_count bytes) o stores.0 groups.0;
@@ -284,8 +279,8 @@ pub match_stands : (bytes : List ℕ) (outputs : List Out) → All (λ store. st
     → ItemsStand bytes of.Match [] (map unit_item_of_output outputs)
 match_stands bytes [] s g y h = tt
 match_stands bytes (o ∷ outputs) s g y h =
-    let stores = parted (λ store. store < store_count bytes) (stores_of_output o) (flat_map stores_of_output outputs) s in
-    let groups = parted (λ group. group < group_count bytes) (groups_of_output o) (flat_map groups_of_output outputs) g in
+    let stores = All-append_parts (λ store. store < store_count bytes) (stores_of_output o) (flat_map stores_of_output outputs) s in
+    let groups = All-append_parts (λ group. group < group_count bytes) (groups_of_output o) (flat_map groups_of_output outputs) g in
     let alone : needs_context o ≡ false = All-head (λ q. needs_context q ≡ false) o outputs h in (
       record {
         stands = stands_alone o ∙ ap₂ (λ needs sets. not needs && sets) alone (All-head (λ q. sets_system_id q ≡ true) o outputs y);
@@ -300,7 +295,7 @@ context_stands_behind : (bytes : List ℕ) (before context : List Pat) → ((pla
     → ContextStands bytes (targets_of before) (map unit_item_of_pattern context)
 context_stands_behind bytes before [] h s y = tt
 context_stands_behind bytes before (p ∷ context) h s y =
-    let stores = parted (λ store. store < store_count bytes) (stores_of_pattern p) (flat_map stores_of_pattern context) s in
+    let stores = All-append_parts (λ store. store < store_count bytes) (stores_of_pattern p) (flat_map stores_of_pattern context) s in
     let back : PointsBack before p = subst (λ (b : List Pat). PointsBack b p) (append-nil before) (h 0 p (omega arith)) in
     let behind : (place : ℕ) (d : Pat) → place < length context → PointsBack ((before ++ p ∷ []) ++ take place context) (slice_index_or context place d) =
     λ place d below. subst (λ (b : List Pat). PointsBack b (slice_index_or context place d)) (sym (append_assoc before (p ∷ []) (take place context))) (h (suc place) d (omega (arith, below))) in (

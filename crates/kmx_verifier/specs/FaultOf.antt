@@ -1,6 +1,7 @@
 -- The first fault of a file, step by step.
 use Rattle.std.specs.Prelude.{◌≡◌, ℕ, zero, suc, ◌+◌, ◌*◌, Bool, nat_eq, nat_lt, bit_and, ◌&&◌, ◌||◌, not, if◌then◌else◌, List, [], ◌∷◌, ◌++◌, length, map, Option, Some, None, Result, Ok, Err}
 use Rattle.std.specs.List.{list_any}
+use Rattle.std.specs.Option.{option_or}
 use Rattle.kmn_base.specs.declared.codes.Code.{Code}
 use Rattle.kmn_base.specs.declared.codes.Code.TheVariants.{V01, V02, V03, V04, V05, V06, V07, V08, V09, V10, V11, V12, V13, V14, V15, V16}
 use Rattle.kmn_base.specs.declared.limits.TheConstants.{FILE_NAME_UNITS, STORE_ELEMENTS, CONTEXT_ITEMS, OUTPUT_ITEMS, STORES, GROUPS, RECORDS, ALL_ELEMENTS, PICTURE_BYTES, FILE_BYTES}
@@ -34,15 +35,10 @@ broken code at condition = if condition then Some (record { code = code; at = at
 abbrev pub broken_by : ℕ → ℕ → Bool → Option Fault
 broken_by unit at condition = if condition then Some (record { code = V14; at = at; unit = unit }) else None
 
--- a fault, or where there is none what comes after it
-abbrev pub or_else : Option Fault → Option Fault → Option Fault
-or_else None after = after
-or_else (Some fault) after = Some fault
-
 -- the first fault that steps find
 abbrev pub first_fault : List (Option Fault) → Option Fault
 first_fault [] = None
-first_fault (step ∷ steps) = or_else step (first_fault steps)
+first_fault (step ∷ steps) = option_or step (first_fault steps)
 
 -- an item names a store or a group whose number, which counts from 1, passes the count
 abbrev pub names_outside : List ℕ → UnitItem → Bool
@@ -67,14 +63,14 @@ abbrev pub walk_fault : List ℕ → StringKind → List Target → ℕ → List
 walk_fault bytes kind targets at [] = None
 walk_fault bytes kind targets at (Err bad ∷ results) = Some (spelling_fault at bad.kind bad.code)
 walk_fault bytes kind targets at (Ok item ∷ results) =
-    or_else (item_fault bytes kind targets item at) (walk_fault bytes kind targets (at + spelled_size item) results)
+    option_or (item_fault bytes kind targets item at) (walk_fault bytes kind targets (at + spelled_size item) results)
 
 -- the items of a context, where offsets point at the items before
 abbrev pub context_fault : List ℕ → List Target → ℕ → List (Result UnitItem BadUnits) → Option Fault
 context_fault bytes before at [] = None
 context_fault bytes before at (Err bad ∷ results) = Some (spelling_fault at bad.kind bad.code)
 context_fault bytes before at (Ok item ∷ results) =
-    or_else (item_fault bytes Context before item at) (context_fault bytes (before ++ target_of item ∷ []) (at + spelled_size item) results)
+    option_or (item_fault bytes Context before item at) (context_fault bytes (before ++ target_of item ∷ []) (at + spelled_size item) results)
 
 -- what the walk over the string at an offset gives
 abbrev pub read_at : List ℕ → ℕ → List (Result UnitItem BadUnits)
@@ -87,23 +83,23 @@ item_count bytes offset = length (items_of (string_at bytes offset))
 -- a string whose offset stands at a place: V10 where it is outside the file or unended, then its items
 abbrev pub read_fault : List ℕ → StringKind → List Target → ℕ → Option Fault
 read_fault bytes kind targets place =
-    or_else (broken V10 place (not (is_ended bytes (word_at bytes place))))
+    option_or (broken V10 place (not (is_ended bytes (word_at bytes place))))
     (walk_fault bytes kind targets (word_at bytes place) (read_at bytes (word_at bytes place)))
 
 -- the same, and then V15 where the items are too many
 abbrev pub string_fault : List ℕ → StringKind → List Target → ℕ → (ℕ → Bool) → Option Fault
 string_fault bytes kind targets place too_many =
-    or_else (read_fault bytes kind targets place) (broken V15 place (too_many (item_count bytes (word_at bytes place))))
+    option_or (read_fault bytes kind targets place) (broken V15 place (too_many (item_count bytes (word_at bytes place))))
 
 -- the same of a context, where offsets point at the items before
 abbrev pub read_context_fault : List ℕ → ℕ → Option Fault
 read_context_fault bytes place =
-    or_else (broken V10 place (not (is_ended bytes (word_at bytes place))))
+    option_or (broken V10 place (not (is_ended bytes (word_at bytes place))))
     (context_fault bytes [] (word_at bytes place) (read_at bytes (word_at bytes place)))
 
 abbrev pub context_string_fault : List ℕ → ℕ → Option Fault
 context_string_fault bytes place =
-    or_else (read_context_fault bytes place) (broken V15 place (nat_lt CONTEXT_ITEMS (item_count bytes (word_at bytes place))))
+    option_or (read_context_fault bytes place) (broken V15 place (nat_lt CONTEXT_ITEMS (item_count bytes (word_at bytes place))))
 
 -- a name is only counted
 abbrev pub name_fault : List ℕ → ℕ → Option Fault
@@ -130,7 +126,7 @@ elements_in bytes place = item_count bytes (word_at bytes (place + STORE_ELEMENT
 -- each store in order, with the count of elements before it
 abbrev pub stores_fault : List ℕ → ℕ → ℕ → ℕ → Option Fault
 stores_fault bytes before place zero = None
-stores_fault bytes before place (suc count) = or_else (store_fault bytes before place) (stores_fault bytes (before + elements_in bytes place) (place + STORE_BYTES) count)
+stores_fault bytes before place (suc count) = option_or (store_fault bytes before place) (stores_fault bytes (before + elements_in bytes place) (place + STORE_BYTES) count)
 
 -- what offsets into the context of a record can point at
 abbrev pub context_targets : List ℕ → ℕ → List Target
@@ -152,7 +148,7 @@ record_fault bytes using_keys place = first_fault (
 -- each record in order
 abbrev pub records_fault : List ℕ → Bool → ℕ → ℕ → Option Fault
 records_fault bytes using_keys place zero = None
-records_fault bytes using_keys place (suc count) = or_else (record_fault bytes using_keys place) (records_fault bytes using_keys (place + RULE_BYTES) count)
+records_fault bytes using_keys place (suc count) = option_or (record_fault bytes using_keys place) (records_fault bytes using_keys (place + RULE_BYTES) count)
 
 -- where a group's records stand: V15 where they pass the limit with those before them, V09 where they aren't in the file
 abbrev pub records_place_fault : List ℕ → ℕ → ℕ → Option Fault
@@ -180,7 +176,7 @@ group_fault bytes before place = first_fault (
 -- each group in order, with the count of records before it
 abbrev pub groups_fault : List ℕ → ℕ → ℕ → ℕ → Option Fault
 groups_fault bytes before place zero = None
-groups_fault bytes before place (suc count) = or_else (group_fault bytes before place) (groups_fault bytes (before + word_at bytes (place + GROUP_RULE_COUNT_AT)) (place + GROUP_BYTES) count)
+groups_fault bytes before place (suc count) = option_or (group_fault bytes before place) (groups_fault bytes (before + word_at bytes (place + GROUP_RULE_COUNT_AT)) (place + GROUP_BYTES) count)
 
 -- no group: the number that the header has where there is no start group
 abbrev pub no_group : ℕ

@@ -1,6 +1,7 @@
 -- Nothing of the source of a load is refused.
 use Rattle.std.proofs.Common.{◌≡◌, ℕ, zero, suc, ◌+◌, ◌≤◌, nat_lt, Bool, true, false, if◌then◌else◌, List, [], ◌∷◌, ◌++◌, Option, Some, None, Result, Ok, refl, ap, sym, ◌∙◌, arith}
 use Rattle.std.proofs.lemmas.Bool.Decides.{nat_tests}
+use Rattle.std.specs.Option.{option_or}
 use Rattle.kmn_base.specs.Answers.{and_then}
 use Rattle.kmn_base.specs.Names.{same_name}
 use Rattle.kmn_base.specs.declared.codes.Code.TheVariants.{C22}
@@ -12,7 +13,7 @@ use Rattle.rule_model.specs.declared.program.RuleDef.{RuleDef}
 use Rattle.kmn_parser.specs.Source.{parsed}
 use Rattle.kmn_parser.specs.Programs.{program_text}
 use Rattle.kmn_parser.proofs.Programs.{programs_read_back}
-use Rattle.kmn_names.specs.First.{at_line, earlier, first_of, or_else, or_refusal}
+use Rattle.kmn_names.specs.First.{at_line, earlier, first_of, or_refusal}
 use Rattle.kmn_names.specs.Names.{is_named, names_refusal, rule_refusal, stated}
 use Rattle.kmn_names.specs.declared.stating.Stated.{Stated}
 use Rattle.kmn_names.specs.Known.{Known, known}
@@ -96,7 +97,7 @@ no_limit_passed n within =
 
 pub nothing_refused : (n : ℕ) → n ≤ 2000 → refused (load_program n) ≡ None
 unfolding refused
-nothing_refused n within = λ j. or_else (no_name_refused n j) (or_else (no_item_refused n j) (no_limit_passed n within j))
+nothing_refused n within = λ j. option_or (no_name_refused n j) (option_or (no_item_refused n j) (no_limit_passed n within j))
 
 pub program_parsed : (n : ℕ) → n ≤ 2000 → parsed (program_text (load_program n)) ≡ Ok (load_program n)
 program_parsed n within = programs_read_back (load_program n) (program_spelled n within)

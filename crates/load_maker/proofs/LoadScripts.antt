@@ -3,6 +3,7 @@ use Rattle.std.proofs.Common.{◌≡◌, ℕ, zero, suc, ◌+◌, ◌*◌, ◌<�
 use Rattle.std.proofs.lemmas.Bool.Decides.{nat_tests}
 use Rattle.std.specs.Str.{IsAscii}
 use Rattle.std.proofs.lemmas.Str.{IsUtf8-from_ascii}
+use Rattle.std.proofs.lemmas.Str.Ascii.{IsAscii-cons}
 use Rattle.kmn_base.specs.Names.{same_name}
 use Rattle.kmn_base.specs.Texts.{without_mark}
 use Rattle.kmn_base.specs.declared.events.Event.{Event}
@@ -86,30 +87,26 @@ all_read s line (suc count) within =
 ascii_nil : IsAscii []
 ascii_nil i = omega arith
 
-ascii_cons : (b : ℕ) (bytes : List ℕ) → b < 128 → IsAscii bytes → IsAscii (b ∷ bytes)
-ascii_cons b bytes less rest zero = less
-ascii_cons b bytes less rest (suc i) = rest i
-
 lines_ascii : (count : ℕ) → IsAscii (lines_of count)
 lines_ascii zero =
-    ascii_cons 91 (75 ∷ 95 ∷ 83 ∷ 80 ∷ 65 ∷ 67 ∷ 69 ∷ 93 ∷ 10 ∷ []) (omega arith)
-    (ascii_cons 75 (95 ∷ 83 ∷ 80 ∷ 65 ∷ 67 ∷ 69 ∷ 93 ∷ 10 ∷ []) (omega arith)
-    (ascii_cons 95 (83 ∷ 80 ∷ 65 ∷ 67 ∷ 69 ∷ 93 ∷ 10 ∷ []) (omega arith)
-    (ascii_cons 83 (80 ∷ 65 ∷ 67 ∷ 69 ∷ 93 ∷ 10 ∷ []) (omega arith)
-    (ascii_cons 80 (65 ∷ 67 ∷ 69 ∷ 93 ∷ 10 ∷ []) (omega arith)
-    (ascii_cons 65 (67 ∷ 69 ∷ 93 ∷ 10 ∷ []) (omega arith)
-    (ascii_cons 67 (69 ∷ 93 ∷ 10 ∷ []) (omega arith)
-    (ascii_cons 69 (93 ∷ 10 ∷ []) (omega arith)
-    (ascii_cons 93 (10 ∷ []) (omega arith)
-    (ascii_cons 10 ([]) (omega arith)
+    IsAscii-cons 91 (75 ∷ 95 ∷ 83 ∷ 80 ∷ 65 ∷ 67 ∷ 69 ∷ 93 ∷ 10 ∷ []) (omega arith)
+    (IsAscii-cons 75 (95 ∷ 83 ∷ 80 ∷ 65 ∷ 67 ∷ 69 ∷ 93 ∷ 10 ∷ []) (omega arith)
+    (IsAscii-cons 95 (83 ∷ 80 ∷ 65 ∷ 67 ∷ 69 ∷ 93 ∷ 10 ∷ []) (omega arith)
+    (IsAscii-cons 83 (80 ∷ 65 ∷ 67 ∷ 69 ∷ 93 ∷ 10 ∷ []) (omega arith)
+    (IsAscii-cons 80 (65 ∷ 67 ∷ 69 ∷ 93 ∷ 10 ∷ []) (omega arith)
+    (IsAscii-cons 65 (67 ∷ 69 ∷ 93 ∷ 10 ∷ []) (omega arith)
+    (IsAscii-cons 67 (69 ∷ 93 ∷ 10 ∷ []) (omega arith)
+    (IsAscii-cons 69 (93 ∷ 10 ∷ []) (omega arith)
+    (IsAscii-cons 93 (10 ∷ []) (omega arith)
+    (IsAscii-cons 10 ([]) (omega arith)
     ascii_nil)))))))))
 lines_ascii (suc count) =
-    ascii_cons 91 (75 ∷ 95 ∷ 65 ∷ 93 ∷ 10 ∷ lines_of count) (omega arith)
-    (ascii_cons 75 (95 ∷ 65 ∷ 93 ∷ 10 ∷ lines_of count) (omega arith)
-    (ascii_cons 95 (65 ∷ 93 ∷ 10 ∷ lines_of count) (omega arith)
-    (ascii_cons 65 (93 ∷ 10 ∷ lines_of count) (omega arith)
-    (ascii_cons 93 (10 ∷ lines_of count) (omega arith)
-    (ascii_cons 10 (lines_of count) (omega arith)
+    IsAscii-cons 91 (75 ∷ 95 ∷ 65 ∷ 93 ∷ 10 ∷ lines_of count) (omega arith)
+    (IsAscii-cons 75 (95 ∷ 65 ∷ 93 ∷ 10 ∷ lines_of count) (omega arith)
+    (IsAscii-cons 95 (65 ∷ 93 ∷ 10 ∷ lines_of count) (omega arith)
+    (IsAscii-cons 65 (93 ∷ 10 ∷ lines_of count) (omega arith)
+    (IsAscii-cons 93 (10 ∷ lines_of count) (omega arith)
+    (IsAscii-cons 10 (lines_of count) (omega arith)
     (lines_ascii count))))))
 
 lines_length : (count : ℕ) → length (lines_of count) ≡ 6 * count + 10

@@ -9,6 +9,7 @@ use Rattle.kmn_base.specs.declared.limits.TheConstants.{EVENT_ENTRIES}
 use Rattle.kmn_base.specs.declared.keys.KeyPress.{KeyPress}
 use Rattle.kmn_base.specs.declared.events.Event.TheVariants as event
 use Rattle.kmn_base.specs.Names.{same_name}
+use Rattle.kmn_base.proofs.Elements.{AllByRecursion_at}
 use Rattle.rule_model.specs.declared.event_state.Caught.{Caught}
 use Rattle.rule_model.specs.declared.event_state.EventState.{EventState}
 use Rattle.rule_model.specs.declared.tables.Rule.{Rule}
@@ -46,19 +47,13 @@ unfolding Found
 first_among P caught [] h = λ x e. absurd (none-some x e)
 first_among P caught (rule ∷ rules) h = first_found P rule (caught rule) (first caught rules) h.0 (first_among P caught rules h.1)
 
--- what is said of each of some values is said of the one at a place
-at_place : {X : Type 0} (P : X → Type 0) (xs : List X) (k : ℕ) (x : X) → AllByRecursion P xs → slice_get xs k ≡ Some x → P x
-at_place P [] k x h e = absurd (none-some x e)
-at_place P (y ∷ xs) zero x h e = subst P (same_Some y x e) h.0
-at_place P (y ∷ xs) (suc k) x h e = at_place P xs k x h.1 e
-
 at_place_if : {X : Type 0} (P : X → Type 0) (xs : List X) (o : Option ℕ) (x : X) → AllByRecursion P xs → option_and_then (slice_get xs) o ≡ Some x → P x
 at_place_if P xs None x h e = absurd (none-some x e)
-at_place_if P xs (Some k) x h e = at_place P xs k x h e
+at_place_if P xs (Some k) x h e = AllByRecursion_at P xs k x h e
 
 at_name : (P : GroupMeaning → Type 0) (groups : List GroupMeaning) (name : Ref) (group : GroupMeaning) → AllByRecursion P groups → group_at groups name ≡ Some group → P group
 at_name P groups (Named name) group h e = at_place_if P groups (position (λ (g : GroupMeaning). same_name g.name name) groups) group h e
-at_name P groups (Numbered n) group h e = at_place P groups n group h e
+at_name P groups (Numbered n) group h e = AllByRecursion_at P groups n group h e
 at_name P groups Layer group h e = absurd (none-some group e)
 at_name P groups Platform group h e = absurd (none-some group e)
 

@@ -1,19 +1,17 @@
 -- Hits after lines were counted.
-use Rattle.std.proofs.Common.{◌≡◌, ℕ, suc, ◌+◌, ◌<◌, ◌≤◌, Bool, List, [], ◌∷◌, length, map, drop, get_or, set, refl, sym, ap, ◌∙◌, subst, arith, if◌then◌else◌, ◌⊎◌, inl, inr}
-use Rattle.std.specs.Prelude.{nat_eq, All, ◌↔◌}
-use Rattle.std.specs.List.{Contains, dedup}
-use Rattle.std.specs.List.Sorted.{IsSorted, IsStrictlyIncreasing, IsNonDecreasingBy, IsPermutation}
-use Rattle.std.specs.Ordering.{nat_cmp}
+use Rattle.std.proofs.Common.{◌≡◌, ℕ, ◌+◌, ◌<◌, ◌≤◌, Bool, List, [], ◌∷◌, length, map, drop, get_or, set, refl, sym, ap, ◌∙◌, subst, arith, if◌then◌else◌, ◌⊎◌, inl, inr}
+use Rattle.std.specs.Prelude.{All}
+use Rattle.std.specs.List.{Contains}
+use Rattle.std.specs.List.Sorted.{IsStrictlyIncreasing, IsNonDecreasingBy}
 use Rattle.std.proofs.lemmas.Bool.{cases_eq, eq-eqb, ne_eqb}
 use Rattle.std.proofs.lemmas.List.{ext_get_or, get_or-set_same, get_or-set_other, get_or-map, get_or_default, length-map, length-set, drop_all}
-use Rattle.std.proofs.Math.Seq.{drop-cons}
-use Rattle.std.proofs.lemmas.List.Sums.{sum_by-cons}
-use Rattle.std.proofs.lemmas.List.Kept.{AllPairs-from_increasing, Contains-dedup_nat, Contains-from_dedup}
-use Rattle.std.proofs.lemmas.List.Sorted.{Contains-permutation, IsPermutation-sym}
-use Rattle.std.proofs.lemmas.Map.Keys.{IsStrictlyIncreasing-dedup}
+use Rattle.std.proofs.lemmas.List.Kept.{AllPairs-from_increasing}
+use Rattle.kmn_base.specs.Rising.{times}
+use Rattle.kmn_base.proofs.RisingLines.{rising_increases, rising_has}
+use Rattle.kmn_base.proofs.Elements.{drop-next}
 use Rattle.plain_event.specs.declared.coverage.Hit.{Hit}
 use Rattle.rule_model.specs.declared.tables.Tables.{Tables}
-use Rattle.plain_event.specs.Coverage.{record_lines, hit_lines, AreLinesOf, not_chosen, once_more, times, more, with_times, with_lines}
+use Rattle.plain_event.specs.Coverage.{record_lines, lines_of_tables, hit_lines, AreLinesOf, not_chosen, once_more, more, with_times, with_lines}
 
 -- counting no line changes nothing
 more-none : (count : ℕ) → more count 0 ≡ count
@@ -28,10 +26,7 @@ with_lines-none [] = refl
 with_lines-none (hit ∷ hits) = λ i. record hit { count = more-none hit.count i } ∷ with_lines-none hits i
 
 times-next : (line : ℕ) (lines : List ℕ) (own : ℕ) → times own (line ∷ []) + times own lines ≡ times own (line ∷ lines)
-times-next line lines own =
-    let one = sum_by-cons (λ x. if nat_eq own x then 1 else 0) line [] in
-    let all = sum_by-cons (λ x. if nat_eq own x then 1 else 0) line lines in
-    omega (arith, one, all)
+times-next line lines own = omega arith
 
 pub with_lines-next : (line : ℕ) (lines : List ℕ) (hits : List Hit) → with_lines lines (with_lines (line ∷ []) hits) ≡ with_lines (line ∷ lines) hits
 unfolding with_lines
@@ -69,14 +64,10 @@ found_line hits line place rising among before behind =
     (omega arith, λ d. grind (arith, here d, behind place d, lines_rise hits rising place k d))
 
 times-other : (line own : ℕ) → (own ≡ line → ⊥) → times own (line ∷ []) ≡ 0
-times-other line own other =
-    sum_by-cons (λ x. if nat_eq own x then 1 else 0) line []
-    ∙ ap (λ (b : Bool). (if b then 1 else 0) + 0) (ne_eqb own line other)
+times-other line own other = ap (λ (b : Bool). (if b then 1 else 0) + 0) (ne_eqb own line other)
 
 times-own : (line own : ℕ) → own ≡ line → times own (line ∷ []) ≡ 1
-times-own line own same =
-    sum_by-cons (λ x. if nat_eq own x then 1 else 0) line []
-    ∙ ap (λ (b : Bool). (if b then 1 else 0) + 0) (eq-eqb own line same)
+times-own line own same = ap (λ (b : Bool). (if b then 1 else 0) + 0) (eq-eqb own line same)
 
 with_times-own : (line : ℕ) (hit : Hit) → hit.line ≡ line → once_more hit ≡ with_times (line ∷ []) hit
 with_times-own line hit same = λ i. record hit { count = more hit.count (sym (times-own line hit.line same) i) }
@@ -114,21 +105,18 @@ module _ (lines : List ℕ) (hits : List Hit) (fresh : hits ≡ map not_chosen l
   fresh-lines : lines ≡ hit_lines hits
   fresh-lines = sym (ap hit_lines fresh ∙ not_chosen-lines lines)
 
-  pub fresh_rise : IsStrictlyIncreasing lines → IsStrictlyIncreasing (hit_lines hits)
-  fresh_rise rising = subst IsStrictlyIncreasing fresh-lines rising
+  module _ (tables : Tables) (are : lines ≡ lines_of_tables tables) where
+    pub fresh_are_lines : AreLinesOf tables hits
+    fresh_are_lines = sym fresh-lines ∙ are
 
-  pub fresh_are_lines : (tables : Tables) → IsStrictlyIncreasing lines → ((line : ℕ) → Contains lines line ↔ Contains (record_lines tables) line) → AreLinesOf tables hits
-  fresh_are_lines tables rising same = record { rising = fresh_rise rising; lines = subst (λ own. (line : ℕ) → Contains own line ↔ Contains (record_lines tables) line) fresh-lines same }
+    pub fresh_rise : IsStrictlyIncreasing (hit_lines hits)
+    unfolding lines_of_tables
+    fresh_rise = subst IsStrictlyIncreasing (sym fresh_are_lines) (rising_increases (record_lines tables))
 
   pub fresh_counts : All (λ (hit : Hit). hit.count ≡ 0) hits
   fresh_counts =
       subst (All (λ (hit : Hit). hit.count ≡ 0)) (sym fresh)
       (λ k d within. ap (λ (hit : Hit). hit.count) (get_or-map not_chosen lines k 0 d (omega (arith, within, length-map lines not_chosen))))
-
-next_line : (lines : List ℕ) (n : ℕ) → n < length lines → drop n lines ≡ get_or lines n 0 ∷ drop (n + 1) lines
-next_line lines n within =
-    let after : suc n ≡ n + 1 = omega arith in
-    drop-cons lines n 0 within ∙ ap (λ k. get_or lines n 0 ∷ drop k lines) after
 
 -- one more line counted
 pub with_lines-from : (lines : List ℕ) (n : ℕ) (hits next : List Hit) → n < length lines → next ≡ with_lines (get_or lines n 0 ∷ []) hits
@@ -136,18 +124,13 @@ pub with_lines-from : (lines : List ℕ) (n : ℕ) (hits next : List Hit) → n 
 with_lines-from lines n hits next within one =
     ap (with_lines (drop (n + 1) lines)) one
     ∙ (with_lines-next (get_or lines n 0) (drop (n + 1) lines) hits
-    ∙ ap (λ left. with_lines left hits) (sym (next_line lines n within)))
+    ∙ ap (λ left. with_lines left hits) (sym (drop-next lines n 0 within)))
 
 -- all lines counted
 pub counted_all : (lines : List ℕ) (n : ℕ) (hits : List Hit) → length lines ≤ n → hits ≡ with_lines (drop n lines) hits
 counted_all lines n hits over = sym (ap (λ left. with_lines left hits) (drop_all n lines over) ∙ with_lines-none hits)
 
--- lines sorted, repeats dropped
-pub rises : (lines kept : List ℕ) → IsSorted nat_cmp lines → kept ≡ dedup nat_eq lines → IsStrictlyIncreasing kept
-rises lines kept sorted same = subst IsStrictlyIncreasing (sym same) (IsStrictlyIncreasing-dedup lines sorted)
-
-pub keeps : (all put lines kept : List ℕ) → put ≡ all → IsPermutation put lines → kept ≡ dedup nat_eq lines → (line : ℕ) → Contains kept line ↔ Contains all line
-keeps all put lines kept are moved same line = (
-  λ has. subst (λ xs. Contains xs line) are (Contains-permutation lines put line (IsPermutation-sym put lines moved) (Contains-from_dedup nat_eq lines line (subst (λ xs. Contains xs line) same has))),
-  λ has. subst (λ xs. Contains xs line) (sym same) (Contains-dedup_nat lines line (Contains-permutation put lines line moved (subst (λ xs. Contains xs line) (sym are) has))),
-)
+-- a coverage of tables has each line of a record
+pub lines_are_covered : (tables : Tables) (hits : List Hit) (line : ℕ) → AreLinesOf tables hits → Contains (record_lines tables) line → Contains (hit_lines hits) line
+unfolding lines_of_tables
+lines_are_covered tables hits line are has = subst (λ (lines : List ℕ). Contains lines line) (sym are) (rising_has line (record_lines tables) has)

@@ -1,7 +1,6 @@
 -- How often each line of a record was chosen.
-use Rattle.std.specs.Prelude.{ℕ, ◌+◌, ◌-◌, ◌^◌, ◌↔◌, min, nat_eq, List, map, flat_map}
-use Rattle.std.specs.List.{Contains, count_by}
-use Rattle.std.specs.List.Sorted.{IsStrictlyIncreasing}
+use Rattle.std.specs.Prelude.{◌≡◌, ℕ, ◌+◌, ◌-◌, ◌^◌, min, List, map, flat_map}
+use Rattle.kmn_base.specs.Rising.{rising, times}
 use Rattle.rule_model.specs.declared.tables.Rule.{Rule}
 use Rattle.rule_model.specs.declared.tables.Group.{Group}
 use Rattle.rule_model.specs.declared.tables.Tables.{Tables}
@@ -14,21 +13,20 @@ rule_lines rules = map (λ (rule : Rule). rule.line) rules
 abbrev pub record_lines : Tables → List ℕ
 record_lines tables = flat_map (λ (group : Group). rule_lines group.rules) tables.groups
 
+-- each of them once, rising
+unfoldable pub lines_of_tables : Tables → List ℕ
+lines_of_tables tables = rising (record_lines tables)
+
 abbrev pub hit_lines : List Hit → List ℕ
 hit_lines hits = map (λ (hit : Hit). hit.line) hits
 
--- hits rise, and a line has one exactly where a record has that line
-pub record AreLinesOf (tables : Tables) (hits : List Hit) : Type 0 where
-  pub rising : IsStrictlyIncreasing (hit_lines hits)
-  pub lines : (line : ℕ) → Contains (hit_lines hits) line ↔ Contains (record_lines tables) line
+-- each line of a record has one hit, and they rise
+abbrev pub AreLinesOf : Tables → List Hit → Type 0
+AreLinesOf tables hits = hit_lines hits ≡ lines_of_tables tables
 
 -- a line that wasn't chosen yet
 abbrev pub not_chosen : ℕ → Hit
 not_chosen line = record { line = line; count = 0 }
-
--- how often a line stands in a list
-abbrev pub times : ℕ → List ℕ → ℕ
-times line lines = count_by (nat_eq line) lines
 
 -- a count and so many more, which stays at the end of its type
 abbrev pub more : ℕ → ℕ → ℕ

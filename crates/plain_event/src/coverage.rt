@@ -1,10 +1,10 @@
-ghost use Rattle.std.specs.Prelude.{◌≡◌, ◌<◌, ◌↔◌, ℕ, nat_lt, [], ◌∷◌, ◌++◌, All, IfOk, OnOk, length, map, slice_index_or};
+ghost use Rattle.std.specs.Prelude.{◌≡◌, ◌<◌, nat_lt, [], ◌∷◌, ◌++◌, All, IfOk, OnOk, length, map, slice_index_or};
 ghost use Rattle.std.specs.List.{Contains};
 ghost use Rattle.std.specs.List.Sorted.{IsStrictlyIncreasing};
 ghost use Rattle.plain_event.specs.declared.coverage.Hit.{Hit};
-ghost use Rattle.plain_event.specs.Coverage.{rule_lines, record_lines, hit_lines, not_chosen, once_more, with_lines, AreLinesOf};
+ghost use Rattle.plain_event.specs.Coverage.{rule_lines, record_lines, lines_of_tables, hit_lines, not_chosen, once_more, with_lines, AreLinesOf};
 
-use kmn_base::Memory;
+use kmn_base::{Memory, Seq, rising_lines};
 use rule_model::{Rule, Tables};
 use std::alloc::Global;
 use std::marker::Model;
@@ -57,14 +57,12 @@ fn record_lines(alloc: Global, tables: &Tables) -> Result<Vec<u32>, Memory>
 }
 
 /// The lines of all records, each once, rising.
-fn rising_lines(alloc: Global, tables: &Tables) -> Result<Vec<u32>, Memory>
-    ensures rising { IfOk result (λ lines. IsStrictlyIncreasing lines.items) }
-    ensures lines { IfOk result (λ lines. (line : ℕ) → Contains lines.items line ↔ Contains (record_lines tables.now) line) }
+#[tactic(auto, unfolding(crate::specs::Coverage::lines_of_tables))]
+fn lines_of_tables(alloc: Global, tables: &Tables) -> Result<Seq<u32>, Memory>
+    ensures { IfOk result (λ lines. lines ≡ lines_of_tables tables.now) }
 {
-    let mut lines = record_lines(alloc, tables)?;
-    lines.sort_unstable();
-    lines.dedup();
-    Ok(lines)
+    let lines = record_lines(alloc, tables)?;
+    rising_lines(alloc, lines.as_slice())
 }
 
 /// Lines that weren't chosen yet.
@@ -133,7 +131,7 @@ impl Coverage {
         ensures lines { IfOk result (AreLinesOf tables.now) }
         ensures counts { IfOk result (All (λ (hit : Hit). hit.count ≡ 0)) }
     {
-        let lines = rising_lines(alloc, tables)?;
+        let lines = lines_of_tables(alloc, tables)?;
         let hits = not_chosen(alloc, lines.as_slice())?;
         Ok(Coverage { hits })
     }

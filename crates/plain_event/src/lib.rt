@@ -5,13 +5,12 @@
 //! what events look up, `plain_matching`, which chooses the record that goes first, and for its laws on `kmx_format`. It is
 //! clear and not fast: a list is made anew where an item is put. `plain_event` does an event on a `PlainState`, whose values
 //! stand by store number, those of the system options behind the others; `specs/PlainStates` says what such a state means.
-//! `traced_event` does the same and tells the lines of the rules that the event chose; both are called by tests of the
-//! meaning.
+//! `traced_event` does the same and tells the lines of the rules that the event chose. Both are called by tests of the
+//! meaning alone.
 //!
 //! The layer above uses `Coverage`, which has a hit for each line that a record has and counts lines, and two laws: compiled
 //! tables choose the lines that their program chooses, and the lines that tables choose are lines of their records, as a
 //! coverage wants them. A line stands once in a coverage, though a rule with a key store has a record for each key.
-//! `trace_event`, which does what `plain_event` does and tells the lines, is called by tests of the meaning.
 #![tactic(auto)]
 
 mod coverage;
@@ -24,11 +23,9 @@ mod left;
 mod outputs;
 mod state;
 mod texts;
-mod tracing;
 mod values;
 
 pub use coverage::{Coverage, Hit};
 pub use events::{Traced, plain_event, traced_event};
 pub use law::{chosen_lines_are_lines, compiling_keeps_choice};
 pub use state::PlainState;
-pub use tracing::trace_event;

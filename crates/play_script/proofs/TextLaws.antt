@@ -1,5 +1,5 @@
 -- The first line of a text, and the text of a script.
-use Rattle.std.proofs.Common.{◌≡◌, ℕ, ◌+◌, ◌<◌, ◌≤◌, not, Bool, nat_lt, if◌then◌else◌, Ok, Err, refl, false, true, inl, inr, List, [], ◌∷◌, length, length-drop, take, drop, suc, sym, ap, ◌∙◌, subst, arith}
+use Rattle.std.proofs.Common.{◌≡◌, ℕ, ◌+◌, ◌<◌, ◌≤◌, nat_lt, Ok, Err, false, true, inl, inr, List, [], ◌∷◌, length, length-drop, take, drop, suc, sym, ap, ◌∙◌, subst, arith}
 use Rattle.std.proofs.lemmas.Grind.{common_steps}
 use Rattle.std.proofs.lemmas.Bool.{cases_Bool, cases_lt}
 use Rattle.std.proofs.lemmas.Str.{is_utf8-from_IsUtf8, IsUtf8-from_is_utf8}
@@ -9,6 +9,7 @@ use Rattle.kmn_base.specs.Texts.{without_mark}
 use Rattle.kmn_base.specs.declared.codes.Code.TheVariants.{P01}
 use Rattle.kmn_base.specs.declared.limits.TheConstants.{TEXT_BYTES}
 use Rattle.kmn_base.specs.declared.refusals.Refusal.{Refusal}
+use Rattle.kmn_base.proofs.Tests.{second_fails, both_hold}
 use Rattle.play_script.specs.Answers.{Answers, refusal_of}
 use Rattle.play_script.specs.declared.errors.ScriptError.{ScriptError}
 use Rattle.play_script.specs.declared.errors.ScriptError.TheVariants as error
@@ -62,22 +63,12 @@ line_some text n some within = elim (cases_lt n (length text)) [
 
 pub ruleset first_steps = (first_line_first, line_some)
 
-form_kept : {A : Type 0} (over form : Bool) (long other read : A) → over ≡ false → form ≡ true → (if over then long else (if not form then other else read)) ≡ read
-form_kept true form long other read is ok = absurd (cc)
-form_kept false true long other read is ok = refl
-form_kept false false long other read is ok = absurd (cc)
-
-form_broken : {A : Type 0} (over form : Bool) (long other read : A) → over ≡ false → ¬ (form ≡ true) → (if over then long else (if not form then other else read)) ≡ other
-form_broken true form long other read is ok = absurd (cc)
-form_broken false true long other read is ok = absurd (ok refl)
-form_broken false false long other read is ok = refl
-
 -- a script that isn't too long has a text where it is UTF-8, and none else
 pub text_kept : (bytes : List ℕ) → nat_lt TEXT_BYTES (length bytes) ≡ false → IsUtf8 bytes → script_text bytes ≡ Ok (without_mark bytes)
-text_kept bytes short text = form_kept (nat_lt TEXT_BYTES (length bytes)) (is_utf8 bytes) _ _ _ short (is_utf8-from_IsUtf8 bytes text)
+text_kept bytes short text = both_hold (nat_lt TEXT_BYTES (length bytes)) (is_utf8 bytes) _ _ _ short (is_utf8-from_IsUtf8 bytes text)
 
 pub text_broken : (bytes : List ℕ) → nat_lt TEXT_BYTES (length bytes) ≡ false → ¬ (IsUtf8 bytes) → script_text bytes ≡ Err (record { line = 1; code = P01 })
-text_broken bytes short other = form_broken (nat_lt TEXT_BYTES (length bytes)) (is_utf8 bytes) _ _ _ short (λ e. other (IsUtf8-from_is_utf8 bytes e))
+text_broken bytes short other = second_fails (nat_lt TEXT_BYTES (length bytes)) (is_utf8 bytes) _ _ _ short (λ e. other (IsUtf8-from_is_utf8 bytes e))
 
 -- what has no text is refused as that
 pub text_refused : {A : Type 0} (text : Result (List ℕ) Refusal) (next : List ℕ → Result A Refusal) (error : ScriptError)

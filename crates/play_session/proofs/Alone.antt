@@ -1,11 +1,12 @@
 -- Each field answers the steps of the trace of its own events.
-use Rattle.std.proofs.Common.{◌≡◌, ◌≢◌, ℕ, zero, suc, ◌+◌, ◌<◌, Bool, true, false, eqb, cond, List, [], ◌∷◌, ◌++◌, length, set, slice_get, refl, sym, ap, ◌∙◌, inl, inr, arith}
+use Rattle.std.proofs.Common.{◌≡◌, ◌≢◌, ℕ, zero, suc, ◌+◌, Bool, true, false, eqb, cond, List, [], ◌∷◌, ◌++◌, length, slice_get, refl, sym, ap, ◌∙◌, inl, inr, arith}
 use Rattle.std.specs.Prelude.{nat_le, Option, Some, None, Result, Ok, Err}
 use Rattle.std.proofs.lemmas.Bool.Decides.{eqb_tells}
 use Rattle.std.proofs.lemmas.Option.{slice_get_within}
 use Rattle.kmn_base.specs.declared.events.Event.{Event}
 use Rattle.kmn_base.specs.declared.codes.Code.{Code}
 use Rattle.kmn_base.specs.declared.limits.TheConstants.{FIELDS}
+use Rattle.kmn_base.proofs.Elements.{slice_get-set_other, slice_get-set_same, slice_get-append_left}
 use Rattle.rule_model.specs.Act.{one_more}
 use Rattle.rule_model.specs.Event.{State, Happening, happening, event_refusal, unless_refused}
 use Rattle.rule_model.specs.Keyboard.{Keyboard}
@@ -17,26 +18,9 @@ use Rattle.play_session.specs.Alone.{HostCall, Opens, Turns, answer_to, gone_on,
 
 -- ---- lists
 
-append_left : {X : Type 0} (xs ys : List X) (k : ℕ) → k < length xs → slice_get (xs ++ ys) k ≡ slice_get xs k
-append_left [] ys k h = absurd (omega arith)
-append_left (x ∷ xs) ys zero h = refl
-append_left (x ∷ xs) ys (suc k) h = append_left xs ys k (omega arith)
-
 append_last : {X : Type 0} (xs : List X) (x : X) → slice_get (xs ++ x ∷ []) (length xs) ≡ Some x
 append_last [] x = refl
 append_last (y ∷ xs) x = append_last xs x
-
-written_there : {X : Type 0} (xs : List X) (n : ℕ) (x : X) → n < length xs → slice_get (set xs n x) n ≡ Some x
-written_there [] n x within = absurd (omega arith)
-written_there (y ∷ xs) zero x within = refl
-written_there (y ∷ xs) (suc n) x within = written_there xs n x (omega arith)
-
-pub others_stay : {X : Type 0} (xs : List X) (n k : ℕ) (x : X) → k ≢ n → slice_get (set xs n x) k ≡ slice_get xs k
-others_stay [] n k x other = refl
-others_stay (y ∷ xs) zero zero x other = absurd (other refl)
-others_stay (y ∷ xs) zero (suc k) x other = refl
-others_stay (y ∷ xs) (suc n) zero x other = refl
-others_stay (y ∷ xs) (suc n) (suc k) x other = others_stay xs n k x (λ same. other (ap suc same))
 
 -- ---- one field's steps
 
@@ -95,7 +79,7 @@ fields_begin host =
 pub opened : (host : HostState) (field : ℕ) (session : SessionState) → field_of host field ≡ Some session → field_of (with_new_field host) field ≡ Some session
 opened host zero session is = is
 opened host (suc place) session is =
-    append_left host.sessions (first_session host.tables ∷ []) place (slice_get_within host.sessions place session is) ∙ is
+    slice_get-append_left host.sessions (first_session host.tables ∷ []) place (slice_get_within host.sessions place session is) ∙ is
 
 -- so it is where there is no room for one
 opened_or_full : (host : HostState) (field : ℕ) (session : SessionState) → field_of host field ≡ Some session → (full : Bool) → field_of (cond full host (with_new_field host)) field ≡ Some session
@@ -105,7 +89,7 @@ opened_or_full host field session is false = opened host field session is
 -- a field's own event
 pub acted : (host : HostState) (field : ℕ) (session after : SessionState) → field_of host field ≡ Some session → field_of (with_field field after host) field ≡ Some after
 acted host zero session after is = cc
-acted host (suc place) session after is = written_there host.sessions place after (slice_get_within host.sessions place session is)
+acted host (suc place) session after is = slice_get-set_same host.sessions place after (slice_get_within host.sessions place session is)
 
 -- an event of another
 apart : (host : HostState) (field other : ℕ) (event : Event) (there : Option SessionState) → field ≢ other → field_of (turned other event there host) field ≡ field_of host field
@@ -113,7 +97,7 @@ apart host field other event None differ = refl
 apart host field zero event (Some session) differ = refl
 apart host zero (suc place) event (Some session) differ = refl
 apart host (suc k) (suc place) event (Some session) differ =
-    others_stay host.sessions place k (gone_on session event (answer_to session event)) (λ same. differ (ap suc same))
+    slice_get-set_other host.sessions place k (gone_on session event (answer_to session event)) (λ same. differ (ap suc same))
 
 pub fields_are_apart : FieldsAreApart
 fields_are_apart host field session [] is = is

@@ -10,10 +10,10 @@ use Rattle.engine_state.specs.declared.options.Cell.{Cell}
 use Rattle.engine_state.specs.declared.options.Held.{Held}
 use Rattle.engine_state.specs.declared.options.Held.TheVariants.{Store, Host}
 use Rattle.engine_state.specs.Cells.{cell_at, current_value, held_value, saved_value}
-use Rattle.engine_state.specs.Meaning.{option_values, stated}
+use Rattle.engine_state.specs.Meaning.{option_values}
 use Rattle.rule_model.specs.declared.tables.Tables.{Tables}
 use Rattle.rule_model.specs.Content.{content, option_number, options_before}
-use Rattle.rule_model.specs.Keyboard.{Numbered, StoreMeaning}
+use Rattle.rule_model.specs.Keyboard.{Numbered, StoreMeaning, stated}
 use Rattle.rule_model.specs.Match.{same_element, same_value}
 use Rattle.rule_model.specs.Tab.{tab}
 use Rattle.rule_model.proofs.PlainOptions.{content_of_option}

@@ -6,9 +6,10 @@ use Rattle.kmn_base.specs.declared.items.Item.TheVariants.{Char}
 use Rattle.kmn_base.specs.Lists.{characters, without_last, window, read_again, IsSound}
 use Rattle.kmn_base.proofs.Lists.{characters-append, map-characters, window_short, length-window}
 use Rattle.kmn_base.proofs.ReadingAgain.{reading_again_needs_the_window, reading_again_the_same_text}
+use Rattle.engine_state.specs.Cached.{text_with_context}
 use Rattle.rule_engine.specs.Engine.{EngineState}
 use Rattle.play_session.specs.Text.{EditorText}
-use Rattle.play_session.specs.Session.{AreTogether, stands_for, text_with_context}
+use Rattle.play_session.specs.Session.{AreTogether, stands_for}
 
 pub list_is_text_with_context : (items : List Item) → IsSound items → items ≡ text_with_context (characters items) (window items)
 list_is_text_with_context items sound =

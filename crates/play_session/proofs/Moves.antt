@@ -12,6 +12,7 @@ use Rattle.kmn_base.specs.declared.items.Element.{Element}
 use Rattle.kmn_base.specs.declared.items.Element.TheVariants.{Char}
 use Rattle.kmn_base.specs.declared.limits.TheConstants.{TEXT_CHARS}
 use Rattle.rule_model.specs.Event.{text_becomes, caret_event, edit_event, edited_text, edit_refusal, moved_caret, event_refusal, whole_text, set_option, setting_event}
+use Rattle.engine_state.specs.Cached.{text_with_context}
 use Rattle.rule_engine.specs.Engine.{EngineState, option_named, with_option, set_by_host}
 use Rattle.play_session.specs.Text.{EditorText, whole, IsAt, HasTextOf}
 use Rattle.play_session.specs.declared.error.EditError.{EditError}
@@ -21,7 +22,7 @@ use Rattle.play_session.specs.EditAnswers.{code_of as edit_code}
 use Rattle.play_session.specs.declared.session.StepError.{StepError}
 use Rattle.play_session.specs.declared.session.StepError.TheVariants as step
 use Rattle.play_session.specs.Answers.{code_of}
-use Rattle.play_session.specs.Session.{AreTogether, stands_for, text_with_context}
+use Rattle.play_session.specs.Session.{AreTogether, stands_for}
 
 -- the whole text of a session is its editor's
 pub whole_is : (engine : EngineState) (editor : EditorText) → AreTogether TEXT_CHARS engine editor → whole_text (stands_for engine editor) ≡ whole editor

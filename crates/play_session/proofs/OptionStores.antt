@@ -4,14 +4,14 @@ use Rattle.std.specs.Prelude.{slice_get, unwrap_or}
 use Rattle.std.specs.Option.{option_flatten}
 use Rattle.rule_model.specs.declared.tables.Tables.{Tables}
 use Rattle.rule_model.specs.Content.{option_number}
-use Rattle.rule_model.specs.Keyboard.{Numbered, StoreMeaning}
+use Rattle.rule_model.specs.Keyboard.{Numbered, StoreMeaning, stated}
 use Rattle.rule_model.specs.Plain.{of_options, option_numbers}
 use Rattle.rule_model.specs.Tab.{tab}
 use Rattle.rule_model.proofs.PlainOptions.{number_found, length-option_numbers}
 use Rattle.rule_matching.proofs.StoreContents as contents
 use Rattle.engine_state.specs.declared.options.Cell.{Cell}
 use Rattle.engine_state.specs.Cells.{first_cell, cell_at, current_value, saved_value}
-use Rattle.engine_state.specs.Meaning.{stated, option_values, option_saves}
+use Rattle.engine_state.specs.Meaning.{option_values, option_saves}
 use Rattle.rule_engine.specs.Engine.{EngineState}
 use Rattle.play_session.specs.declared.changes.Change.{Change}
 use Rattle.play_session.specs.Changes.{Values, options_from, option_stores, values_in, values_now, current_change, saved_change, changes_from, changes_between}

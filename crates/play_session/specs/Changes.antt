@@ -6,11 +6,11 @@ use Rattle.rule_model.specs.declared.tables.Tables.{Tables}
 use Rattle.rule_model.specs.Match.{same_value}
 use Rattle.rule_model.specs.Plain.{option_numbers}
 use Rattle.rule_model.specs.Tab.{tab}
+use Rattle.rule_model.specs.Keyboard.{stated}
 use Rattle.engine_state.specs.declared.options.Cell.{Cell}
 use Rattle.engine_state.specs.declared.options.Held.{Held}
 use Rattle.engine_state.specs.declared.options.Held.TheVariants.{Store}
 use Rattle.engine_state.specs.Cells.{current_values, saved_values}
-use Rattle.engine_state.specs.Meaning.{stated}
 use Rattle.rule_engine.specs.Engine.{EngineState}
 use Rattle.play_session.specs.declared.changes.Change.{Change}
 

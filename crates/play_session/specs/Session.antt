@@ -1,15 +1,14 @@
 -- What a session stands for, and what an event makes of it.
-use Rattle.std.specs.Prelude.{◌≡◌, ℕ, ◌*◌, ◌+◌, ◌≤◌, Bool, if◌then◌else◌, List, [], ◌++◌, length, map}
-use Rattle.kmn_base.specs.declared.items.Item.{Item}
-use Rattle.kmn_base.specs.declared.items.Item.TheVariants.{Char}
+use Rattle.std.specs.Prelude.{◌≡◌, ℕ, ◌*◌, ◌+◌, ◌≤◌, Bool, if◌then◌else◌, List, [], length}
 use Rattle.kmn_base.specs.declared.events.Event.{Event}
-use Rattle.kmn_base.specs.Lists.{characters, without_last, window, IsSound}
+use Rattle.kmn_base.specs.Lists.{characters, window, IsSound}
 use Rattle.rule_model.specs.declared.tables.Tables.{Tables}
 use Rattle.rule_model.specs.Act.{one_more}
 use Rattle.rule_model.specs.ChosenLines.{chosen}
 use Rattle.rule_model.specs.Event.{State, Happening, happening}
 use Rattle.rule_model.specs.Tab.{tab}
 use Rattle.rule_model.specs.Trace.{first_state}
+use Rattle.engine_state.specs.Cached.{text_with_context}
 use Rattle.rule_engine.specs.Engine.{EngineState}
 use Rattle.play_session.specs.Text.{EditorText}
 use Rattle.play_session.specs.declared.changes.Change.{Change}
@@ -24,10 +23,6 @@ pub record SessionState : Type 0 where
   pub inserted : List ℕ
   pub chosen : List ℕ
   pub changes : List Change
-
--- a text before the caret whose last items are these, marks among them
-abbrev pub text_with_context : List ℕ → List Item → List Item
-text_with_context text context = map Char (without_last (length (characters context)) text) ++ context
 
 -- the state that an engine and an editor stand for together: the list before the caret is the editor's text, with the
 -- engine's context at its end

@@ -1,8 +1,7 @@
 ghost use Rattle.std.specs.Prelude.{◌≡◌, ◌+◌, ◌*◌, ◌<◌, ◌≤◌, [], ◌++◌, length, Some, option_map, vec_len, vec_capacity};
 ghost use Rattle.engine_state.specs.Cells.{current_value, saved_value};
-ghost use Rattle.engine_state.specs.Meaning.{stated};
 ghost use Rattle.rule_model.specs.Content.{option_number};
-ghost use Rattle.rule_model.specs.Keyboard.{Numbered};
+ghost use Rattle.rule_model.specs.Keyboard.{Numbered, stated};
 ghost use Rattle.rule_model.specs.Match.{same_value};
 ghost use Rattle.rule_model.specs.Tab.{tab};
 ghost use Rattle.rule_matching.specs.StoreValues.{elements_in};

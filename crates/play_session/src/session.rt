@@ -118,7 +118,8 @@ impl<'a> Model for Session<'a> {
 }
 
 impl<'a> Session<'a> {
-    ghost use Rattle.play_session.specs.Session.{TellsPress, engine_of, text_with_context, first_session, happened, after_step};
+    ghost use Rattle.engine_state.specs.Cached.{text_with_context};
+    ghost use Rattle.play_session.specs.Session.{TellsPress, engine_of, first_session, happened, after_step};
     ghost use Rattle.play_session.specs.Answers.{step_of, code_of, takes_memory};
     ghost use Rattle.rule_engine.specs.Engine.{name_of};
     ghost use Rattle.play_session.specs.Printed.{value_of};

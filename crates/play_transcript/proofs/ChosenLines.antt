@@ -6,8 +6,9 @@ use Rattle.rule_model.specs.Tab.{tab}
 use Rattle.plain_event.specs.declared.coverage.Hit.{Hit}
 use Rattle.plain_event.specs.Coverage.{hit_lines, AreLinesOf}
 use Rattle.plain_event.proofs.Among.{chosen_are_lines}
+use Rattle.plain_event.proofs.Counting.{lines_are_covered}
 use Rattle.play_transcript.specs.TraceEntry.{Covers}
 
 -- lines of records are among those of a coverage
 pub lines_cover : (tables : Tables) (hits : List Hit) → AreLinesOf tables hits → Covers tables (hit_lines hits)
-lines_cover tables hits are state event = λ k d within. (are.lines (get_or (chosen (tab tables) state event) k d)).1 (chosen_are_lines tables state event k d within)
+lines_cover tables hits are state event = λ k d within. lines_are_covered tables hits (get_or (chosen (tab tables) state event) k d) are (chosen_are_lines tables state event k d within)

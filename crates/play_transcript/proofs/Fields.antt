@@ -10,13 +10,14 @@ use Rattle.kmn_base.specs.declared.events.Event.{Event}
 use Rattle.kmn_base.specs.declared.events.Event.TheVariants as event
 use Rattle.kmn_base.specs.declared.keys.KeyPress.{KeyPress}
 use Rattle.kmn_base.specs.declared.limits.TheConstants.{FIELDS}
+use Rattle.kmn_base.proofs.Elements.{slice_get-set_other}
 use Rattle.rule_model.specs.declared.tables.Tables.{Tables}
 use Rattle.rule_model.specs.Event.{event_refusal, unless_refused, whole_text}
 use Rattle.rule_model.specs.Trace.{Step}
 use Rattle.play_session.specs.Session.{SessionState, first_session, happened, after_step}
 use Rattle.play_session.specs.Host.{HostState, field_of, with_field, with_new_field}
 use Rattle.play_session.specs.Alone.{HostCall, Opens, Turns, answer_to, gone_on, with_answer, answered_from, session_after, turned, after_calls}
-use Rattle.play_session.proofs.Alone.{steps_are_those_alone, fields_begin, fields_are_apart, opened, acted, others_stay}
+use Rattle.play_session.proofs.Alone.{steps_are_those_alone, fields_begin, fields_are_apart, opened, acted}
 use Rattle.play_script.specs.declared.entries.HostEntry.{HostEntry}
 use Rattle.play_script.specs.declared.entries.HostEntry.TheVariants.{Open, Field, Preview, Act, Expect}
 use Rattle.play_transcript.specs.declared.host_playing.Play.{Play}
@@ -35,7 +36,7 @@ wider play = record play { host = with_new_field play.host; field = length play.
 apart : (host : HostState) (field other : ℕ) (session : SessionState) → field ≢ other → field_of (with_field other session host) field ≡ field_of host field
 apart host field zero session differ = refl
 apart host zero (suc place) session differ = refl
-apart host (suc k) (suc place) session differ = others_stay host.sessions place k session (λ same. differ (ap suc same))
+apart host (suc k) (suc place) session differ = slice_get-set_other host.sessions place k session (λ same. differ (ap suc same))
 
 -- it leaves as many fields, and the tables
 with_field_count : (host : HostState) (field : ℕ) (session : SessionState) → length (with_field field session host).sessions ≡ length host.sessions

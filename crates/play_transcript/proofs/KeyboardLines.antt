@@ -1,15 +1,14 @@
 -- Tables that mean one keyboard have records of the same lines.
-use Rattle.std.proofs.Common.{◌≡◌, ℕ, List, [], ◌∷◌, ◌++◌, map, Bool, Contains, refl, sym, ap, ◌∙◌, subst}
-use Rattle.std.specs.Prelude.{flat_map, ◌↔◌}
+use Rattle.std.proofs.Common.{◌≡◌, ℕ, List, [], ◌∷◌, ◌++◌, map, Bool, refl, sym, ap, ◌∙◌}
+use Rattle.std.specs.Prelude.{flat_map}
+use Rattle.kmn_base.specs.Rising.{rising}
 use Rattle.rule_model.specs.declared.tables.Group.{Group}
 use Rattle.rule_model.specs.declared.tables.Rule.{Rule}
 use Rattle.rule_model.specs.declared.tables.Store.{Store}
 use Rattle.rule_model.specs.declared.tables.Tables.{Tables}
 use Rattle.rule_model.specs.Keyboard.{RuleMeaning, GroupMeaning, Keyboard}
 use Rattle.rule_model.specs.Tab.{tab, tab_rule, tab_group}
-use Rattle.plain_event.specs.declared.coverage.Hit.{Hit}
-use Rattle.plain_event.specs.Coverage.{rule_lines, record_lines, hit_lines, AreLinesOf}
-use Rattle.play_transcript.specs.RisingLines.{rising, lines_of_tables}
+use Rattle.plain_event.specs.Coverage.{rule_lines, record_lines, lines_of_tables}
 
 abbrev lines_of_rules : List RuleMeaning → List ℕ
 lines_of_rules rules = map (λ (rule : RuleMeaning). rule.line) rules
@@ -32,15 +31,8 @@ of_tables : (tables : Tables) → lines_of_keyboard (tab tables) ≡ record_line
 unfolding tab
 of_tables tables = of_groups tables.stores tables.groups
 
-pub same_record_lines : (tables other : Tables) → tab other ≡ tab tables → record_lines other ≡ record_lines tables
+same_record_lines : (tables other : Tables) → tab other ≡ tab tables → record_lines other ≡ record_lines tables
 same_record_lines tables other is = sym (of_tables other) ∙ ap lines_of_keyboard is ∙ of_tables tables
-
--- so a coverage of the one is one of the other
-pub covers_other : (tables other : Tables) (hits : List Hit) → tab other ≡ tab tables → AreLinesOf tables hits → AreLinesOf other hits
-covers_other tables other hits is are = record {
-  rising = are.rising;
-  lines = subst (λ (lines : List ℕ). (line : ℕ) → Contains (hit_lines hits) line ↔ Contains lines line) (sym (same_record_lines tables other is)) are.lines;
-}
 
 pub same_lines_of_tables : (tables other : Tables) → tab other ≡ tab tables → lines_of_tables other ≡ lines_of_tables tables
 unfolding lines_of_tables

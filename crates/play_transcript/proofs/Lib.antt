@@ -7,5 +7,4 @@ pub mod Pieces
 pub mod ChosenLines
 pub mod Examples
 pub mod KeyboardLines
-pub mod RisingLaws
 pub mod TraceLaws

@@ -16,13 +16,12 @@ use Rattle.rule_model.specs.Tab.{tab}
 use Rattle.rule_model.specs.Trace.{Steps, trace, steps_from, step_then}
 use Rattle.rule_model.specs.Transcript.{events_of}
 use Rattle.plain_event.specs.declared.coverage.Hit.{Hit}
-use Rattle.plain_event.specs.Coverage.{with_lines, hit_lines, not_chosen, AreLinesOf}
+use Rattle.plain_event.specs.Coverage.{with_lines, lines_of_tables, hit_lines, not_chosen, AreLinesOf}
 use Rattle.plain_event.proofs.Counting.{with_lines-lines}
 use Rattle.play_session.specs.Session.{SessionState, first_session, happened, after_step}
 use Rattle.play_transcript.specs.Printing.{AppendsBut, IsBegun, Prints}
 use Rattle.play_transcript.proofs.PrintingLaws.{none_appended, appended_more, appended_all, begun_within, prints_rest}
 use Rattle.play_transcript.proofs.PlayingLaws.{happens_so}
-use Rattle.play_transcript.proofs.RisingLaws.{hits_have_lines}
 use Rattle.play_transcript.specs.declared.following.TraceCounts.{TraceCounts}
 use Rattle.play_transcript.specs.declared.following.Followed.{Followed}
 use Rattle.play_transcript.specs.declared.following.Followed.TheVariants as followed
@@ -30,7 +29,6 @@ use Rattle.play_transcript.specs.declared.following.TraceEnd.{TraceEnd}
 use Rattle.play_transcript.specs.declared.following.TraceEnd.TheVariants as ended
 use Rattle.play_transcript.specs.TraceEntry.{no_counts, text_left, end_left, event_line, entry_line, event_counted, happening_line, lines_chosen, Covers, FollowsBy, Follows}
 use Rattle.play_transcript.specs.TraceEnds.{end_after, trace_end}
-use Rattle.play_transcript.specs.RisingLines.{lines_of_tables}
 use Rattle.play_transcript.specs.TraceText.{fired_from, hits_text, trace_text_of, trace_text}
 
 -- nothing is printed where an expected text stands
@@ -63,7 +61,7 @@ pub script_begins : (session : SessionState) (hits : List Hit) (tables : Tables)
 script_begins session hits tables entries is none are =
     let whole : List ℕ = trace_text (tab tables) (lines_of_tables tables) entries in
     let all : text_left session hits no_counts entries ≡ whole = (λ i. text_left (is i) (nothing_chosen hits none i) no_counts entries) ∙ all_text tables (hit_lines hits) entries
-    ∙ ap (λ lines. trace_text (tab tables) lines entries) (hits_have_lines tables hits are) in
+    ∙ ap (λ lines. trace_text (tab tables) lines entries) are in
     record {
       number = ap (λ (s : SessionState). s.number) is;
       end = (λ i. end_left (is i) entries) ∙ all_end tables entries;

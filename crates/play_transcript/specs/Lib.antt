@@ -9,6 +9,5 @@ pub mod HostPieces
 pub mod HostText
 pub mod HostPlaying
 pub mod TraceEntry
-pub mod RisingLines
 pub mod TraceEnds
 pub mod TraceText

@@ -4,11 +4,10 @@ ghost use Rattle.rule_model.specs.Tab.{tab};
 ghost use Rattle.rule_model.specs.Trace.{trace};
 ghost use Rattle.rule_model.specs.Transcript.{events_of, refused_event_line};
 ghost use Rattle.plain_event.specs.declared.coverage.Hit.{Hit};
-ghost use Rattle.plain_event.specs.Coverage.{hit_lines, AreLinesOf};
+ghost use Rattle.plain_event.specs.Coverage.{lines_of_tables, hit_lines, AreLinesOf};
 ghost use Rattle.play_session.specs.Session.{first_session};
 ghost use Rattle.play_transcript.specs.Printing.{Prints};
 ghost use Rattle.play_transcript.specs.TraceEnds.{trace_end};
-ghost use Rattle.play_transcript.specs.RisingLines.{lines_of_tables};
 ghost use Rattle.play_transcript.specs.TraceText.{fired_line, hits_text, trace_text};
 ghost use Rattle.play_transcript.specs.TraceEntry.{no_counts, entry_line, event_line, Covers, Follows, FollowsEvent};
 

@@ -14,9 +14,8 @@
 //! makes (`specs/HostCalls`), and which pieces of the text they are (`specs/HostPieces`).
 //!
 //! For the lines of rules it starts a coverage of the same tables and calls `trace_play`: it puts the `trace_text` of the script's
-//! entries (`specs/TraceText`) and the lines of their records (`specs/RisingLines`), or a first part of it likewise, and answers
-//! `trace_end` of their trace. That keyboards which take the same steps and choose the same lines print the same is the lemma
-//! `same_text`.
+//! entries (`specs/TraceText`) and the lines of the tables' records, or a first part of it likewise, and answers `trace_end` of
+//! their trace. That keyboards which take the same steps and choose the same lines print the same is the lemma `same_text`.
 #![tactic(auto)]
 
 mod fired;

@@ -1,12 +1,13 @@
 -- The codes that are found are those of the keys among the elements of `&casedkeys`.
 use Rattle.std.proofs.Common.{◌≡◌, ℕ, zero, suc, ◌+◌, ◌<◌, ◌≤◌, Bool, true, false, cond, List, [], ◌∷◌, ◌++◌, length, map, set, replicate, Option, Some, None, refl, sym, ap, subst, ◌∙◌, arith, if◌then◌else◌, append-nil, append_assoc}
 use Rattle.std.specs.Prelude.{◌||◌, nat_eq, filter, find, flat_map, option_map, unwrap_or}
-use Rattle.std.specs.List.{list_any, filter_map}
+use Rattle.std.specs.List.{list_any}
 use Rattle.std.specs.Option.{option_or}
 use Rattle.std.proofs.lemmas.Bool.Decides.{nat_tests}
 use Rattle.std.proofs.lemmas.List.{map-append}
 use Rattle.std.proofs.lemmas.List.Elements.{filter-append, filter_map-append}
 use Rattle.std.proofs.lemmas.List.Folds.{list_any-append, find-append}
+use Rattle.std.proofs.Math.Bool.{or-false}
 use Rattle.kmn_base.specs.declared.items.Element.{Element}
 use Rattle.kmn_base.specs.Names.{same_name}
 use Rattle.rule_model.specs.Dictionary.{place_in, code_in}
@@ -17,21 +18,18 @@ use Rattle.rule_model.specs.declared.program.StoreDef.{StoreDef}
 use Rattle.rule_model.specs.declared.program.Program.{Program}
 use Rattle.rule_model.specs.declared.tables.Store.{Store}
 use Rattle.rule_model.specs.Naming.{SourceNames, names_of, stores_of, stores_onto, store_of, is_dropped, item_elements, elements_named, key_number}
-use Rattle.rule_model.specs.Src.{code_of_element, is_cased_keys, cased_keys}
+use Rattle.rule_model.specs.Src.{code_of_element, is_cased_keys, cased_keys, codes_among}
 use Rattle.rule_model.specs.Tab.{store_elements}
+use Rattle.item_checker.specs.Items.{wants_plain_keys}
 use Rattle.rule_checker.specs.declared.key_codes.KeyCodes.{KeyCodes}
 use Rattle.rule_checker.specs.declared.cased.StoreCodes.{StoreCodes}
 use Rattle.rule_checker.specs.KeyCodes.{is_table_code, has_mark, has_code, no_codes, with_code, either_marks, joined}
-use Rattle.rule_checker.specs.Cased.{codes_at, codes_named, with_item_codes, with_items_codes, with_store_codes, is_cased, codes_from, no_stores, codes_of_cased}
+use Rattle.rule_checker.specs.Cased.{codes_at, codes_named, with_item_codes, with_items_codes, with_store_codes, codes_from, no_stores, codes_of_cased}
 use Rattle.rule_model.proofs.NamePlaces.{position_cons, same_either_way}
 
 -- the codes of the key table among codes, and whether a code is one of them
 abbrev pub is_among : List ℕ → ℕ → Bool
 is_among codes code = list_any (nat_eq code) (filter is_table_code codes)
-
-or_false : (b : Bool) → (b || false) ≡ b
-or_false true = refl
-or_false false = refl
 
 or_true : (b : Bool) → true ≡ (b || true)
 or_true true = refl
@@ -55,14 +53,14 @@ no_mark (suc n) (suc code) = no_mark n code
 mark_put : (marks : List Bool) (n code : ℕ) → n < length marks → has_mark (set marks n true) code ≡ (has_mark marks code || nat_eq code n)
 mark_put [] n code h = absurd (omega arith)
 mark_put (m ∷ marks) zero zero h = or_true m
-mark_put (m ∷ marks) zero (suc code) h = sym (ap (λ b. has_mark marks code || b) (not_this code) ∙ or_false (has_mark marks code))
-mark_put (m ∷ marks) (suc n) zero h = sym (ap (λ b. m || b) (nor_this n) ∙ or_false m)
+mark_put (m ∷ marks) zero (suc code) h = sym (ap (λ b. has_mark marks code || b) (not_this code) ∙ or-false (has_mark marks code))
+mark_put (m ∷ marks) (suc n) zero h = sym (ap (λ b. m || b) (nor_this n) ∙ or-false m)
 mark_put (m ∷ marks) (suc n) (suc code) h = mark_put marks n code (omega arith) ∙ ap (λ b. has_mark marks code || b) (both_next code n)
 
 marks_joined : (marks others : List Bool) (code : ℕ) → length others ≤ length marks → has_mark (either_marks marks others) code ≡ (has_mark marks code || has_mark others code)
 marks_joined [] [] code h = refl
 marks_joined [] (o ∷ others) code h = absurd (omega arith)
-marks_joined (m ∷ marks) [] code h = sym (or_false (has_mark (m ∷ marks) code))
+marks_joined (m ∷ marks) [] code h = sym (or-false (has_mark (m ∷ marks) code))
 marks_joined (m ∷ marks) (o ∷ others) zero h = refl
 marks_joined (m ∷ marks) (o ∷ others) (suc code) h = marks_joined marks others code (omega arith)
 
@@ -134,8 +132,8 @@ code_added codes c code size = by (is_table_code c) refl
 
     by : (table : Bool) → is_table_code c ≡ table
         → has_mark (if table then set codes.marks c true else codes.marks) code ≡ (has_code codes code || list_any (nat_eq code) (cond table (c ∷ []) []))
-    by true t = mark_put codes.marks c code (below t) ∙ ap (λ b. has_code codes code || b) (sym (or_false (nat_eq code c)))
-    by false t = sym (or_false (has_code codes code))
+    by true t = mark_put codes.marks c code (below t) ∙ ap (λ b. has_code codes code || b) (sym (or-false (nat_eq code c)))
+    by false t = sym (or-false (has_code codes code))
 
 added_size : (codes : KeyCodes) (c : ℕ) → length (with_code codes c).marks ≡ length codes.marks
 added_size codes c = by (is_table_code c)
@@ -144,14 +142,10 @@ added_size codes c = by (is_table_code c)
     by true = put_size codes.marks c
     by false = refl
 
--- the codes of the keys among elements
-abbrev pub element_codes : List Element → List ℕ
-element_codes elements = filter_map code_of_element elements
-
 -- a set has the codes of the keys among elements
 pub record AreCodes (codes : KeyCodes) (elements : List Element) : Type 0 where
   pub size : length codes.marks ≡ 256
-  pub each : (code : ℕ) → has_code codes code ≡ is_among (element_codes elements) code
+  pub each : (code : ℕ) → has_code codes code ≡ is_among (codes_among elements) code
 
 none_are : AreCodes no_codes []
 unfolding no_codes
@@ -159,12 +153,12 @@ none_are = record { size = replicate_size 256; each = no_mark 256 }
 
 -- a set that has the codes of further elements too
 grown : (codes now : KeyCodes) (elements more : List Element) → AreCodes codes elements → length now.marks ≡ length codes.marks
-    → ((code : ℕ) → has_code now code ≡ (has_code codes code || is_among (element_codes more) code)) → AreCodes now (elements ++ more)
+    → ((code : ℕ) → has_code now code ≡ (has_code codes code || is_among (codes_among more) code)) → AreCodes now (elements ++ more)
 grown codes now elements more are size each = record {
   size = size ∙ are.size;
   each = λ code.
-      each code ∙ ap (λ b. b || is_among (element_codes more) code) (are.each code)
-      ∙ sym (ap (λ cs. is_among cs code) (filter_map-append code_of_element elements more) ∙ among_more (element_codes elements) (element_codes more) code);
+      each code ∙ ap (λ b. b || is_among (codes_among more) code) (are.each code)
+      ∙ sym (ap (λ cs. is_among cs code) (filter_map-append code_of_element elements more) ∙ among_more (codes_among elements) (codes_among more) code);
 }
 
 -- the sets of stores
@@ -208,7 +202,7 @@ named_codes before stores name are =
 
 -- one item more, and all items of a store
 nothing_more : (codes : KeyCodes) (code : ℕ) → has_code codes code ≡ (has_code codes code || false)
-nothing_more codes code = sym (or_false (has_code codes code))
+nothing_more codes code = sym (or-false (has_code codes code))
 
 item_codes : (names : SourceNames) (before : StoreCodes) (stores : List Store) → AreStoreCodes before stores → (codes : KeyCodes) (elements : List Element) (item : SrcItem)
     → AreCodes codes elements → AreCodes (with_item_codes before codes item) (elements ++ item_elements names stores item)
@@ -268,7 +262,7 @@ none_found (s ∷ stores) none = by (is_cased_keys s) none (none_found stores)
     by true h rest = absurd (cc)
     by false h rest = rest h
 
-still_none : (names : SourceNames) (stores : List Store) (store : StoreDef) → list_any is_cased_keys stores ≡ false → is_cased store ≡ false → list_any is_cased_keys (stores_with names stores store) ≡ false
+still_none : (names : SourceNames) (stores : List Store) (store : StoreDef) → list_any is_cased_keys stores ≡ false → wants_plain_keys store ≡ false → list_any is_cased_keys (stores_with names stores store) ≡ false
 still_none names stores store none other = by (is_dropped store)
   where
     by : (dropped : Bool) → list_any is_cased_keys (if dropped then stores else stores ++ store_of names stores store ∷ []) ≡ false
@@ -276,10 +270,10 @@ still_none names stores store none other = by (is_dropped store)
     by false = list_any-append is_cased_keys stores (store_of names stores store ∷ []) ∙ (λ j. none j || (other j || false))
 
 -- a statement of `&casedkeys` is a store
-kept : (store : StoreDef) → is_cased store ≡ true → is_dropped store ≡ false
+kept : (store : StoreDef) → wants_plain_keys store ≡ true → is_dropped store ≡ false
 kept store here = grind (arith, nat_tests)
 
-found_here : (names : SourceNames) (stores : List Store) (store : StoreDef) → list_any is_cased_keys stores ≡ false → is_cased store ≡ true
+found_here : (names : SourceNames) (stores : List Store) (store : StoreDef) → list_any is_cased_keys stores ≡ false → wants_plain_keys store ≡ true
     → find is_cased_keys (stores_with names stores store) ≡ Some (store_of names stores store)
 found_here names stores store none here =
     ap (λ b. find is_cased_keys (if b then stores else stores ++ store_of names stores store ∷ [])) (kept store here)
@@ -291,9 +285,9 @@ codes_from_are : (names : SourceNames) (before : StoreCodes) (stores : List Stor
     → AreCodes (codes_from before defs) (store_elements (find is_cased_keys (stores_onto names stores defs)))
 codes_from_are names before stores [] named none = subst (λ (o : Option Store). AreCodes no_codes (store_elements o)) (sym (none_found stores none)) none_are
 codes_from_are names before stores (store ∷ defs) named none =
-    by (is_cased store) refl (codes_from_are names (with_store_codes before store) (stores_with names stores store) defs (next_codes names before stores store named))
+    by (wants_plain_keys store) refl (codes_from_are names (with_store_codes before store) (stores_with names stores store) defs (next_codes names before stores store named))
   where
-    by : (here : Bool) → is_cased store ≡ here
+    by : (here : Bool) → wants_plain_keys store ≡ here
         → (list_any is_cased_keys (stores_with names stores store) ≡ false → AreCodes (codes_from (with_store_codes before store) defs) (store_elements (find is_cased_keys (stores_onto names stores (store ∷ defs)))))
         → AreCodes (if here then with_items_codes before no_codes store.items else codes_from (with_store_codes before store) defs) (store_elements (find is_cased_keys (stores_onto names stores (store ∷ defs))))
     by true here rest =
@@ -302,11 +296,11 @@ codes_from_are names before stores (store ∷ defs) named none =
         (store_codes names before stores store named)
     by false other rest = rest (still_none names stores store none other)
 
-uncased : (before : StoreCodes) (defs : List StoreDef) → list_any is_cased defs ≡ false → codes_from before defs ≡ no_codes
+uncased : (before : StoreCodes) (defs : List StoreDef) → list_any wants_plain_keys defs ≡ false → codes_from before defs ≡ no_codes
 uncased before [] none = refl
-uncased before (store ∷ defs) none = by (is_cased store) none (uncased (with_store_codes before store) defs)
+uncased before (store ∷ defs) none = by (wants_plain_keys store) none (uncased (with_store_codes before store) defs)
   where
-    by : (here : Bool) → (here || list_any is_cased defs) ≡ false → (list_any is_cased defs ≡ false → codes_from (with_store_codes before store) defs ≡ no_codes)
+    by : (here : Bool) → (here || list_any wants_plain_keys defs) ≡ false → (list_any wants_plain_keys defs ≡ false → codes_from (with_store_codes before store) defs ≡ no_codes)
         → (if here then with_items_codes before no_codes store.items else codes_from (with_store_codes before store) defs) ≡ no_codes
     by true h rest = absurd (cc)
     by false h rest = rest h
@@ -314,9 +308,9 @@ uncased before (store ∷ defs) none = by (is_cased store) none (uncased (with_s
 -- the codes that are found for a program
 found_for : (program : Program) → AreCodes (codes_of_cased program.stores) (store_elements (find is_cased_keys (stores_of program)))
 unfolding stores_of
-found_for program = by (list_any is_cased program.stores) refl (codes_from_are (names_of program) no_stores [] program.stores (record { names = refl; each = tt }) refl)
+found_for program = by (list_any wants_plain_keys program.stores) refl (codes_from_are (names_of program) no_stores [] program.stores (record { names = refl; each = tt }) refl)
   where
-    by : (some : Bool) → list_any is_cased program.stores ≡ some → AreCodes (codes_from no_stores program.stores) (store_elements (find is_cased_keys (stores_of program)))
+    by : (some : Bool) → list_any wants_plain_keys program.stores ≡ some → AreCodes (codes_from no_stores program.stores) (store_elements (find is_cased_keys (stores_of program)))
         → AreCodes (if some then codes_from no_stores program.stores else no_codes) (store_elements (find is_cased_keys (stores_of program)))
     by true some are = are
     by false none are = subst (λ (codes : KeyCodes). AreCodes codes (store_elements (find is_cased_keys (stores_of program)))) (uncased no_stores program.stores none) are

@@ -9,6 +9,7 @@ use Rattle.std.proofs.lemmas.List.Folds.{list_any-append}
 use Rattle.kmn_base.specs.declared.codes.Code.TheVariants.{C13, C14, C25}
 use Rattle.kmn_base.specs.declared.items.Element.{Element}
 use Rattle.kmn_base.specs.declared.items.Element.TheVariants as element
+use Rattle.kmn_base.proofs.Options.{option_or-none}
 use Rattle.rule_model.specs.declared.program.SrcItem.{SrcItem}
 use Rattle.rule_model.specs.declared.program.StoreDef.{StoreDef}
 use Rattle.rule_model.specs.declared.program.Program.{Program}
@@ -21,7 +22,7 @@ use Rattle.kmn_names.specs.Known.{Known, known, brought, statement_elements}
 use Rattle.item_checker.specs.Items.{is_no_plain_key, puts_option, wants_characters, brings_no_character, wants_plain_keys, brings_no_plain_key, store_item_code, store_head_code, store_code, store_refusal}
 use Rattle.rule_checker.specs.Limits.{cased_codes}
 use Rattle.rule_checker.specs.Refused.{IsRead}
-use Rattle.rule_checker.proofs.Unrefused.{none_both, none_at_line, none_broken, none_first, Stands}
+use Rattle.rule_checker.proofs.Unrefused.{none_at_line, none_broken, none_first, Stands}
 use Rattle.rule_checker.proofs.Lists.{none_passes}
 use Rattle.rule_checker.proofs.Accepted.{IsUnrefused}
 use Rattle.rule_checker.proofs.Sizes.{store_with, kept_store, program_stores}
@@ -39,7 +40,7 @@ items_plain : (facts : Known) (characters : Bool) (items : List SrcItem) → fir
 items_plain facts characters [] h = refl
 items_plain facts characters (item ∷ items) h =
     let plain = (C25, brings_no_plain_key facts item) ∷ [] in
-    let both = none_both (store_item_code facts characters true item) (first_code (store_item_code facts characters true) items) h in
+    let both = option_or-none (store_item_code facts characters true item) (first_code (store_item_code facts characters true) items) h in
     let one = none_broken C13 (puts_option facts item) ((C14, characters && brings_no_character facts item) ∷ plain) both.0 in
     let two = none_broken C14 (characters && brings_no_character facts item) plain one.1 in
     let three = none_broken C25 (brings_no_plain_key facts item) [] two.1 in
@@ -48,7 +49,7 @@ items_plain facts characters (item ∷ items) h =
 
 statement_plain : (facts : Known) (store : StoreDef) → store_code facts store ≡ None → wants_plain_keys store ≡ true → list_any is_no_plain_key (statement_elements facts store) ≡ false
 statement_plain facts store h wanted =
-    let codes = none_both (store_head_code facts store) (first_code (store_item_code facts (wants_characters facts store) (wants_plain_keys store)) store.items) h in
+    let codes = option_or-none (store_head_code facts store) (first_code (store_item_code facts (wants_characters facts store) (wants_plain_keys store)) store.items) h in
     items_plain facts (wants_characters facts store) store.items
     (subst (λ (keys : Bool). first_code (store_item_code facts (wants_characters facts store) keys) store.items ≡ None) wanted codes.1)
 

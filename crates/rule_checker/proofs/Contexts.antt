@@ -9,6 +9,7 @@ use Rattle.std.proofs.lemmas.List.Elements.{All-nil, All-cons, All-head, All-tai
 use Rattle.kmn_base.specs.declared.codes.Code.TheVariants.{C08, C09}
 use Rattle.kmn_base.specs.declared.limits.TheConstants.{CONTEXT_ITEMS}
 use Rattle.kmn_base.specs.Spelling.{IsOperand, IsSpellable}
+use Rattle.kmn_base.proofs.Options.{option_or-none}
 use Rattle.rule_model.specs.declared.program.SrcItem.{SrcItem}
 use Rattle.rule_model.specs.declared.program.SrcItem.TheVariants as source
 use Rattle.rule_model.specs.declared.program.Program.{Program}
@@ -24,7 +25,7 @@ use Rattle.rule_model.specs.Patterns.{is_matched}
 use Rattle.kmn_parser.specs.ProgramLaws.{IsReadItem}
 use Rattle.item_checker.specs.Items.{is_pattern_item, is_any_item, passes, points_to, misses_pattern, misses_any, context_item_code, context_code}
 use Rattle.rule_checker.specs.Refused.{IsRead}
-use Rattle.rule_checker.proofs.Unrefused.{none_both, none_broken}
+use Rattle.rule_checker.proofs.Unrefused.{none_broken}
 use Rattle.rule_checker.proofs.Accepted.{IsUnrefused}
 use Rattle.rule_checker.proofs.Within.{few_stores}
 use Rattle.rule_checker.proofs.Numbers.{store_number, stores_end, value_number}
@@ -76,12 +77,12 @@ module _ (numbers : Numbers) where
   offsets_from before [] h place d within = absurd (omega arith)
   offsets_from before (item ∷ items) h zero d within =
       subst (λ (ps : List Pat). PointsBack ps (file_pattern numbers item)) (sym (append-nil (map (file_pattern numbers) before)))
-      (item_back before item (none_both (context_item_code before item) (context_code (before ++ item ∷ []) items) h).0)
+      (item_back before item (option_or-none (context_item_code before item) (context_code (before ++ item ∷ []) items) h).0)
   offsets_from before (item ∷ items) h (suc place) d within =
       subst (λ (ps : List Pat). PointsBack ps (slice_index_or (map (file_pattern numbers) items) place d))
       (ap (λ (ps : List Pat). ps ++ take place (map (file_pattern numbers) items)) (map-append (file_pattern numbers) before (item ∷ []))
       ∙ append_assoc (map (file_pattern numbers) before) (file_pattern numbers item ∷ []) (take place (map (file_pattern numbers) items)))
-      (offsets_from (before ++ item ∷ []) items (none_both (context_item_code before item) (context_code (before ++ item ∷ []) items) h).1 place d (omega arith))
+      (offsets_from (before ++ item ∷ []) items (option_or-none (context_item_code before item) (context_code (before ++ item ∷ []) items) h).1 place d (omega arith))
 
   -- the offsets of a context
   pub context_offsets : (context : List SrcItem) → context_code [] context ≡ None → (place : ℕ) (d : Pat) → place < length (map (file_pattern numbers) context)
@@ -196,7 +197,7 @@ module _ (program : Program) (read : IsRead program) (whole : IsUnrefused progra
       → list_all (has_values program) items ≡ true → PatternsAreWritten (map (file_pattern (numbers_of program)) items)
   patterns_written before [] short code is known values = record { spelled = All-nil (λ item. IsSpellable (unit_item_of_pattern item)); stores = All-nil (λ store. store < count) }
   patterns_written before (item ∷ items) short code is known values =
-      let codes = none_both (context_item_code before item) (context_code (before ++ item ∷ []) items) code in
+      let codes = option_or-none (context_item_code before item) (context_code (before ++ item ∷ []) items) code in
       let names = and_parts (is_known_pattern program item) (list_all (is_known_pattern program) items) known in
       let valued = and_parts (has_values program item) (list_all (has_values program) items) values in
       let here = pattern_written before item (omega arith) codes.0 (All-head IsReadItem item items is) names.0 valued.0 in

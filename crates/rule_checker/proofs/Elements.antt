@@ -26,12 +26,13 @@ use Rattle.kmx_format.specs.Numbers.{item_values, values_of, value_store, dictio
 use Rattle.kmx_format.specs.FileUnits.{unit_item_of_element, name_units}
 use Rattle.kmx_format.specs.Writable.{IsWritableName, IsWritableStore}
 use Rattle.kmx_format.proofs.WritableParts.{writable_name}
+use Rattle.kmx_format.proofs.Dictionary.{space_text}
 use Rattle.kmn_parser.specs.ProgramLaws.{IsCharacter, IsName, IsOwnKey, IsReadKey, IsReadItem, IsReadStore}
 use Rattle.rule_checker.specs.Refused.{IsRead}
 use Rattle.rule_checker.proofs.Lists.{All-distinct}
 use Rattle.rule_checker.proofs.Accepted.{IsUnrefused}
 use Rattle.rule_checker.proofs.Reading.{own_keys_read, rule_values_read}
-use Rattle.rule_checker.proofs.Sizes.{space_chars, space_text}
+use Rattle.rule_checker.proofs.Sizes.{space_chars}
 use Rattle.rule_checker.proofs.Within.{few_elements}
 use Rattle.rule_checker.proofs.Numbers.{are_among, has_keys, keys_appear, store_items_pass, mark_small, own_code}
 

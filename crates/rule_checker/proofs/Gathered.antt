@@ -5,6 +5,7 @@ use Rattle.std.specs.List.{list_any}
 use Rattle.std.specs.Str.{bytes_eq, chars}
 use Rattle.std.proofs.lemmas.List.{map-append}
 use Rattle.std.proofs.lemmas.List.Folds.{list_any-append}
+use Rattle.std.proofs.Math.Bool.{or-false}
 use Rattle.kmn_base.specs.declared.limits.TheConstants.{STORE_ELEMENTS}
 use Rattle.kmn_base.specs.Names.{same_name}
 use Rattle.rule_model.specs.declared.program.SrcItem.{SrcItem}
@@ -37,11 +38,7 @@ names_size_push [] name = omega arith
 names_size_push (n ∷ names) name = omega (arith, names_size_push names name)
 
 pub any_push : (test : ℕ → Bool) (sizes : List ℕ) (size : ℕ) → list_any test (sizes ++ size ∷ []) ≡ (list_any test sizes || test size)
-any_push test sizes size = list_any-append test sizes (size ∷ []) ∙ ap (λ b. list_any test sizes || b) (last (test size))
-  where
-    last : (b : Bool) → (b || false) ≡ b
-    last true = refl
-    last false = refl
+any_push test sizes size = list_any-append test sizes (size ∷ []) ∙ ap (λ b. list_any test sizes || b) (or-false (test size))
 
 -- the sums of what was gathered
 pub record AreSums (totals : Totals) : Type 0 where

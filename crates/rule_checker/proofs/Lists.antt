@@ -29,13 +29,6 @@ All-distinct P same seen (x ∷ xs) before h = All-distinct P same _ xs (by (lis
     by true = before
     by false = All-append P seen (x ∷ []) before (All-cons P x [] (All-head P x xs h) (All-nil P))
 
--- what holds of all of two lists holds of each
-pub All-append_parts : {X : Type 0} (P : X → Type 0) (xs ys : List X) → All P (xs ++ ys) → All P xs × All P ys
-All-append_parts P [] ys h = (All-nil P, h)
-All-append_parts P (x ∷ xs) ys h =
-    let rest = All-append_parts P xs ys (All-tail P x (xs ++ ys) h) in
-    (All-cons P x xs (All-head P x (xs ++ ys) h) rest.0, rest.1)
-
 pub all_parts : {X : Type 0} (P : X → Type 0) (xs ys : List X) → AllByRecursion P (xs ++ ys) → AllByRecursion P xs × AllByRecursion P ys
 all_parts P [] ys h = (tt, h)
 all_parts P (x ∷ xs) ys h = let rest = all_parts P xs ys h.1 in ((h.0, rest.0), rest.1)

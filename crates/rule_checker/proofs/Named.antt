@@ -2,12 +2,14 @@
 use Rattle.std.proofs.Common.{◌≡◌, ℕ, suc, ◌+◌, Bool, true, false, not, List, [], ◌∷◌, ◌++◌, length, Option, Some, None, refl, sym, ap, ◌∙◌, arith, is_some, if◌then◌else◌, true≢false, inl, inr}
 use Rattle.std.specs.Prelude.{find, ◌&&◌, ◌||◌, nat_eq, nat_lt, slice_get, option_to_list}
 use Rattle.std.specs.List.{list_all, list_any, AllByRecursion}
+use Rattle.std.specs.Option.{option_or}
 use Rattle.std.proofs.lemmas.Bool.{and_parts, not-false, or_parts, or_right}
 use Rattle.std.proofs.lemmas.Option.{slice_get_cases}
 use Rattle.std.proofs.lemmas.List.Folds.{list_any-append}
 use Rattle.kmn_base.specs.declared.codes.Code.TheVariants.{C02, C05, C06, C08, C09, C10, C12, C13, C15}
 use Rattle.kmn_base.specs.declared.items.Element.{Element}
 use Rattle.kmn_base.specs.declared.items.Element.TheVariants as element
+use Rattle.kmn_base.proofs.Options.{option_or-none}
 use Rattle.rule_model.specs.declared.program.SrcItem.{SrcItem}
 use Rattle.rule_model.specs.declared.program.SrcItem.TheVariants as source
 use Rattle.rule_model.specs.declared.program.BeginDef.{BeginDef}
@@ -24,13 +26,13 @@ use Rattle.rule_model.specs.Src.{is_unicode, is_plain, is_plain_kind, is_on_matc
 use Rattle.rule_model.specs.Tab.{is_dictionary}
 use Rattle.kmx_format.specs.WellNamed.{IsWellNamed, is_known_start, is_known_pattern, is_known_output, is_known_key, is_known_rule, is_known_group, is_store, is_fixed, are_keys}
 use Rattle.kmn_parser.specs.SourceLaws.{has_own_lines}
-use Rattle.kmn_names.specs.First.{or_else, broken, first_code}
+use Rattle.kmn_names.specs.First.{broken, first_code}
 use Rattle.kmn_names.specs.declared.stating.Stated.{Stated}
 use Rattle.kmn_names.specs.Names.{stated, is_named, is_begun, begin_refusal, begin_code, rules_refusal, rule_refusal, rule_code, rule_item_code, is_second, lacks, store_named, group_named, group_names, store_names}
 use Rattle.kmn_names.specs.Known.{known}
 use Rattle.item_checker.specs.Items.{is_option, passes, points_to, is_pattern_item, is_any_item, is_any_key, are_unfit_keys, is_unfit_key, context_code, key_code, rule_output_code, match_output_code, rule_code as items_rule_code, rules_refusal as items_rules_refusal, rule_refusal as items_rule_refusal}
 use Rattle.rule_checker.specs.Refused.{IsRead, refused}
-use Rattle.rule_checker.proofs.Unrefused.{none_both, none_at_line, none_broken, none_codes, Stands, none_first}
+use Rattle.rule_checker.proofs.Unrefused.{none_at_line, none_broken, none_codes, Stands, none_first}
 use Rattle.rule_checker.proofs.Accepted.{IsUnrefused, unrefused}
 use Rattle.rule_checker.proofs.Stated.{group_there, store_there}
 use Rattle.rule_checker.proofs.Reading.{has_parts, have_parts, all_have_parts, words_read, no_dictionary_read}
@@ -180,7 +182,7 @@ module _ (program : Program) (using_keys : Bool) where
   named_items rule stands =
       let again = is_second (list_any is_on_match stands.0) (list_any is_on_nomatch stands.0) rule.kind in
       none_codes (rule_item_code (stated program)) (rule_items rule)
-      (none_both (broken ((C15, again) ∷ [])) (first_code (rule_item_code (stated program)) (rule_items rule)) (none_at_line rule.line (rule_code (stated program) again rule) stands.1)).1
+      (option_or-none (broken ((C15, again) ∷ [])) (first_code (rule_item_code (stated program)) (rule_items rule)) (none_at_line rule.line (rule_code (stated program) again rule) stands.1)).1
 
   known_rule : (rule : RuleDef) → Stands (rule_refusal (stated program)) rule → Stands (items_rule_refusal (known program)) rule → has_parts using_keys rule.kind rule ≡ true
       → is_known_rule program using_keys rule ≡ true
@@ -204,8 +206,8 @@ module _ (program : Program) (using_keys : Bool) where
 
       by : (k : RuleKind) → rule.kind ≡ k → items_rule_code (known program) k rule ≡ None → has_parts using_keys k rule ≡ true → is_known_rule program using_keys rule ≡ true
       by kind.Plain is codes fits =
-          let one = none_both (context_code [] rule.context) (or_else (key_code (known program) rule.key) (first_code (rule_output_code (known program) rule) rule.output)) codes in
-          let two = none_both (key_code (known program) rule.key) (first_code (rule_output_code (known program) rule) rule.output) one.1 in
+          let one = option_or-none (context_code [] rule.context) (option_or (key_code (known program) rule.key) (first_code (rule_output_code (known program) rule) rule.output)) codes in
+          let two = option_or-none (key_code (known program) rule.key) (first_code (rule_output_code (known program) rule) rule.output) one.1 in
           let outputs = all_known_by_two (is_known_output program (length rule.context)) IsNamed (λ item. rule_output_code (known program) rule item ≡ None) (known_output program rule) rule.output output
           (none_codes (rule_output_code (known program) rule) rule.output two.1) in
           λ j. (is_plain_kind (is j) || nat_eq (length rule.context) 0) && (patterns j && (known_key rule.key fits two.0 j && outputs j))

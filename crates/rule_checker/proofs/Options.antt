@@ -7,6 +7,7 @@ use Rattle.std.specs.Cmp.Lexicographic.{nat_list_eq_equiv}
 use Rattle.std.proofs.lemmas.List.Folds.{list_any-append}
 use Rattle.std.proofs.lemmas.List.Quantifiers.{position-Some}
 use Rattle.kmn_base.specs.Names.{same_name}
+use Rattle.kmn_base.proofs.Elements.{any_flat_map}
 use Rattle.rule_model.specs.declared.program.SrcItem.{SrcItem}
 use Rattle.rule_model.specs.declared.program.SrcItem.TheVariants as source
 use Rattle.rule_model.specs.declared.program.RuleDef.{RuleDef}
@@ -19,7 +20,6 @@ use Rattle.rule_model.specs.Naming.{stores_of, rule_items, all_rules}
 use Rattle.rule_model.specs.Src.{pattern_uses, output_uses, rule_uses, group_uses, numbers_named, src_options, is_plain, is_on_match, is_on_nomatch}
 use Rattle.rule_model.specs.Tab.{with_options}
 use Rattle.kmx_format.specs.WellNamed.{is_fixed}
-use Rattle.kmx_format.proofs.Options.{any_flat_map}
 use Rattle.kmn_names.specs.Names.{is_named}
 use Rattle.kmn_names.specs.Known.{known, option_named, rule_options}
 use Rattle.item_checker.specs.Items.{is_option}

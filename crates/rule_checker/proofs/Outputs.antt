@@ -11,6 +11,7 @@ use Rattle.kmn_base.specs.declared.items.Element.{Element}
 use Rattle.kmn_base.specs.declared.items.Element.TheVariants as element
 use Rattle.kmn_base.specs.declared.limits.TheConstants.{CONTEXT_ITEMS, OUTPUT_ITEMS}
 use Rattle.kmn_base.specs.Spelling.{IsOperand, IsSpellable}
+use Rattle.kmn_base.proofs.Options.{option_or-none}
 use Rattle.rule_model.specs.declared.program.SrcItem.{SrcItem}
 use Rattle.rule_model.specs.declared.program.SrcItem.TheVariants as source
 use Rattle.rule_model.specs.declared.program.RuleDef.{RuleDef}
@@ -33,7 +34,7 @@ use Rattle.kmn_names.specs.Known.{known}
 use Rattle.item_checker.specs.Items.{is_pattern_item, is_any_item, points_to, misses_pattern, misses_any, index_code, key_index_code, rule_output_code, match_output_code, offset_code}
 use Rattle.rule_checker.specs.Limits.{item_size, output_size}
 use Rattle.rule_checker.specs.Refused.{IsRead}
-use Rattle.rule_checker.proofs.Unrefused.{none_both, none_broken}
+use Rattle.rule_checker.proofs.Unrefused.{none_broken}
 use Rattle.rule_checker.proofs.Accepted.{IsUnrefused}
 use Rattle.rule_checker.proofs.Within.{few_groups}
 use Rattle.rule_checker.proofs.Numbers.{group_number}
@@ -244,7 +245,7 @@ module _ (program : Program) (read : IsRead program) (whole : IsUnrefused progra
     rule_items_written (item ∷ items) is named values code =
         let names = and_parts (is_known_output program (length rule.context) item) (list_all (is_known_output program (length rule.context)) items) named in
         let valued = and_parts (has_values program item) (list_all (has_values program) items) values in
-        let codes = none_both (rule_output_code (known program) rule item) (first_code (rule_output_code (known program) rule) items) code in
+        let codes = option_or-none (rule_output_code (known program) rule item) (first_code (rule_output_code (known program) rule) items) code in
         subst (λ n. OutsAreWritten (PointsInto context) n (flat_map (file_output (numbers_of program) (length rule.context) place) (item ∷ items))) (size_next item items)
         (more_outs (PointsInto context) (item_size (stores_of program) item) (output_size (stores_of program) items) (file_output (numbers_of program) (length rule.context) place item)
         (flat_map (file_output (numbers_of program) (length rule.context) place) items) (rule_item_written item (All-head IsReadItem item items is) names.0 valued.0 codes.0)
@@ -295,7 +296,7 @@ module _ (program : Program) (read : IsRead program) (whole : IsUnrefused progra
   match_items_written (item ∷ items) is named values code =
       let names = and_parts (is_known_output program 0 item) (list_all (is_known_output program 0) items) named in
       let valued = and_parts (has_values program item) (list_all (has_values program) items) values in
-      let codes = none_both (match_output_code (known program) item) (first_code (match_output_code (known program)) items) code in
+      let codes = option_or-none (match_output_code (known program) item) (first_code (match_output_code (known program)) items) code in
       subst (λ n. OutsAreWritten NeedsNone n (flat_map (file_output (numbers_of program) 0 None) (item ∷ items))) (size_next item items)
       (more_outs NeedsNone (item_size (stores_of program) item) (output_size (stores_of program) items) (file_output (numbers_of program) 0 None item)
       (flat_map (file_output (numbers_of program) 0 None) items) (match_item_written item (All-head IsReadItem item items is) names.0 valued.0 codes.0)

@@ -2,6 +2,7 @@
 use Rattle.std.proofs.Common.{◌≡◌, ◌≢◌, ℕ, ◌+◌, ◌^◌, ◌<◌, Bool, true, false, List, [], ◌∷◌, ◌++◌, length, Option, Some, None, is_some, unwrap_or, refl, sym, ap, subst, ◌∙◌, arith, if◌then◌else◌}
 use Rattle.std.specs.Prelude.{All, IfSome, flat_map, filter, find, nat_eq, option_to_list, ◌||◌}
 use Rattle.std.specs.List.{list_all, list_any}
+use Rattle.std.specs.Option.{option_or}
 use Rattle.std.proofs.lemmas.Bool.{and_parts, or_parts}
 use Rattle.std.proofs.lemmas.Bool.Decides.{nat_tests}
 use Rattle.std.proofs.lemmas.List.Elements.{All-nil, All-cons, All-head, All-tail, All-append}
@@ -12,6 +13,7 @@ use Rattle.kmn_base.specs.declared.items.Element.{Element}
 use Rattle.kmn_base.specs.declared.items.Element.TheVariants as element
 use Rattle.kmn_base.specs.declared.keys.RuleKey.{RuleKey}
 use Rattle.kmn_base.specs.declared.keys.RuleKey.TheVariants as key
+use Rattle.kmn_base.proofs.Options.{option_or-none}
 use Rattle.rule_model.specs.declared.program.SrcItem.{SrcItem}
 use Rattle.rule_model.specs.declared.program.SrcItem.TheVariants as source
 use Rattle.rule_model.specs.declared.program.RuleDef.{RuleDef}
@@ -32,11 +34,11 @@ use Rattle.kmx_format.proofs.Ordered.{in_order_permutes}
 use Rattle.kmx_format.specs.Writable.{IsWritableKey, IsWritableRule, IsWritableMatchOutput, IsWritableGroup}
 use Rattle.kmx_format.proofs.WritableParts.{no_output}
 use Rattle.kmn_parser.specs.ProgramLaws.{IsReadItem, IsReadRule, IsReadGroup, StandsAsKey}
-use Rattle.kmn_names.specs.First.{or_else, first_code}
+use Rattle.kmn_names.specs.First.{first_code}
 use Rattle.kmn_names.specs.Known.{known}
 use Rattle.item_checker.specs.Items.{is_far, is_unfit_key, are_unfit_keys, is_unfit_store, is_option, context_code, key_code, rule_output_code, match_output_code, plain_code, rule_code}
 use Rattle.rule_checker.specs.Refused.{IsRead}
-use Rattle.rule_checker.proofs.Unrefused.{none_both, none_broken}
+use Rattle.rule_checker.proofs.Unrefused.{none_broken}
 use Rattle.rule_checker.proofs.Accepted.{IsUnrefused}
 use Rattle.rule_checker.proofs.Within.{IsShortRule}
 use Rattle.rule_checker.proofs.Numbers.{has_keys}
@@ -113,8 +115,8 @@ module _ (program : Program) (read : IsRead program) (whole : IsUnrefused progra
   record_written : (using_keys : Bool) (rule : RuleDef) → IsSoundRule program using_keys rule → plain_code (known program) rule ≡ None → (place : Option ℕ) (half : ℕ) (wanted : RuleKey) → IsWritableKey using_keys wanted
       → IsWritableRule stores groups using_keys (file_record (numbers_of program) rule place half wanted)
   record_written using_keys rule sound code place half wanted key =
-      let codes = none_both (context_code [] rule.context) (or_else (key_code (known program) rule.key) (first_code (rule_output_code (known program) rule) rule.output)) code in
-      let more = none_both (key_code (known program) rule.key) (first_code (rule_output_code (known program) rule) rule.output) codes.1 in
+      let codes = option_or-none (context_code [] rule.context) (option_or (key_code (known program) rule.key) (first_code (rule_output_code (known program) rule) rule.output)) code in
+      let more = option_or-none (key_code (known program) rule.key) (first_code (rule_output_code (known program) rule) rule.output) codes.1 in
       let parts = rule_parts using_keys rule sound in
       let outputs = rule_output_written program read whole rule sound.short.context place sound.read.output parts.outputs parts.output_values more.1 sound.short.output in
       record {
@@ -184,8 +186,8 @@ module _ (program : Program) (read : IsRead program) (whole : IsUnrefused progra
   rule_written using_keys rule sound plain =
       let is_kind = plain_is rule.kind plain in
       let code : plain_code (known program) rule ≡ None = subst (λ (k : RuleKind). rule_code (known program) k rule ≡ None) is_kind sound.code in
-      let codes = none_both (context_code [] rule.context) (or_else (key_code (known program) rule.key) (first_code (rule_output_code (known program) rule) rule.output)) code in
-      let more = none_both (key_code (known program) rule.key) (first_code (rule_output_code (known program) rule) rule.output) codes.1 in
+      let codes = option_or-none (context_code [] rule.context) (option_or (key_code (known program) rule.key) (first_code (rule_output_code (known program) rule) rule.output)) code in
+      let more = option_or-none (key_code (known program) rule.key) (first_code (rule_output_code (known program) rule) rule.output) codes.1 in
       keyed_written using_keys rule sound code rule.key (sound.read.keyed is_kind) sound.read.key (rule_parts using_keys rule sound).key_own more.0
 
   -- the output of a match or nomatch statement, if any

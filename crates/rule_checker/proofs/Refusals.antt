@@ -1,8 +1,9 @@
 -- The first refusal over the passes.
 use Rattle.std.proofs.Common.{◌≡◌, Option, None, Some, Ok, refl, ◌∙◌, arith}
+use Rattle.std.specs.Option.{option_or}
 use Rattle.kmn_base.specs.declared.refusals.Refusal.{Refusal}
 use Rattle.rule_model.specs.declared.program.Program.{Program}
-use Rattle.kmn_names.specs.First.{or_else, or_refusal}
+use Rattle.kmn_names.specs.First.{or_refusal}
 use Rattle.kmn_names.specs.Names.{names_refusal}
 use Rattle.kmn_names.specs.Numbering.{NameLists, lists_of, numbered}
 use Rattle.item_checker.specs.Items.{items_refusal}
@@ -16,8 +17,8 @@ not_refused value answer (Some refusal) is = grind (arith, is)
 
 -- a program with a start and with names is refused for its items or its limits
 pub refused_later : (program : Program) (names : NameLists) (found : Option Refusal) → start_refusal program ≡ None → numbered program ≡ Ok names
-    → or_else (items_refusal program) (limits_refusal program) ≡ found → refused program ≡ found
+    → option_or (items_refusal program) (limits_refusal program) ≡ found → refused program ≡ found
 unfolding refused
 refused_later program names found started named later =
-    (λ j. or_else (started j) (or_else (not_refused (lists_of program) names (names_refusal program) named j) (or_else (items_refusal program) (limits_refusal program))))
+    (λ j. option_or (started j) (option_or (not_refused (lists_of program) names (names_refusal program) named j) (option_or (items_refusal program) (limits_refusal program))))
     ∙ later

@@ -2,16 +2,17 @@
 use Rattle.std.proofs.Common.{◌≡◌, ℕ, zero, suc, ◌+◌, Bool, true, false, List, [], ◌∷◌, ◌++◌, length, map, Some, None, refl, sym, ap, subst, ◌∙◌, arith, if◌then◌else◌, append-nil, append_assoc, length-append, take-append-drop}
 use Rattle.std.specs.Prelude.{nat_lt, flat_map, find, All, ◌||◌}
 use Rattle.std.specs.List.{prefix_len, list_any, join_with_byte}
-use Rattle.std.specs.Str.{bytes_eq, chars, IsUtf8, IsAscii}
+use Rattle.std.specs.Str.{bytes_eq, chars, IsAscii}
 use Rattle.std.proofs.lemmas.List.{length-map, map-append}
 use Rattle.std.proofs.lemmas.List.Concat.{flat_map-append}
 use Rattle.std.proofs.lemmas.List.Elements.{All-head, All-tail}
-use Rattle.std.proofs.lemmas.Str.{chars-append, encode_ascii, chars-IsAscii}
+use Rattle.std.proofs.lemmas.Str.{chars-append, chars-IsAscii}
 use Rattle.std.proofs.lemmas.Bool.{not-false}
 use Rattle.kmn_base.specs.declared.codes.Code.TheVariants.{C03, C05, C07}
 use Rattle.kmn_base.specs.declared.items.Element.{Element}
 use Rattle.kmn_base.specs.declared.items.Element.TheVariants as element
 use Rattle.kmn_base.specs.Names.{same_name}
+use Rattle.kmn_base.proofs.Options.{option_or-none}
 use Rattle.rule_model.specs.declared.program.SrcItem.{SrcItem}
 use Rattle.rule_model.specs.declared.program.SrcItem.TheVariants as source
 use Rattle.rule_model.specs.declared.program.StoreDef.{StoreDef}
@@ -21,6 +22,7 @@ use Rattle.rule_model.specs.declared.tables.Store.{Store}
 use Rattle.rule_model.specs.Tab.{distinct_onto, store_elements}
 use Rattle.rule_model.specs.Naming.{names_of, stores_of, stores_onto, store_of, is_dropped, rule_items, items_from, source_items, stores_before, stores_after, all_rules, key_names, elements_named, item_elements}
 use Rattle.kmx_format.specs.Numbers.{item_values, values_of, value_store, dictionary_stores, compiled_stores}
+use Rattle.kmx_format.proofs.Dictionary.{space_text}
 use Rattle.kmn_parser.specs.ProgramLaws.{IsOwnKey}
 use Rattle.kmn_names.specs.First.{broken, first_code, first_of}
 use Rattle.kmn_names.specs.declared.stating.Stated.{Stated}
@@ -29,7 +31,7 @@ use Rattle.kmn_names.specs.Known.{Known, known, brought, statement_elements}
 use Rattle.rule_model.proofs.NamePlaces.{some_place}
 use Rattle.rule_checker.specs.Limits.{Statement, OfStore, OfRule, in_line_order, items_of, values_of_statement, statement_size, store_size, names_size, dictionary_size, sizes}
 use Rattle.rule_checker.specs.Refused.{IsRead}
-use Rattle.rule_checker.proofs.Unrefused.{none_both, none_earlier, none_at_line, none_broken}
+use Rattle.rule_checker.proofs.Unrefused.{none_earlier, none_at_line, none_broken}
 use Rattle.rule_checker.proofs.Stated.{in_names}
 use Rattle.rule_checker.proofs.Accepted.{IsUnrefused}
 use Rattle.rule_checker.proofs.Reading.{own_keys_read}
@@ -111,7 +113,7 @@ module _ (facts : Known) (names_stated : Stated) where
       → flat_map (brought facts) items ≡ flat_map (item_elements facts.names before) items
   items_before before more [] all h = refl
   items_before before more (item ∷ items) all h =
-      let both = none_both (store_item_code names_stated (map (λ (s : Store). s.name) before) item) (first_code (store_item_code names_stated (map (λ (s : Store). s.name) before)) items) h in
+      let both = option_or-none (store_item_code names_stated (map (λ (s : Store). s.name) before) item) (first_code (store_item_code names_stated (map (λ (s : Store). s.name) before)) items) h in
       let one = none_broken C05 (names_no_store names_stated item) ((C07, puts_later_store (map (λ (s : Store). s.name) before) item) ∷ []) both.0 in
       let two = none_broken C07 (puts_later_store (map (λ (s : Store). s.name) before) item) [] one.1 in
       λ j. item_before before more item all two.0 j ++ items_before before more items all both.1 j
@@ -143,7 +145,7 @@ module _ (facts : Known) (names_stated : Stated) where
   stores_kept before defined [] names h all = all ∙ sym (append-nil before)
   stores_kept before defined (store ∷ stores) names h all =
       let both = none_earlier (store_refusal names_stated defined store) (first_of (store_refusal names_stated) (defined ++ store ∷ []) stores) h in
-      let parts = none_both (broken ((C03, is_store_again (store_names defined) store) ∷ [])) (first_code (store_item_code names_stated (store_names defined)) store.items)
+      let parts = option_or-none (broken ((C03, is_store_again (store_names defined) store) ∷ [])) (first_code (store_item_code names_stated (store_names defined)) store.items)
       (none_at_line store.line (store_code names_stated (store_names defined) store) both.0) in
       let items = subst (λ (ns : List (List ℕ)). first_code (store_item_code names_stated ns) store.items ≡ None) (sym names) parts.1 in
       by (is_dropped store) refl items all (λ next same at. stores_kept next (defined ++ store ∷ []) stores same both.1 at)
@@ -185,10 +187,6 @@ stores_sized facts (store ∷ stores) =
         ≡ (if b then [] else length (statement_elements facts store) ∷ [])
     by true = refl
     by false = refl
-
--- the key dictionary has the characters of its names, and a space between each two
-pub space_text : IsUtf8 (32 ∷ [])
-space_text = (32 ∷ [], (refl, ap (λ bs. bs ++ []) (encode_ascii 32 (omega arith))))
 
 nothing_ascii : IsAscii []
 nothing_ascii i = omega arith

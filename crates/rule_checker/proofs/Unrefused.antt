@@ -3,11 +3,8 @@ use Rattle.std.proofs.Common.{◌≡◌, ℕ, Bool, true, false, nat_lt, List, [
 use Rattle.std.specs.List.{AllByRecursion}
 use Rattle.kmn_base.specs.declared.codes.Code.{Code}
 use Rattle.kmn_base.specs.declared.refusals.Refusal.{Refusal}
-use Rattle.kmn_names.specs.First.{or_else, broken, first_code, at_line, earlier, first_of}
-
-pub none_both : {A : Type 0} (a b : Option A) → or_else a b ≡ None → (a ≡ None) × (b ≡ None)
-none_both None b h = (refl, h)
-none_both (Some x) b h = absurd (cc)
+use Rattle.kmn_base.proofs.Options.{option_or-none}
+use Rattle.kmn_names.specs.First.{broken, first_code, at_line, earlier, first_of}
 
 some_either : (t : Bool) (a b : Refusal) → (if t then Some b else Some a) ≡ None → ⊥
 some_either true a b h = absurd (cc)
@@ -29,7 +26,7 @@ none_broken code false rows h = (refl, h)
 pub none_codes : {X : Type 0} (code : X → Option Code) (xs : List X) → first_code code xs ≡ None → AllByRecursion (λ x. code x ≡ None) xs
 none_codes code [] h = tt
 none_codes code (x ∷ xs) h =
-    let both : (code x ≡ None) × (first_code code xs ≡ None) = none_both (code x) (first_code code xs) h in
+    let both : (code x ≡ None) × (first_code code xs ≡ None) = option_or-none (code x) (first_code code xs) h in
     (both.0, none_codes code xs both.1)
 
 -- a statement that isn't refused behind those before it

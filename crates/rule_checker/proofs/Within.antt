@@ -13,6 +13,7 @@ use Rattle.kmn_base.specs.declared.items.Element.TheVariants as element
 use Rattle.kmn_base.specs.declared.limits.TheConstants.{CONTEXT_ITEMS, OUTPUT_ITEMS, STORE_ELEMENTS, ALL_ELEMENTS, STORES, GROUPS, RECORDS, DEADKEYS, KEY_NAMES}
 use Rattle.kmn_base.specs.declared.refusals.Refusal.{Refusal}
 use Rattle.kmn_base.specs.Names.{same_name}
+use Rattle.kmn_base.proofs.Elements.{All-append_parts}
 use Rattle.rule_model.specs.declared.program.SrcItem.{SrcItem}
 use Rattle.rule_model.specs.declared.program.StoreDef.{StoreDef}
 use Rattle.rule_model.specs.declared.program.RuleDef.{RuleDef}
@@ -31,7 +32,7 @@ use Rattle.rule_checker.specs.Limits.{Statement, OfStore, OfRule, in_line_order,
 use Rattle.rule_checker.specs.Refused.{IsRead, refused}
 use Rattle.rule_checker.specs.Laws.{statements_of}
 use Rattle.rule_checker.proofs.Unrefused.{none_earlier, none_at_line, none_broken, none_first, Stands}
-use Rattle.rule_checker.proofs.Lists.{All-append_parts, all_parts}
+use Rattle.rule_checker.proofs.Lists.{all_parts}
 use Rattle.rule_checker.proofs.Accepted.{IsUnrefused, unrefused}
 use Rattle.rule_checker.proofs.Reading.{own_keys_read}
 use Rattle.rule_checker.proofs.Sizes.{element_count, items_in_order, joined_size, sizes_counted}

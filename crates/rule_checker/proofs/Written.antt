@@ -6,6 +6,7 @@ use Rattle.std.proofs.lemmas.Bool.{and_parts, not-false}
 use Rattle.std.proofs.lemmas.List.{length-map}
 use Rattle.std.proofs.lemmas.List.Elements.{All-nil, All-cons, All-head, All-tail}
 use Rattle.kmn_base.specs.declared.codes.Code.TheVariants.{C02, C06}
+use Rattle.kmn_base.proofs.Elements.{All-append_parts}
 use Rattle.rule_model.specs.declared.program.SrcItem.{SrcItem}
 use Rattle.rule_model.specs.declared.program.BeginDef.{BeginDef}
 use Rattle.rule_model.specs.declared.program.RuleDef.{RuleDef}
@@ -35,7 +36,7 @@ use Rattle.item_checker.specs.Items.{rule_code, rule_refusal, rules_refusal}
 use Rattle.rule_checker.specs.Limits.{in_line_order, all_records}
 use Rattle.rule_checker.specs.Refused.{IsRead, refused}
 use Rattle.rule_checker.proofs.Unrefused.{none_at_line, none_broken, none_first, Stands}
-use Rattle.rule_checker.proofs.Lists.{all_true, All-append_parts}
+use Rattle.rule_checker.proofs.Lists.{all_true}
 use Rattle.rule_checker.proofs.Accepted.{IsUnrefused, unrefused}
 use Rattle.rule_checker.proofs.Stated.{group_there}
 use Rattle.rule_checker.proofs.Named.{well_named}

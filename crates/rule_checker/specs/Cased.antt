@@ -1,15 +1,15 @@
 -- The codes of the cased keys, found without building the elements of stores.
-use Rattle.std.specs.Prelude.{ℕ, Bool, nat_eq, if◌then◌else◌, List, [], ◌∷◌, ◌++◌, Option, Some, None, slice_get, unwrap_or}
+use Rattle.std.specs.Prelude.{ℕ, if◌then◌else◌, List, [], ◌∷◌, ◌++◌, Option, Some, None, slice_get, unwrap_or}
 use Rattle.std.specs.List.{list_any}
 use Rattle.rule_model.specs.Dictionary.{place_in}
 use Rattle.rule_model.specs.declared.program.SrcItem.{SrcItem}
 use Rattle.rule_model.specs.declared.program.SrcItem.TheVariants as source
 use Rattle.rule_model.specs.declared.program.StoreDef.{StoreDef}
 use Rattle.rule_model.specs.Naming.{is_dropped}
+use Rattle.item_checker.specs.Items.{wants_plain_keys}
 use Rattle.rule_checker.specs.declared.key_codes.KeyCodes.{KeyCodes}
 use Rattle.rule_checker.specs.declared.cased.StoreCodes.{StoreCodes}
 use Rattle.rule_checker.specs.KeyCodes.{no_codes, with_code, joined}
-use Rattle.rule_model.specs.declared.system.TheConstants.{CASED_KEYS}
 
 abbrev pub codes_at : List KeyCodes → Option ℕ → KeyCodes
 codes_at codes None = no_codes
@@ -35,19 +35,15 @@ with_store_codes before store =
     if is_dropped store then before
     else record { names = before.names ++ store.name ∷ []; codes = before.codes ++ with_items_codes before no_codes store.items ∷ [] }
 
--- whether a statement is of `&casedkeys`
-abbrev pub is_cased : StoreDef → Bool
-is_cased store = nat_eq store.system CASED_KEYS
-
 -- the codes of the first `&casedkeys`, behind other stores
 abbrev pub codes_from : StoreCodes → List StoreDef → KeyCodes
 codes_from before [] = no_codes
 codes_from before (store ∷ stores) =
-    if is_cased store then with_items_codes before no_codes store.items else codes_from (with_store_codes before store) stores
+    if wants_plain_keys store then with_items_codes before no_codes store.items else codes_from (with_store_codes before store) stores
 
 abbrev pub no_stores : StoreCodes
 no_stores = record { names = []; codes = [] }
 
 -- the codes of the cased keys of these stores
 abbrev pub codes_of_cased : List StoreDef → KeyCodes
-codes_of_cased stores = if list_any is_cased stores then codes_from no_stores stores else no_codes
+codes_of_cased stores = if list_any wants_plain_keys stores then codes_from no_stores stores else no_codes

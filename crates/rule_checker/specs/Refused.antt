@@ -1,6 +1,7 @@
 -- What a program, and a source, is refused for: the first by pass, then by line, by reading order, and by code.
 use Rattle.std.specs.Prelude.{◌≡◌, ℕ, Bool, not, List, [], ◌∷◌, Option, None, Result}
 use Rattle.std.specs.List.{list_any}
+use Rattle.std.specs.Option.{option_or}
 use Rattle.kmn_base.specs.declared.codes.Code.TheVariants.{C01}
 use Rattle.kmn_base.specs.declared.refusals.Refusal.{Refusal}
 use Rattle.kmn_base.specs.Answers.{and_then}
@@ -9,7 +10,7 @@ use Rattle.rule_model.specs.Src.{is_unicode}
 use Rattle.kmn_parser.specs.Source.{parsed}
 use Rattle.kmn_parser.specs.ProgramLaws.{IsReadProgram}
 use Rattle.kmn_parser.specs.SourceLaws.{IsInOrder}
-use Rattle.kmn_names.specs.First.{or_else, broken, at_line, or_refusal}
+use Rattle.kmn_names.specs.First.{broken, at_line, or_refusal}
 use Rattle.kmn_names.specs.Names.{names_refusal}
 use Rattle.kmn_names.specs.Numbering.{NameLists, lists_of}
 use Rattle.item_checker.specs.Items.{items_refusal}
@@ -25,8 +26,8 @@ start_refusal program = at_line 1 (broken ((C01, has_no_start program) ∷ []))
 -- the first refusal of a program: for its start, its names, its items, its limits
 unfoldable pub refused : Program → Option Refusal
 refused program =
-    or_else (start_refusal program)
-    (or_else (names_refusal program) (or_else (items_refusal program) (limits_refusal program)))
+    option_or (start_refusal program)
+    (option_or (names_refusal program) (option_or (items_refusal program) (limits_refusal program)))
 
 -- the program of a source, or the source's first refusal over all passes, those of reading first
 abbrev pub checked : List ℕ → Result Program Refusal

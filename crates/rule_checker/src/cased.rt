@@ -2,7 +2,8 @@
 
 ghost use Rattle.std.specs.Prelude.{◌≡◌, IfOk, OnOk};
 ghost use Rattle.std.specs.List.{list_any};
-ghost use Rattle.rule_checker.specs.Cased.{codes_from, codes_named, codes_of_cased, is_cased, no_stores, with_item_codes, with_items_codes, with_store_codes};
+ghost use Rattle.item_checker.specs.Items.{wants_plain_keys};
+ghost use Rattle.rule_checker.specs.Cased.{codes_from, codes_named, codes_of_cased, no_stores, with_item_codes, with_items_codes, with_store_codes};
 ghost use Rattle.rule_checker.specs.KeyCodes.{no_codes};
 
 use crate::key_codes::KeyCodes;
@@ -85,7 +86,7 @@ fn first_codes(alloc: Global, stores: &[StoreDef]) -> Result<KeyCodes, Memory>
 
 /// Whether a statement of `&casedkeys` is among stores.
 fn has_cased(stores: &[StoreDef]) -> bool
-    ensures { result ≡ list_any is_cased stores.now }
+    ensures { result ≡ list_any wants_plain_keys stores.now }
 {
     stores.iter().any(|store| store.system == CASED_KEYS)
 }

@@ -1,14 +1,15 @@
 ghost use Rattle.std.specs.Prelude.{◌≡◌, None, IfOk};
 ghost use Rattle.std.specs.List.{list_any};
+ghost use Rattle.std.specs.Option.{option_or};
 ghost use Rattle.kmn_base.specs.Answers.{Answers};
 ghost use Rattle.rule_model.specs.Src.{is_unicode};
-ghost use Rattle.kmn_names.specs.First.{or_else, or_refusal};
+ghost use Rattle.kmn_names.specs.First.{or_refusal};
 ghost use Rattle.kmn_names.specs.Numbering.{lists_of};
 ghost use Rattle.item_checker.specs.Items.{items_refusal};
 ghost use Rattle.rule_checker.specs.Limits.{limits_refusal};
 ghost use Rattle.rule_checker.specs.Refused.{IsRead, refused, start_refusal};
 
-use crate::limits_refusal;
+use crate::limits::limits_refusal;
 use item_checker::items_refusal;
 use kmn_base::{Code, CompileError, Memory, Refusal};
 use kmn_names::{ProgramNames, number};
@@ -89,7 +90,7 @@ fn start_refusal(program: &Program) -> Option<Refusal>
 
 /// The first refusal for items, then for limits.
 fn later_refusal(alloc: Global, program: &Program) -> Result<Option<Refusal>, Memory>
-    ensures { IfOk result (λ refusal. refusal ≡ or_else (items_refusal program.now) (limits_refusal program.now)) }
+    ensures { IfOk result (λ refusal. refusal ≡ option_or (items_refusal program.now) (limits_refusal program.now)) }
 {
     match items_refusal(alloc, program)? {
         Some(refusal) => Ok(Some(refusal)),

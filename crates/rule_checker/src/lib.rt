@@ -31,4 +31,3 @@ pub use checking::{Checked, check};
 pub use laws::{
     accepted_can_be_written, accepted_is_well_named, keys_have_codes, limits_count_the_file,
 };
-pub use limits::limits_refusal;

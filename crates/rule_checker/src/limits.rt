@@ -52,7 +52,7 @@ fn groups_refusal(groups: &[GroupDef]) -> Option<Refusal>
 
 /// The first refusal for limits that there is.
 #[tactic(auto, unfolding(crate::specs::Limits::limits_refusal))]
-pub fn limits_refusal(alloc: Global, program: &Program) -> Result<Option<Refusal>, Memory>
+pub(crate) fn limits_refusal(alloc: Global, program: &Program) -> Result<Option<Refusal>, Memory>
     ensures { IfOk result (λ refusal. refusal ≡ limits_refusal program.now) }
 {
     let statements = statements_refusal(alloc, program)?;

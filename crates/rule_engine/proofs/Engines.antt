@@ -10,7 +10,7 @@ use Rattle.kmn_base.specs.declared.items.Element.{Element}
 use Rattle.kmn_base.specs.declared.items.Element.TheVariants.{Char}
 use Rattle.kmn_base.specs.declared.limits.TheConstants.{EVENT_ENTRIES, EVENT_PUTS, WINDOW_ITEMS}
 use Rattle.rule_model.specs.declared.tables.Tables.{Tables}
-use Rattle.rule_model.specs.Keyboard.{StoreMeaning, Numbered}
+use Rattle.rule_model.specs.Keyboard.{StoreMeaning, Numbered, stated}
 use Rattle.rule_model.specs.Plain.{of_options}
 use Rattle.rule_model.specs.Content.{option_number}
 use Rattle.rule_model.specs.Event.{State, set_option}
@@ -18,7 +18,7 @@ use Rattle.rule_model.specs.Tab.{tab}
 use Rattle.rule_model.specs.Trace.{options_of, first_state}
 use Rattle.engine_state.specs.declared.options.Cell.{Cell}
 use Rattle.engine_state.specs.Cells.{first_cells, changed, host_cell, current_value, saved_value}
-use Rattle.engine_state.specs.Meaning.{stated, option_values, option_saves, holding}
+use Rattle.engine_state.specs.Meaning.{option_values, option_saves, holding}
 use Rattle.engine_state.proofs.FirstCells.{first_cells_count}
 use Rattle.engine_state.proofs.Meaning.{calls_follow, first_option_values, first_option_saves}
 use Rattle.engine_state.specs.Cached.{CacheValue}

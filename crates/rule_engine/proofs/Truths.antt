@@ -10,14 +10,14 @@ use Rattle.kmn_base.specs.declared.items.Element.{Element}
 use Rattle.kmn_base.specs.declared.items.Element.TheVariants.{Char}
 use Rattle.rule_model.specs.declared.tables.Tables.{Tables}
 use Rattle.rule_model.specs.Content.{content, elements_at, option_number}
-use Rattle.rule_model.specs.Keyboard.{Numbered, Platform, StoreMeaning}
+use Rattle.rule_model.specs.Keyboard.{Numbered, Platform, StoreMeaning, stated}
 use Rattle.rule_model.specs.Plain.{option_names}
 use Rattle.rule_model.specs.System.{has_words}
 use Rattle.rule_model.specs.Tab.{tab, tab_options, with_options}
 use Rattle.rule_model.proofs.SystemOptions.{platform_numbered, content_by_option}
 use Rattle.engine_state.specs.declared.options.Cell.{Cell}
 use Rattle.engine_state.specs.Cells.{cell_at, changed, current_value, first_cell, first_cells, host_cell, save_cell}
-use Rattle.engine_state.specs.Meaning.{option_values, stated}
+use Rattle.engine_state.specs.Meaning.{option_values}
 use Rattle.engine_state.proofs.FirstCells.{first_cells_count}
 use Rattle.engine_state.proofs.Meaning.{option_value_found, stated_at}
 use Rattle.rule_matching.specs.Moment.{content_at, truths_at}

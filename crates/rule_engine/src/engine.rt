@@ -2,9 +2,9 @@ ghost use Rattle.std.specs.Prelude.{◌≡◌, ◌<◌, ◌≤◌, ◌+◌, ◌^
 ghost use Rattle.kmn_base.specs.declared.limits.TheConstants.{EVENT_ENTRIES, EVENT_PUTS, STORES};
 ghost use Rattle.kmx_format.specs.TablesOf.{tables_of};
 ghost use Rattle.engine_state.specs.Cells.{held_value};
-ghost use Rattle.engine_state.specs.Meaning.{stated, option_values, option_saves};
+ghost use Rattle.engine_state.specs.Meaning.{option_values, option_saves};
 ghost use Rattle.rule_model.specs.Content.{content};
-ghost use Rattle.rule_model.specs.Keyboard.{Numbered};
+ghost use Rattle.rule_model.specs.Keyboard.{Numbered, stated};
 ghost use Rattle.rule_model.specs.Plain.{option_numbers};
 ghost use Rattle.rule_model.specs.Tab.{tab};
 ghost use Rattle.rule_engine.specs.Engine.{IsAtWork, IsRunnable, engine_with, press_outcome, press_leaves};

@@ -2,6 +2,7 @@
 use Rattle.std.proofs.Common.{◌≡◌, ℕ, ◌≤◌, Bool, true, false, nat_lt, nat_le, not, cond, List, [], ◌∷◌, ◌++◌, length, map, Option, Some, None, is_some, refl, arith}
 use Rattle.std.specs.Prelude.{All, nat_eq, find}
 use Rattle.std.specs.List.{list_all, list_any, AllByRecursion}
+use Rattle.std.specs.Option.{option_or}
 use Rattle.std.proofs.lemmas.Bool.{and_parts, and_from, or_parts}
 use Rattle.std.proofs.lemmas.Bool.Decides.{nat_tests}
 use Rattle.std.proofs.lemmas.List.Elements.{All-head, All-tail}
@@ -10,6 +11,8 @@ use Rattle.kmn_base.specs.declared.items.Element.{Element}
 use Rattle.kmn_base.specs.declared.items.Element.TheVariants as element
 use Rattle.kmn_base.specs.declared.limits.TheConstants.{STORE_ELEMENTS}
 use Rattle.kmn_base.specs.Names.{same_name}
+use Rattle.kmn_base.proofs.Options.{option_or-none}
+use Rattle.kmn_base.proofs.Elements.{All-append_parts}
 use Rattle.rule_model.specs.declared.program.SrcItem.{SrcItem}
 use Rattle.rule_model.specs.declared.program.SrcItem.TheVariants as source
 use Rattle.rule_model.specs.declared.program.RuleDef.{RuleDef}
@@ -21,12 +24,11 @@ use Rattle.rule_model.specs.declared.tables.Store.{Store}
 use Rattle.rule_model.specs.Naming.{names_of, stores_of, elements_named}
 use Rattle.rule_model.specs.Tab.{store_elements}
 use Rattle.kmx_format.specs.Numbers.{dictionary_stores, value_store, values_of}
-use Rattle.kmn_names.specs.First.{or_else, first_code}
+use Rattle.kmn_names.specs.First.{first_code}
 use Rattle.kmn_names.specs.Known.{known}
 use Rattle.item_checker.specs.Items.{is_option, is_far, is_unfit_key, are_unfit_keys, key_code, context_code, rule_output_code, rule_code, rule_refusal, rules_refusal}
 use Rattle.rule_checker.specs.Refused.{IsRead, refused}
-use Rattle.rule_checker.proofs.Lists.{All-append_parts}
-use Rattle.rule_checker.proofs.Unrefused.{none_both, none_at_line, none_broken, none_first, Stands}
+use Rattle.rule_checker.proofs.Unrefused.{none_at_line, none_broken, none_first, Stands}
 use Rattle.rule_checker.proofs.Accepted.{unrefused}
 use Rattle.rule_checker.proofs.Reading.{has_parts, have_parts, all_have_parts, words_read}
 use Rattle.rule_checker.proofs.Within.{few_stores, few_elements, few_groups, few_marks, few_keys}
@@ -82,8 +84,8 @@ module _ (program : Program) (few : All (λ (s : Store). length s.elements ≤ S
     where
       by : (k : RuleKind) → rule_code (known program) k rule ≡ None → has_parts using_keys k rule ≡ true → has_unit_key (stores_of program) rule ≡ true
       by kind.Plain codes fits =
-          let one = none_both (context_code [] rule.context) (or_else (key_code (known program) rule.key) (first_code (rule_output_code (known program) rule) rule.output)) codes in
-          unit_key rule.key (none_both (key_code (known program) rule.key) (first_code (rule_output_code (known program) rule) rule.output) one.1).0
+          let one = option_or-none (context_code [] rule.context) (option_or (key_code (known program) rule.key) (first_code (rule_output_code (known program) rule) rule.output)) codes in
+          unit_key rule.key (option_or-none (key_code (known program) rule.key) (first_code (rule_output_code (known program) rule) rule.output) one.1).0
       by kind.OnMatch codes fits = bare_key rule.key (and_parts (nat_eq (length rule.context) 0) (not (is_some rule.key)) fits).1
       by kind.OnNoMatch codes fits = bare_key rule.key (and_parts (nat_eq (length rule.context) 0) (not (is_some rule.key)) fits).1
 

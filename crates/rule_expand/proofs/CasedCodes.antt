@@ -8,8 +8,8 @@ use Rattle.std.proofs.lemmas.List.Folds.{list_any-append}
 use Rattle.rule_model.proofs.NumberSets.{inserted}
 use Rattle.kmn_base.specs.declared.items.Element.{Element}
 use Rattle.kmn_base.specs.declared.items.Element.TheVariants as element
-use Rattle.rule_model.specs.Src.{code_of_element}
-use Rattle.rule_expand.specs.CasedCodes.{codes_among, with_code, HasCodes}
+use Rattle.rule_model.specs.Src.{code_of_element, codes_among}
+use Rattle.rule_expand.specs.CasedCodes.{with_code, HasCodes}
 
 -- one element more
 with_one : (known codes : List ℕ) (e : Element) → HasCodes known codes → HasCodes (with_code known e) (codes ++ codes_among (e ∷ []))

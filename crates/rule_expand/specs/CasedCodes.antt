@@ -1,16 +1,12 @@
 -- The codes of cased keys, as they are found.
-use Rattle.std.specs.Prelude.{◌≡◌, ℕ, nat_eq, List, find, filter_map}
+use Rattle.std.specs.Prelude.{◌≡◌, ℕ, nat_eq, List, find}
 use Rattle.std.specs.List.{list_any}
 use Rattle.indexmap.specs.IndexSet.{insert_key}
 use Rattle.kmn_base.specs.declared.items.Element.{Element}
 use Rattle.kmn_base.specs.declared.items.Element.TheVariants as element
 use Rattle.rule_model.specs.declared.tables.Store.{Store}
 use Rattle.rule_model.specs.Tab.{store_elements}
-use Rattle.rule_model.specs.Src.{code_of_element, is_cased_keys}
-
--- the codes of the keys among elements
-abbrev pub codes_among : List Element → List ℕ
-codes_among elements = filter_map code_of_element elements
+use Rattle.rule_model.specs.Src.{is_cased_keys, codes_among}
 
 -- the codes of the first `&casedkeys` of stores
 abbrev pub cased_codes : List Store → List ℕ

@@ -2,10 +2,10 @@
 
 ghost use Rattle.std.specs.Prelude.{◌≡◌, find, IfOk, OnOk};
 ghost use Rattle.rule_model.specs.Tab.{store_elements};
-ghost use Rattle.rule_model.specs.Src.{is_cased_keys};
+ghost use Rattle.rule_model.specs.Src.{is_cased_keys, codes_among};
 ghost use Rattle.rule_model.specs.CasedKeys.{half_flags, with_other_shift};
 ghost use Rattle.kmx_format.specs.Compiles.{has_halves, half_key};
-ghost use Rattle.rule_expand.specs.CasedCodes.{cased_codes, codes_among, with_code, HasCodes};
+ghost use Rattle.rule_expand.specs.CasedCodes.{cased_codes, with_code, HasCodes};
 
 use crate::lookups::Lookups;
 use indexmap::IndexSet;

@@ -2,7 +2,7 @@
 use Rattle.std.proofs.Common.{◌≡◌, ◌<◌, ◌≤◌, ◌&&◌, eqb, ℕ, Bool, true, false, List, [], Option, Some, None, length, slice_get, slice_index_or, inl, inr, refl, sym, ◌∙◌, ap, subst, arith}
 use Rattle.std.specs.List.{All, Contains}
 use Rattle.std.specs.List.Sorted.{IsPermutation, IsNonDecreasingBy}
-use Rattle.std.proofs.lemmas.Bool.{cases_lt, cases_Bool, eqb-true, eqb-false, eq-eqb, ne_eqb, cond-true, cond-false}
+use Rattle.std.proofs.lemmas.Bool.{cases_lt, cases_Bool, eqb-true, eqb-false, eq-eqb, ne_eqb, cond-true, cond-false, and_parts}
 use Rattle.std.proofs.lemmas.List.{get_or_default}
 use Rattle.std.proofs.Math.ListN.{get_or-eq_default}
 use Rattle.std.proofs.lemmas.List.Sorted.{All-permutation, Contains-permutation}
@@ -99,10 +99,6 @@ module _ (item store place : ℕ) (rows : List Holding) (starts : EndsAt (holdin
         omega (arith, high, low, small_row.0, small_row.1, small_one.0, small_one.1, of_item, of_store),
       )
 
-both_true : (a b : Bool) → (a && b) ≡ true → (a ≡ true) × (b ≡ true)
-both_true true b both = (refl, both)
-both_true false b both = absurd (cc)
-
 -- the first row of an item and a store has the item's first place there
 pub place_found : (stores : List (List Element)) (rows : List Holding) (x : Item) (store place : ℕ) → AreHoldings stores rows → store < 65536
     → EndsAt (holding_start (item_number x) store) rows place → place_if (item_number x) store (slice_get rows place) ≡ place_of x (content_at stores store)
@@ -133,7 +129,7 @@ place_found stores rows x store place are below starts = go (slice_get rows plac
     ]
     go (Some row) p here is = elim (cases_Bool (eqb row.item item && eqb row.store store)) [
       | inl same ↦
-          let both = both_true (eqb row.item item) (eqb row.store store) same in
+          let both = and_parts (eqb row.item item) (eqb row.store store) same in
           cond-true (eqb row.item item && eqb row.store store) (Some row.place) None same
           ∙ sym (held row here (eqb-true row.item item both.0) (eqb-true row.store store both.1)) ∙ is
       | inr other ↦ cond-false (eqb row.item item && eqb row.store store) (Some row.place) None other ∙ none row p here is other

@@ -10,37 +10,37 @@ use Rattle.kmn_base.specs.declared.items.Item.{Item}
 use Rattle.rule_model.specs.declared.tables.Store.{Store}
 use Rattle.rule_model.specs.declared.tables.Tables.{Tables}
 use Rattle.rule_model.specs.Content.{elements_at}
-use Rattle.rule_model.specs.Keyboard.{StoreMeaning}
+use Rattle.rule_model.specs.Keyboard.{StoreMeaning, stated}
 use Rattle.rule_model.specs.System.{system_options}
 use Rattle.rule_model.specs.Tab.{tab, tab_options}
 use Rattle.rule_model.proofs.SystemOptions.{all_elements, length-all_stores}
 use Rattle.rule_index.specs.declared.holding.Holding.{Holding}
 use Rattle.rule_index.specs.Holdings.{content_at, AreHoldersOf}
-use Rattle.rule_index.specs.Stores.{keyboard_contents, store_contents, HaveFewElements}
+use Rattle.rule_index.specs.Stores.{store_contents, HaveFewElements}
 
 -- the elements that are listed at a store's number are the store's
-pub contents_found : (stores : List StoreMeaning) (n : ℕ) (elements : List Element) → slice_get (keyboard_contents stores) n ≡ Some elements → elements_at stores (Some n) ≡ elements
+pub contents_found : (stores : List StoreMeaning) (n : ℕ) (elements : List Element) → slice_get (stated stores) n ≡ Some elements → elements_at stores (Some n) ≡ elements
 contents_found [] zero elements at = absurd (cc)
 contents_found [] (suc n) elements at = absurd (cc)
 contents_found (store ∷ stores) zero elements at = cc
 contents_found (store ∷ stores) (suc n) elements at = contents_found stores n elements at
 
 -- where none are listed there is no such store
-pub contents_absent : (stores : List StoreMeaning) (n : ℕ) → slice_get (keyboard_contents stores) n ≡ None → elements_at stores (Some n) ≡ []
+pub contents_absent : (stores : List StoreMeaning) (n : ℕ) → slice_get (stated stores) n ≡ None → elements_at stores (Some n) ≡ []
 contents_absent [] zero at = refl
 contents_absent [] (suc n) at = refl
 contents_absent (store ∷ stores) zero at = absurd (cc)
 contents_absent (store ∷ stores) (suc n) at = contents_absent stores n at
 
 -- what is listed at a number is what the store of this number has
-pub content_is : (stores : List StoreMeaning) (n : ℕ) → content_at (keyboard_contents stores) n ≡ elements_at stores (Some n)
+pub content_is : (stores : List StoreMeaning) (n : ℕ) → content_at (stated stores) n ≡ elements_at stores (Some n)
 content_is [] zero = refl
 content_is [] (suc n) = refl
 content_is (store ∷ stores) zero = refl
 content_is (store ∷ stores) (suc n) = content_is stores n
 
 -- so an item's holders among what is listed are those among the stores
-pub holders_in_stores : (stores : List StoreMeaning) (x : Item) (rows : List Holding) → AreHoldersOf x (content_at (keyboard_contents stores)) rows
+pub holders_in_stores : (stores : List StoreMeaning) (x : Item) (rows : List Holding) → AreHoldersOf x (content_at (stated stores)) rows
     → AreHoldersOf x (λ store. elements_at stores (Some store)) rows
 holders_in_stores stores x rows = subst (λ contents. AreHoldersOf x contents rows) (λ i n. content_is stores n i)
 
@@ -49,14 +49,14 @@ few_listed : (stores : List Store) → HaveFewElements stores → All (λ (eleme
 few_listed stores few = All-map (λ (elements : List Element). length elements ≤ STORE_ELEMENTS) (λ (store : Store). store.elements) stores few
 
 -- so is each that a keyboard has, since the system options are short
-pub few_of_all : (tables : Tables) → HaveFewElements tables.stores → All (λ (elements : List Element). length elements ≤ STORE_ELEMENTS) (keyboard_contents (tab tables).stores)
+pub few_of_all : (tables : Tables) → HaveFewElements tables.stores → All (λ (elements : List Element). length elements ≤ STORE_ELEMENTS) (stated (tab tables).stores)
 unfolding tab
 few_of_all tables few =
     subst (All (λ (elements : List Element). length elements ≤ STORE_ELEMENTS)) (sym (all_elements (tab_options tables) 0 tables.stores))
-    (All-append (λ (elements : List Element). length elements ≤ STORE_ELEMENTS) (store_contents tables.stores) (keyboard_contents system_options)
+    (All-append (λ (elements : List Element). length elements ≤ STORE_ELEMENTS) (store_contents tables.stores) (stated system_options)
     (few_listed tables.stores few) system_few)
   where
-    system_few : All (λ (elements : List Element). length elements ≤ STORE_ELEMENTS) (keyboard_contents system_options)
+    system_few : All (λ (elements : List Element). length elements ≤ STORE_ELEMENTS) (stated system_options)
     system_few zero d below = omega arith
     system_few (suc zero) d below = omega arith
     system_few (suc (suc k)) d below = absurd (omega arith)
@@ -69,7 +69,7 @@ count_of_all tables = length-all_stores (tab_options tables) tables.stores
 -- the stores of the file and then the two system options are all that are listed
 pub all_listed : (tables : Tables) (own more all : List (List Element)) (layer platform : List Element)
     → own ≡ store_contents tables.stores → layer ≡ elements_at system_options (Some 0) → platform ≡ elements_at system_options (Some 1)
-    → more ≡ own ++ layer ∷ [] → all ≡ more ++ platform ∷ [] → all ≡ keyboard_contents (tab tables).stores
+    → more ≡ own ++ layer ∷ [] → all ≡ more ++ platform ∷ [] → all ≡ stated (tab tables).stores
 unfolding tab
 all_listed tables own more all layer platform are first second one both =
     both
@@ -79,10 +79,10 @@ all_listed tables own more all layer platform are first second one both =
     ∙ sym (all_elements (tab_options tables) 0 tables.stores)
 
 -- so as many are listed, and their numbers are of 16 bits
-pub counted_all : (tables : Tables) (contents : List (List Element)) → contents ≡ keyboard_contents (tab tables).stores → length contents ≡ length (tab tables).stores
+pub counted_all : (tables : Tables) (contents : List (List Element)) → contents ≡ stated (tab tables).stores → length contents ≡ length (tab tables).stores
 counted_all tables contents are = ap length are ∙ length-map (tab tables).stores (λ (store : StoreMeaning). store.elements)
 
-pub few_in_all : (tables : Tables) (contents : List (List Element)) → contents ≡ keyboard_contents (tab tables).stores → length tables.stores ≤ STORES → length contents ≤ STORES + 2
+pub few_in_all : (tables : Tables) (contents : List (List Element)) → contents ≡ stated (tab tables).stores → length tables.stores ≤ STORES → length contents ≤ STORES + 2
 few_in_all tables contents are few = omega (arith, counted_all tables contents are, count_of_all tables, few)
 
 -- one store more is listed

@@ -10,8 +10,7 @@ use Rattle.kmn_base.specs.declared.items.Element.{Element}
 use Rattle.kmn_base.specs.declared.items.Element.TheVariants as element
 use Rattle.rule_model.specs.Match.{same_element, same_value}
 use Rattle.rule_model.specs.Content.{elements_at}
-use Rattle.rule_model.specs.Keyboard.{StoreMeaning}
-use Rattle.rule_index.specs.Stores.{keyboard_contents}
+use Rattle.rule_model.specs.Keyboard.{StoreMeaning, stated}
 use Rattle.rule_index.specs.Values.{element_code, value_code, number_for, AreNumbersOf}
 
 -- no code begins as another, so codes are the same where elements are
@@ -51,7 +50,7 @@ same_codes (a ∷ rest) (b ∷ others) =
 
 -- the codes of no elements and of each store's
 abbrev codes_of : List StoreMeaning → List (List ℕ)
-codes_of stores = map value_code ([] ∷ keyboard_contents stores)
+codes_of stores = map value_code ([] ∷ stated stores)
 
 code_at : (stores : List StoreMeaning) (n : ℕ) → slice_index_or (codes_of stores) (suc n) [] ≡ value_code (elements_at stores (Some n))
 code_at [] zero = refl
@@ -67,8 +66,8 @@ absent (store ∷ stores) (suc n) past = absent stores n (omega arith)
 
 count_of : (stores : List StoreMeaning) → length (codes_of stores) ≡ suc (length stores)
 count_of stores =
-    let contents : length (keyboard_contents stores) ≡ length stores = length-map stores (λ (store : StoreMeaning). store.elements) in
-    let codes : length (map value_code (keyboard_contents stores)) ≡ length (keyboard_contents stores) = length-map (keyboard_contents stores) value_code in
+    let contents : length (stated stores) ≡ length stores = length-map stores (λ (store : StoreMeaning). store.elements) in
+    let codes : length (map value_code (stated stores)) ≡ length (stated stores) = length-map (stated stores) value_code in
     omega (arith, contents, codes)
 
 -- where the number of a store stands, which has the store's code
@@ -96,11 +95,11 @@ number_at stores numbers n count = elim (slice_get_cases numbers (n + 1)).1 [
 ]
 
 -- there is at least the number of no elements
-pub some_numbers : (stores : List StoreMeaning) (numbers : List ℕ) → AreNumbersOf (map value_code ([] ∷ keyboard_contents stores)) numbers → 0 < length numbers
+pub some_numbers : (stores : List StoreMeaning) (numbers : List ℕ) → AreNumbersOf (map value_code ([] ∷ stated stores)) numbers → 0 < length numbers
 some_numbers stores numbers are = omega (arith, are.count, count_of stores)
 
 -- stores with the same number have the same elements, and others haven't
-pub same_number : (stores : List StoreMeaning) (numbers : List ℕ) (n m : ℕ) → AreNumbersOf (map value_code ([] ∷ keyboard_contents stores)) numbers
+pub same_number : (stores : List StoreMeaning) (numbers : List ℕ) (n m : ℕ) → AreNumbersOf (map value_code ([] ∷ stated stores)) numbers
     → eqb (number_for numbers n) (number_for numbers m) ≡ same_value (elements_at stores (Some n)) (elements_at stores (Some m))
 same_number stores numbers n m are = decided ∙ sym (same_codes (elements_at stores (Some n)) (elements_at stores (Some m)))
   where

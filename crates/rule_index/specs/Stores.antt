@@ -3,15 +3,10 @@ use Rattle.std.specs.Prelude.{◌≤◌, List, All, length, map}
 use Rattle.kmn_base.specs.declared.items.Element.{Element}
 use Rattle.kmn_base.specs.declared.limits.TheConstants.{STORE_ELEMENTS}
 use Rattle.rule_model.specs.declared.tables.Store.{Store}
-use Rattle.rule_model.specs.Keyboard.{StoreMeaning}
 
 -- what each store of a file has, in their order
 abbrev pub store_contents : List Store → List (List Element)
 store_contents stores = map (λ (store : Store). store.elements) stores
-
--- what each store of a keyboard has: those of the file, and behind them the system options
-abbrev pub keyboard_contents : List StoreMeaning → List (List Element)
-keyboard_contents stores = map (λ (store : StoreMeaning). store.elements) stores
 
 -- no store has more elements than are indexed
 abbrev pub HaveFewElements : List Store → Type 0

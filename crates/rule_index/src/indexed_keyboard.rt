@@ -2,14 +2,14 @@ ghost use Rattle.std.specs.Prelude.{◌≡◌, ◌≤◌, ◌+◌, ◌-◌, Some
 ghost use Rattle.kmn_base.specs.declared.limits.TheConstants.{RECORDS, STORES};
 ghost use Rattle.rule_model.specs.Dictionary.{name_in};
 ghost use Rattle.rule_model.specs.Content.{elements_at, option_number};
-ghost use Rattle.rule_model.specs.Keyboard.{Numbered, StoreMeaning};
+ghost use Rattle.rule_model.specs.Keyboard.{Numbered, StoreMeaning, stated};
 ghost use Rattle.rule_model.specs.Match.{place_of, same_value};
 ghost use Rattle.rule_model.specs.Plain.{option_numbers};
 ghost use Rattle.rule_model.specs.System.{has_words};
 ghost use Rattle.rule_model.specs.Tab.{tab};
 ghost use Rattle.rule_index.specs.Groups.{AreIndexesOf, IsRuleIndexOf};
 ghost use Rattle.rule_index.specs.Holdings.{AreHoldersOf};
-ghost use Rattle.rule_index.specs.Stores.{keyboard_contents, store_contents, HaveFewElements};
+ghost use Rattle.rule_index.specs.Stores.{store_contents, HaveFewElements};
 
 use crate::holding::Holding;
 use crate::holdings::Holdings;
@@ -63,7 +63,7 @@ impl<'a> Model for IndexedKeyboard<'a> {
     ghost use Rattle.rule_model.specs.Tab.{tab};
     ghost use Rattle.rule_index.specs.Groups.{AreIndexesOf};
     ghost use Rattle.rule_index.specs.Holdings.{AreHoldings};
-    ghost use Rattle.rule_index.specs.Stores.{keyboard_contents};
+    ghost use Rattle.rule_model.specs.Keyboard.{stated};
     ghost use Rattle.rule_index.specs.Values.{value_code, AreNumbersOf};
 
     ghost Value = { Tables };
@@ -74,9 +74,9 @@ impl<'a> Model for IndexedKeyboard<'a> {
         (keyboard.numbers.items ≡ option_numbers 0 (tab keyboard.file).stores)
         × AreIndexesOf keyboard.file.groups keyboard.indexes.items
         × (keyboard.names ≡ (tab keyboard.file).dictionary)
-        × (keyboard.stores.items ≡ keyboard_contents (tab keyboard.file).stores)
-        × AreHoldings (keyboard_contents (tab keyboard.file).stores) keyboard.holdings
-        × AreNumbersOf (map value_code ([] ∷ keyboard_contents (tab keyboard.file).stores)) keyboard.values.items
+        × (keyboard.stores.items ≡ stated (tab keyboard.file).stores)
+        × AreHoldings (stated (tab keyboard.file).stores) keyboard.holdings
+        × AreNumbersOf (map value_code ([] ∷ stated (tab keyboard.file).stores)) keyboard.values.items
         × (length keyboard.file.stores ≤ STORES) };
 }
 
@@ -104,7 +104,7 @@ fn stores_of(alloc: Global, file: &FileTables<'_>) -> Result<Vec<Seq<Element>>, 
 
 /// What each store of a file has, and behind them the two system options.
 fn all_stores_of(alloc: Global, file: &FileTables<'_>) -> Result<Vec<Seq<Element>>, Memory>
-    ensures { IfOk result (λ stores. stores.items ≡ keyboard_contents (tab file.now).stores) }
+    ensures { IfOk result (λ stores. stores.items ≡ stated (tab file.now).stores) }
 {
     let mut stores = stores_of(alloc, file)?;
     stores.push(Seq::from_slice(alloc, system_elements(0))?)?;

@@ -3,6 +3,7 @@ use Rattle.std.proofs.Common.{◌≡◌, ℕ, ◌-◌, ◌<◌, ◌≤◌, Bool,
 use Rattle.std.specs.Prelude.{if◌then◌else◌, ◌&&◌, ◌||◌, not, nat_eq, nat_le}
 use Rattle.std.specs.List.{list_all, list_any}
 use Rattle.std.proofs.lemmas.Bool.{cases_Bool, eqb-true, le-leb, lt-leb}
+use Rattle.std.proofs.Math.Bool.{and-false}
 use Rattle.kmn_base.specs.declared.items.Item.{Item}
 use Rattle.kmn_base.specs.declared.keys.KeyPress.{KeyPress}
 use Rattle.kmn_base.specs.declared.keys.RuleKey.TheVariants as key
@@ -80,10 +81,6 @@ caught_by_none : (catches : Option (List Catch)) → caught_by catches None ≡ 
 caught_by_none None = refl
 caught_by_none (Some catches) = refl
 
-and_false : (b : Bool) → (b && false) ≡ false
-and_false true = refl
-and_false false = refl
-
 if_same : (b c : Bool) → (if b then c else c) ≡ c
 if_same true c = refl
 if_same false c = refl
@@ -125,7 +122,7 @@ module _ (content : Content) (press : KeyPress) (stores : List Store) (using_key
       = (λ i. if list_any is_at_start patterns then not_larger (length left) taken less i else lt-leb taken (length left) less i)
       ∙ if_same (list_any is_at_start patterns) false in
       sym (ap (λ (b : Bool). if conditions && b then caught_by (found taken) place else None) roomless
-      ∙ ap (λ (b : Bool). if b then caught_by (found taken) place else None) (and_false conditions))
+      ∙ ap (λ (b : Bool). if b then caught_by (found taken) place else None) (and-false conditions))
 
   -- one whose key fits has caught what its context catches where each condition and each `nul` stands
   pub allowed_holds : is_fitting ≡ true → count ≡ pattern_count (map (tab_pattern []) rule.context) → count ≤ length left

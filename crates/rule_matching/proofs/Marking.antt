@@ -1,7 +1,8 @@
 -- Of which distances there is no mark.
-use Rattle.std.proofs.Common.{◌≡◌, ◌≢◌, ℕ, ◌<◌, ◌≤◌, ◌^◌, Bool, true, false, ◌&&◌, Some, nat_eq, refl, ap, ◌∙◌, inl, inr}
+use Rattle.std.proofs.Common.{◌≡◌, ◌≢◌, ℕ, ◌<◌, ◌≤◌, ◌^◌, false, ◌&&◌, Some, nat_eq, ap, ◌∙◌, inl, inr}
 use Rattle.std.proofs.lemmas.Bool.{cases_Bool, eqb-true}
 use Rattle.std.proofs.lemmas.Nat.Bits.{bit_at_above, bit_at-zero}
+use Rattle.std.proofs.Math.Bool.{and-false}
 use Rattle.rule_matching.specs.declared.store_marks.Marks.{Marks}
 use Rattle.rule_matching.specs.StoreMarks.{has_distance, is_marked_by}
 
@@ -13,14 +14,10 @@ has_no_bit distances distance fits far = ap (λ b. nat_eq b 1) (bit_at_above dis
 no_distance : (distance : ℕ) → has_distance 0 distance ≡ false
 no_distance distance = ap (λ b. nat_eq b 1) (bit_at-zero distance)
 
-never : (b : Bool) → (b && false) ≡ false
-never true = refl
-never false = refl
-
 -- where a store has no marks none is set
 pub no_marks : (choice distance : ℕ) (marks : Marks) → marks.distances ≡ 0 → is_marked_by choice (Some marks) distance ≡ false
 no_marks choice distance marks none =
-    ap (λ b. nat_eq marks.choice choice && b) (ap (λ w. has_distance w distance) none ∙ no_distance distance) ∙ never (nat_eq marks.choice choice)
+    ap (λ b. nat_eq marks.choice choice && b) (ap (λ w. has_distance w distance) none ∙ no_distance distance) ∙ and-false (nat_eq marks.choice choice)
 
 -- nor where its marks are of another choice
 pub other_choice : (choice distance : ℕ) (marks : Marks) → marks.choice ≢ choice → is_marked_by choice (Some marks) distance ≡ false

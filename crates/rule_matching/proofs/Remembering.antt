@@ -1,24 +1,11 @@
 -- What is known of the places in stores when a cell of one store is written.
-use Rattle.std.proofs.Common.{◌≡◌, ◌≢◌, ℕ, zero, suc, ◌<◌, ◌⊎◌, List, [], ◌∷◌, length, set, replicate, slice_get, true, false, eqb, ltb, cond, refl, sym, ap, ◌∙◌, inl, inr, arith}
+use Rattle.std.proofs.Common.{◌≡◌, ◌≢◌, ℕ, zero, suc, ◌<◌, ◌⊎◌, List, length, set, replicate, slice_get, true, false, eqb, ltb, cond, refl, sym, ap, ◌∙◌, inl, inr}
 use Rattle.std.specs.Prelude.{Option, Some, None}
 use Rattle.std.proofs.lemmas.Bool.{cases_Bool, eqb-true, eq-eqb}
 use Rattle.kmn_base.specs.declared.limits.TheConstants.{STORE_ELEMENTS}
+use Rattle.kmn_base.proofs.Elements.{slice_get-set_other, slice_get-set_same}
 use Rattle.rule_matching.specs.declared.known_places.StorePlaces.{StorePlaces}
 use Rattle.rule_matching.specs.KnownPlaces.{said, said_by, known_of, memorable, IsBlank}
-
--- a written element is there
-pub written_there : {X : Type 0} (xs : List X) (n : ℕ) (x : X) → n < length xs → slice_get (set xs n x) n ≡ Some x
-written_there [] n x within = absurd (omega arith)
-written_there (y ∷ xs) zero x within = refl
-written_there (y ∷ xs) (suc n) x within = written_there xs n x (omega arith)
-
--- the others stay
-pub others_stay : {X : Type 0} (xs : List X) (n k : ℕ) (x : X) → k ≢ n → slice_get (set xs n x) k ≡ slice_get xs k
-others_stay [] n k x other = refl
-others_stay (y ∷ xs) zero zero x other = absurd (other refl)
-others_stay (y ∷ xs) zero (suc k) x other = refl
-others_stay (y ∷ xs) (suc n) zero x other = refl
-others_stay (y ∷ xs) (suc n) (suc k) x other = others_stay xs n k x (λ same. other (ap suc same))
 
 -- each of equal elements is that one
 pub each_is_the_one : {X : Type 0} (n k : ℕ) (x y : X) → slice_get (replicate n x) k ≡ Some y → x ≡ y
@@ -66,7 +53,7 @@ pub written_is_known : (choice distance cell : ℕ) (before after : StorePlaces)
     → after.asked ≡ before.asked → after.cells ≡ set before.cells distance cell → known_of choice (Some after) distance ≡ said cell
 written_is_known choice distance cell before after now within asked cells =
     ap (λ b. cond b (said_by (slice_get after.cells distance)) None) (eq-eqb after.asked choice (asked ∙ now))
-    ∙ ap said_by (ap (λ xs. slice_get xs distance) cells ∙ written_there before.cells distance cell within)
+    ∙ ap said_by (ap (λ xs. slice_get xs distance) cells ∙ slice_get-set_same before.cells distance cell within)
 
 -- and the others stay known
 pub others_stay_known : (choice distance cell : ℕ) (before after : StorePlaces)
@@ -74,7 +61,7 @@ pub others_stay_known : (choice distance cell : ℕ) (before after : StorePlaces
     → (d : ℕ) → d ≢ distance → known_of choice (Some after) d ≡ known_of choice (Some before) d
 others_stay_known choice distance cell before after asked cells d other =
     ap (λ n. cond (eqb n choice) (said_by (slice_get after.cells d)) None) asked
-    ∙ ap (λ o. cond (eqb before.asked choice) (said_by o) None) (ap (λ xs. slice_get xs d) cells ∙ others_stay before.cells distance d cell other)
+    ∙ ap (λ o. cond (eqb before.asked choice) (said_by o) None) (ap (λ xs. slice_get xs d) cells ∙ slice_get-set_other before.cells distance d cell other)
 
 -- what was remembered is memorable, so it is that place
 pub memorable_is_itself : (place known : Option ℕ) → memorable place ≡ Some known → known ≡ place
@@ -93,9 +80,9 @@ pub only_this_is_new : (choice store distance : ℕ) (place : Option ℕ) (store
     → (known_of choice (slice_get stores s) d ≡ Some p) ⊎ ((s ≡ store) × (d ≡ distance) × (p ≡ place))
 only_this_is_new choice store distance place stores before after within was written others s d p known =
     elim (same_or_other s store) [
-      | inr other ↦ inl (ap (λ o. known_of choice o d) (sym (others_stay stores store s after other)) ∙ known)
+      | inr other ↦ inl (ap (λ o. known_of choice o d) (sym (slice_get-set_other stores store s after other)) ∙ known)
       | inl here ↦
-          let there : slice_get (set stores store after) s ≡ Some after = ap (slice_get (set stores store after)) here ∙ written_there stores store after within in
+          let there : slice_get (set stores store after) s ≡ Some after = ap (slice_get (set stores store after)) here ∙ slice_get-set_same stores store after within in
           let known_here : known_of choice (Some after) d ≡ Some p = sym (ap (λ o. known_of choice o d) there) ∙ known in
           let was_here : slice_get stores s ≡ Some before = ap (slice_get stores) here ∙ was in
           elim (same_or_other d distance) [
@@ -110,12 +97,12 @@ pub others_stay_remembered : (choice store distance : ℕ) (stores : List StoreP
     → ((d : ℕ) → d ≢ distance → known_of choice (Some after) d ≡ known_of choice (Some before) d)
     → (s d : ℕ) → (s ≢ store) ⊎ (d ≢ distance) → known_of choice (slice_get (set stores store after) s) d ≡ known_of choice (slice_get stores s) d
 others_stay_remembered choice store distance stores before after within was others s d (inl other) =
-    ap (λ o. known_of choice o d) (others_stay stores store s after other)
+    ap (λ o. known_of choice o d) (slice_get-set_other stores store s after other)
 others_stay_remembered choice store distance stores before after within was others s d (inr other) =
     elim (same_or_other s store) [
-      | inr elsewhere ↦ ap (λ o. known_of choice o d) (others_stay stores store s after elsewhere)
+      | inr elsewhere ↦ ap (λ o. known_of choice o d) (slice_get-set_other stores store s after elsewhere)
       | inl here ↦
-          let there : slice_get (set stores store after) s ≡ Some after = ap (slice_get (set stores store after)) here ∙ written_there stores store after within in
+          let there : slice_get (set stores store after) s ≡ Some after = ap (slice_get (set stores store after)) here ∙ slice_get-set_same stores store after within in
           let was_here : slice_get stores s ≡ Some before = ap (slice_get stores) here ∙ was in
           ap (λ o. known_of choice o d) there ∙ others d other ∙ sym (ap (λ o. known_of choice o d) was_here)
     ]
@@ -123,4 +110,4 @@ others_stay_remembered choice store distance stores before after within was othe
 -- that place is known
 pub this_is_known : (choice store distance : ℕ) (stores : List StorePlaces) (after : StorePlaces) → store < length stores
     → known_of choice (slice_get (set stores store after) store) distance ≡ known_of choice (Some after) distance
-this_is_known choice store distance stores after within = ap (λ o. known_of choice o distance) (written_there stores store after within)
+this_is_known choice store distance stores after within = ap (λ o. known_of choice o distance) (slice_get-set_same stores store after within)

@@ -6,14 +6,14 @@ use Rattle.kmn_base.specs.declared.items.Element.{Element}
 use Rattle.rule_model.specs.declared.tables.Store as tables
 use Rattle.rule_model.specs.declared.tables.Tables.{Tables}
 use Rattle.rule_model.specs.Content.{content, option_number, option_of, options_before, elements_at}
-use Rattle.rule_model.specs.Keyboard.{Numbered, StoreMeaning}
+use Rattle.rule_model.specs.Keyboard.{Numbered, StoreMeaning, stated}
 use Rattle.rule_model.specs.Tab.{tab, tab_options, elements_of}
 use Rattle.rule_model.proofs.PlainOptions.{content_of_option, content_of_other}
 use Rattle.rule_model.proofs.SystemOptions.{own_elements}
 use Rattle.engine_state.specs.declared.options.Cell.{Cell}
 use Rattle.engine_state.specs.declared.options.Held.TheVariants.{Store}
 use Rattle.engine_state.specs.Cells.{cell_at, held_value}
-use Rattle.engine_state.specs.Meaning.{stated, option_values, option_saves}
+use Rattle.engine_state.specs.Meaning.{option_values, option_saves}
 use Rattle.engine_state.proofs.Meaning.{stated_at, option_value_found, option_save_found}
 use Rattle.rule_index.proofs.StoreIndexes.{count_of_all}
 use Rattle.rule_matching.specs.Moment.{saved_of}

@@ -1,9 +1,9 @@
 ghost use Rattle.std.specs.Prelude.{◌≡◌, ◌<◌, None, Some, length, option_map};
 ghost use Rattle.engine_state.specs.Cells.{held_value, cell_at};
-ghost use Rattle.engine_state.specs.Meaning.{stated, option_values, option_saves};
+ghost use Rattle.engine_state.specs.Meaning.{option_values, option_saves};
 ghost use Rattle.engine_state.specs.declared.options.Held.TheVariants.{Host, Store};
 ghost use Rattle.rule_model.specs.Content.{content, option_number};
-ghost use Rattle.rule_model.specs.Keyboard.{Numbered};
+ghost use Rattle.rule_model.specs.Keyboard.{Numbered, stated};
 ghost use Rattle.rule_model.specs.Tab.{tab};
 ghost use Rattle.rule_matching.specs.Moment.{saved_of};
 ghost use Rattle.rule_matching.specs.StoreValues.{elements_in};

@@ -38,7 +38,7 @@ pub same_either_way : (a b : List ℕ) → same_name a b ≡ same_name b a
 unfolding same_name
 same_either_way a b = nat_list_eq_equiv.symm (str_to_ascii_lowercase a) (str_to_ascii_lowercase b)
 
-any_name : (name : List ℕ) (names : List (List ℕ)) → list_any (same_name name) names ≡ list_any (λ known. same_name known name) names
+pub any_name : (name : List ℕ) (names : List (List ℕ)) → list_any (same_name name) names ≡ list_any (λ known. same_name known name) names
 any_name name [] = refl
 any_name name (known ∷ names) = λ j. same_either_way name known j || any_name name names j
 

@@ -1,5 +1,5 @@
 -- A keyboard as its meaning sees it: by names as a source has it, by numbers as a compiled file has it.
-use Rattle.std.specs.Prelude.{ℕ, Bool, List, Option}
+use Rattle.std.specs.Prelude.{ℕ, Bool, List, map, Option}
 use Rattle.kmn_base.specs.declared.items.Element.{Element}
 use Rattle.kmn_base.specs.declared.keys.RuleKey.{RuleKey}
 
@@ -65,6 +65,10 @@ pub record StoreMeaning : Type 0 where
   pub elements : List Element
   pub is_option : Bool
   pub is_system : Bool
+
+-- the elements of each store as the keyboard states them
+abbrev pub stated : List StoreMeaning → List (List Element)
+stated stores = map (λ (store : StoreMeaning). store.elements) stores
 
 -- which of the rules that hold goes first: the best of a source, the first of a file
 pub data Choice : Type 0 where

@@ -145,13 +145,17 @@ abbrev pub code_of_element : Element → Option ℕ
 code_of_element (element.Key flags code) = Some code
 code_of_element e = None
 
+-- the codes of the keys among elements
+abbrev pub codes_among : List Element → List ℕ
+codes_among elements = filter_map code_of_element elements
+
 -- whether a store is `&casedkeys`
 abbrev pub is_cased_keys : Store → Bool
 is_cased_keys store = nat_eq store.system CASED_KEYS
 
 -- the codes of the cased keys: those of the first `&casedkeys`
 unfoldable pub cased_keys : Program → List ℕ
-cased_keys program = filter_map code_of_element (store_elements (find is_cased_keys (stores_of program)))
+cased_keys program = codes_among (store_elements (find is_cased_keys (stores_of program)))
 
 -- the group that the first `begin Unicode` names
 abbrev pub start_named : Option BeginDef → Ref

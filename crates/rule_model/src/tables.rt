@@ -1,5 +1,6 @@
 ghost use Rattle.std.specs.Prelude.{◌≡◌};
 ghost use Rattle.rule_model.specs.Patterns.{is_condition, is_matched, is_nul};
+ghost use Rattle.rule_model.specs.Tab.{elements_of};
 
 use kmn_base::{Element, RuleKey, Seq, Text};
 
@@ -106,4 +107,16 @@ pub struct Tables {
     pub start_unicode: u32,
     pub stores: Seq<Store>,
     pub groups: Seq<Group>,
+}
+
+impl Tables {
+    /// The elements of a store, none where there is no such store.
+    pub fn elements(&self, store: u32) -> &[Element]
+        ensures { result.now ≡ elements_of self.now.stores store }
+    {
+        match self.stores.as_slice().get(store as usize) {
+            Some(store) => store.elements.as_slice(),
+            None => &[],
+        }
+    }
 }

@@ -1,11 +1,11 @@
 -- A rule whose records all have certificates is dead.
-use Rattle.std.proofs.Common.{◌≡◌, ◌≢◌, ℕ, ◌+◌, ◌<◌, Bool, true, List, [], ◌∷◌, length, map, Option, Some, None, refl, sym, ap, ◌∙◌, subst, arith, inl, inr, zero, suc}
+use Rattle.std.proofs.Common.{◌≡◌, ◌≢◌, ℕ, ◌+◌, ◌<◌, List, [], ◌∷◌, length, map, Option, Some, None, refl, sym, ap, ◌∙◌, subst, arith, inl, inr, suc}
 use Rattle.std.specs.Prelude.{filter, is_some, option_map, position, slice_get, slice_index_or}
 use Rattle.std.specs.List.{list_all}
-use Rattle.std.proofs.lemmas.Bool.{and_parts}
 use Rattle.std.proofs.lemmas.List.{length-map}
 use Rattle.std.proofs.lemmas.Option.{none-some, same_Some, slice_get-map, slice_get_cases, get_or_from_slice_get}
 use Rattle.kmn_base.specs.declared.keys.KeyPress.{KeyPress}
+use Rattle.kmn_base.proofs.Elements.{all_at}
 use Rattle.rule_model.specs.declared.event_state.Caught.{Caught}
 use Rattle.rule_model.specs.declared.event_state.EventState.{EventState}
 use Rattle.rule_model.specs.declared.program.Program.{Program}
@@ -65,11 +65,6 @@ first_numbered caught f (x ∷ xs) c e = by (caught (f x)) refl e (first_numbere
           meant = ap (λ (c : Chosen). c.0) (same_Some {A = Chosen} (f x, k) c h);
           is_first = position-passes (λ x. is_some (caught (f x))) x xs (ap is_some is);
         }
-
-all_at : {X : Type 0} (q : X → Bool) (xs : List X) (k : ℕ) (x : X) → list_all q xs ≡ true → slice_get xs k ≡ Some x → q x ≡ true
-all_at q [] k x h e = absurd (none-some x e)
-all_at q (y ∷ xs) zero x h e = ap q (sym (same_Some y x e)) ∙ (and_parts (q y) (list_all q xs) h).0
-all_at q (y ∷ xs) (suc k) x h e = all_at q xs k x (and_parts (q y) (list_all q xs) h).1 e
 
 below : {X : Type 0} (xs : List X) (k : ℕ) (x : X) → slice_get xs k ≡ Some x → k < length xs
 below xs k x e = elim (slice_get_cases xs k).1 [

@@ -1,8 +1,9 @@
 -- What the flag of a store says of it.
-use Rattle.std.proofs.Common.{◌≡◌, ℕ, zero, suc, ◌+◌, ◌-◌, ◌<◌, ◌≤◌, Bool, true, false, not, List, [], ◌∷◌, ◌++◌, length, Some, None, refl, sym, ap, ◌∙◌, arith, if◌then◌else◌}
+use Rattle.std.proofs.Common.{◌≡◌, ℕ, zero, suc, ◌+◌, ◌-◌, ◌<◌, ◌≤◌, Bool, true, false, not, List, [], ◌∷◌, ◌++◌, length, refl, sym, ap, ◌∙◌, arith}
 use Rattle.std.specs.Prelude.{is_some, nat_eq, nat_le, slice_get, unwrap_or, replicate}
 use Rattle.std.specs.List.{list_any}
 use Rattle.std.proofs.lemmas.Bool.Decides.{nat_tests}
+use Rattle.kmn_base.proofs.Options.{is_some-if}
 use Rattle.rule_model.specs.declared.tables.Store.{Store}
 use Rattle.rule_model.specs.declared.tables.Tables.{Tables}
 use Rattle.rule_model.specs.Content.{option_of, options_before}
@@ -13,15 +14,11 @@ use Rattle.indexed_tables.proofs.OptionFlags.{flag_is}
 use Rattle.rule_shadow.specs.Flags.{TellOptions}
 use Rattle.rule_shadow.specs.Places.{is_fixed}
 
-is_numbered : (b : Bool) (o : ℕ) → is_some (if b then Some o else None) ≡ b
-is_numbered true o = refl
-is_numbered false o = refl
-
 -- a store is an option where it is listed
 below_listed : (options : List ℕ) (k n o : ℕ) (stores : List Store) → n < length stores
     → is_some (option_of o (slice_get (with_options options k stores ++ system_options) n)) ≡ list_any (nat_eq (k + n)) options
 below_listed options k n o [] h = absurd (omega (arith, h))
-below_listed options k zero o (s ∷ ss) h = let e : k ≡ k + 0 = omega arith in is_numbered (list_any (nat_eq k) options) o ∙ ap (λ (m : ℕ). list_any (nat_eq m) options) e
+below_listed options k zero o (s ∷ ss) h = let e : k ≡ k + 0 = omega arith in is_some-if (list_any (nat_eq k) options) o ∙ ap (λ (m : ℕ). list_any (nat_eq m) options) e
 below_listed options k (suc n) o (s ∷ ss) h = let e : k + 1 + n ≡ k + suc n = omega arith in below_listed options (k + 1) n o ss (omega (arith, h)) ∙ ap (λ (m : ℕ). list_any (nat_eq m) options) e
 
 -- behind the stores stand two options

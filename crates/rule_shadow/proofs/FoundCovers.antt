@@ -11,6 +11,7 @@ use Rattle.std.proofs.lemmas.Option.{same_Some}
 use Rattle.kmn_base.specs.declared.limits.TheConstants.{STORE_ELEMENTS}
 use Rattle.kmn_base.specs.declared.items.Item.{Item}
 use Rattle.kmn_base.specs.declared.items.Element.{Element}
+use Rattle.kmn_base.proofs.Elements.{length-cons_option}
 use Rattle.rule_model.specs.declared.tables.Pat.{Pat}
 use Rattle.rule_model.specs.declared.tables.Pat.TheVariants as pattern
 use Rattle.rule_model.specs.declared.tables.Rule.{Rule}
@@ -155,15 +156,10 @@ split_covers : (tables : Tables) (group : Group) (number : ℕ) (r : Rule) (plac
 split_covers tables group number r place items qs few is h =
     ap (λ o. covers_parts tables group number r nothing_narrowed place o (row_of qs)) is ∙ row_covers tables group number r place items qs (row_of qs) h (row_tells qs)
 
--- a store of writable tables has few items
-one_more_item : {X : Type 0} (o : Option X) (xs : List X) → length (cons_option o xs) ≤ suc (length xs)
-one_more_item None xs = omega arith
-one_more_item (Some x) xs = omega arith
-
 fewer_items : (elements : List Element) → length (filter_map item_of elements) ≤ length elements
 fewer_items [] = omega arith
 fewer_items (e ∷ elements) =
-    let more = one_more_item (item_of e) (filter_map item_of elements) in
+    let more = length-cons_option (item_of e) (filter_map item_of elements) in
     let fewer = fewer_items elements in
     let whole : length (cons_option (item_of e) (filter_map item_of elements)) ≤ suc (length elements) = omega (arith, more, fewer) in
     whole

@@ -2,7 +2,7 @@
 use Rattle.std.proofs.Common.{◌≡◌, ◌≢◌, ℕ, zero, suc, ◌+◌, ◌≤◌, ◌<◌, Bool, true, false, not, ◌&&◌, ◌||◌, List, [], ◌∷◌, map, Option, Some, None, refl, sym, ap, ◌∙◌, subst, arith, inl, inr, if◌then◌else◌}
 use Rattle.std.specs.Prelude.{find, nat_eq, option_map}
 use Rattle.std.specs.Bool.{beq}
-use Rattle.std.specs.List.{list_all, list_any}
+use Rattle.std.specs.List.{list_all, list_any, range_with_len}
 use Rattle.std.specs.Option.{option_map_or}
 use Rattle.std.proofs.lemmas.Bool.{and_parts, cases_Bool, cond-true, cond-false, eqb-true}
 use Rattle.std.proofs.lemmas.Bool.Decides.{nat_tests}
@@ -167,19 +167,14 @@ found_in test f c (row ∷ table) e = elim (cases_Bool (test row)) [
   | inr no_row ↦ ap (λ b. b || list_any test table) no_row ∙ found_in test f c table (ap (option_map f) (sym (cond-false (test row) (Some row) (find test table) no_row)) ∙ e)
 ]
 
--- a run of numbers
-abbrev run : ℕ → ℕ → List ℕ
-run from zero = []
-run from (suc n) = from ∷ run (from + 1) n
-
-in_run : (code from n : ℕ) → from ≤ code → code < from + n → list_any (λ row. nat_eq row code) (run from n) ≡ true
+in_run : (code from n : ℕ) → from ≤ code → code < from + n → list_any (λ row. nat_eq row code) (range_with_len from n) ≡ true
 in_run code from zero a b = absurd (omega (arith, a, b))
 in_run code from (suc n) a b = elim (cases_Bool (nat_eq from code)) [
-  | inl same ↦ ap (λ t. t || list_any (λ row. nat_eq row code) (run (from + 1) n)) same
-  | inr other ↦ ap (λ t. t || list_any (λ row. nat_eq row code) (run (from + 1) n)) other ∙ in_run code (from + 1) n (grind (arith, nat_tests)) (omega (arith, b))
+  | inl same ↦ ap (λ t. t || list_any (λ row. nat_eq row code) (range_with_len (from + 1) n)) same
+  | inr other ↦ ap (λ t. t || list_any (λ row. nat_eq row code) (range_with_len (from + 1) n)) other ∙ in_run code (from + 1) n (grind (arith, nat_tests)) (omega (arith, b))
 ]
 
-letters_known : list_all (λ row. list_any (nat_eq row) all_codes) (run 65 26) ≡ true
+letters_known : list_all (λ row. list_any (nat_eq row) all_codes) (range_with_len 65 26) ≡ true
 unfolding all_codes key_codes
 letters_known = refl
 
@@ -188,7 +183,7 @@ unfolding all_codes key_codes us_characters
 rows_known = refl
 
 letter_known : (code : ℕ) → is_letter code ≡ true → list_any (nat_eq code) all_codes ≡ true
-letter_known code h = within (λ row. row) code all_codes (run 65 26) letters_known (in_run code 65 26 (grind (arith, nat_tests)) (grind (arith, nat_tests)))
+letter_known code h = within (λ row. row) code all_codes (range_with_len 65 26) letters_known (in_run code 65 26 (grind (arith, nat_tests)) (grind (arith, nat_tests)))
 
 -- a press that gives a character has the code of a key with a name
 given_known : (code : ℕ) (shifted locked : Bool) (c : ℕ) → us_character code shifted locked ≡ Some c → list_any (nat_eq code) all_codes ≡ true

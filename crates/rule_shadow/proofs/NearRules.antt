@@ -3,8 +3,9 @@ use Rattle.std.proofs.Common.{◌≡◌, ℕ, zero, suc, ◌+◌, ◌-◌, ◌�
 use Rattle.std.specs.Prelude.{nat_eq, nat_le, take, slice_get, slice_set, option_and_then}
 use Rattle.std.specs.List.{list_all, list_any, position_from}
 use Rattle.std.specs.Option.{option_flatten}
-use Rattle.std.proofs.lemmas.Bool.{and_parts, cases_Bool, cond-true, cond-false, eqb-true}
+use Rattle.std.proofs.lemmas.Bool.{and_parts, cases_Bool, cond-true, cond-false, eqb-true, or_parts, or_right}
 use Rattle.std.proofs.lemmas.Bool.Decides.{nat_tests}
+use Rattle.std.proofs.Math.Bool.{and-false}
 use Rattle.kmn_base.specs.declared.items.Item.{Item}
 use Rattle.rule_model.specs.declared.tables.Pat.{Pat}
 use Rattle.rule_model.specs.declared.tables.Pat.TheVariants as pattern
@@ -12,6 +13,7 @@ use Rattle.rule_model.specs.declared.tables.Rule.{Rule}
 use Rattle.rule_model.specs.declared.tables.Group.{Group}
 use Rattle.rule_model.specs.declared.tables.Tables.{Tables}
 use Rattle.rule_model.specs.Patterns.{is_matched}
+use Rattle.kmx_format.specs.Writable.{is_any}
 use Rattle.rule_shadow.specs.declared.cert.Range.{Range}
 use Rattle.rule_shadow.specs.declared.cert.Range.TheVariants as range
 use Rattle.rule_shadow.specs.declared.cert.Place.{Place}
@@ -23,7 +25,7 @@ use Rattle.rule_shadow.specs.Keys.{covers_key}
 use Rattle.rule_shadow.specs.Places.{Narrowing, first_given, stated_range, range_of, patterns_of, places_from}
 use Rattle.rule_shadow.specs.Covers.{covers_place, cover_each, cover_last, is_condition_of, keeps_nul, covers_rule, covers_if_any, split_items, narrowed, nothing_narrowed}
 use Rattle.rule_shadow.specs.Finding.{least_by, least_onto, split_rules, split_or, first_split}
-use Rattle.rule_shadow.specs.Near.{hands_on, is_any, missed_from, miss_of, missed_last, miss_by, is_several, is_at_most, near_rules, near_before, first_near}
+use Rattle.rule_shadow.specs.Near.{hands_on, missed_from, miss_of, missed_last, miss_by, is_several, is_at_most, near_rules, near_before, first_near}
 
 no_case : (P : Type 0) → true ≡ false → P
 no_case P e = cc
@@ -56,14 +58,10 @@ module _ (missed : Rule → Miss) (place : ℕ) (covers : Option Rule → Bool) 
     | inr left_out ↦ unmet left_out (is_several (missed q)) ∙ (rest ∙ sym (cond-false (covers (Some q)) (Some from) (position_from (λ q. covers (Some q)) (from + 1) rules) left_out))
   ]
     where
-      and_no : (b : Bool) → (b && false) ≡ false
-      and_no true = refl
-      and_no false = refl
-
       unmet : covers (Some q) ≡ false → (b : Bool) → first_near passes (if b then behind from rules else own from q ∷ behind from rules) ≡ first_near passes (behind from rules)
       unmet left_out true = refl
       unmet left_out false =
-          let not_met : passes (own from q) ≡ false = (λ i. is_at_most place (missed q) && (ap covers here ∙ left_out) i) ∙ and_no (is_at_most place (missed q)) in
+          let not_met : passes (own from q) ≡ false = (λ i. is_at_most place (missed q) && (ap covers here ∙ left_out) i) ∙ and-false (is_at_most place (missed q)) in
           cond-false (passes (own from q)) (Some from) (first_near passes (behind from rules)) not_met
 
   first_among : (from : ℕ) (rules : List Rule) → ((i : ℕ) → get (from + i) ≡ slice_get rules i) → first_near passes (near_rules missed from rules) ≡ position_from (λ q. covers (Some q)) from rules
@@ -158,10 +156,6 @@ module _ (tables : Tables) (place : ℕ) where
   abbrev more : ℕ → List Pat → List Place → List ℕ
   more from ps us = missed_from tables (from + 1) ps us
 
-  or_right : (x y : Bool) → y ≡ true → (x || y) ≡ true
-  or_right true y e = refl
-  or_right false y e = e
-
   one_place : (from : ℕ) (p : Pat) (ps : List Pat) (u v : Place) (us : List Place) → (u ≡ v) ⊎ ((hands_on u.pattern ≡ true) ⊎ (nat_eq from place ≡ true)) → covers_place tables p v ≡ true
       → (more from ps us ≡ []) ⊎ ((more from ps us ≡ place ∷ []) × (from + 1 ≤ place))
       → (missed_from tables from (p ∷ ps) (u ∷ us) ≡ []) ⊎ ((missed_from tables from (p ∷ ps) (u ∷ us) ≡ place ∷ []) × (from ≤ place))
@@ -253,14 +247,10 @@ not_split tables None (pattern.SystemEqual s v) e = refl
 not_split tables None (pattern.SystemUnequal s v) e = refl
 not_split tables None pattern.Nul e = refl
 
-or_false : (a b : Bool) → (a || b) ≡ false → (a ≡ false) × (b ≡ false)
-or_false true b e = no_case _ e
-or_false false b e = (refl, e)
-
 none_at : (tables : Tables) (given : Option Item) (place : ℕ) (context : List Pat) → list_any is_any context ≡ false → split_items tables given (slice_get (patterns_of context) place) ≡ None
 none_at tables None place [] e = refl
 none_at tables (Some x) place [] e = refl
-none_at tables given place (p ∷ context) e = at (λ k h. none_at tables given k context h) place (is_matched p) (or_false (is_any p) (list_any is_any context) e)
+none_at tables given place (p ∷ context) e = at (λ k h. none_at tables given k context h) place (is_matched p) (or_parts (is_any p) (list_any is_any context) e)
   where
     at : ((k : ℕ) → list_any is_any context ≡ false → split_items tables given (slice_get (patterns_of context) k) ≡ None)
         → (place : ℕ) (b : Bool) → (is_any p ≡ false) × (list_any is_any context ≡ false) → split_items tables given (slice_get (cond b (p ∷ patterns_of context) (patterns_of context)) place) ≡ None

@@ -18,10 +18,6 @@ abbrev pub hands_on : Pat → Bool
 hands_on (pattern.ContextAt offset) = true
 hands_on p = false
 
-abbrev pub is_any : Pat → Bool
-is_any (pattern.Any store) = true
-is_any p = false
-
 -- the places, counted from a number on, that patterns don't cover, but for `context` items
 abbrev pub missed_from : Tables → ℕ → List Pat → List Place → List ℕ
 missed_from tables from [] places = []

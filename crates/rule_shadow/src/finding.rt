@@ -4,10 +4,11 @@ ghost use Rattle.std.specs.Prelude.{◌≡◌, ◌≤◌, ◌<◌, ◌^◌, ◌+
 ghost use Rattle.std.specs.List.{list_any, position_from};
 ghost use Rattle.kmn_base.specs.declared.limits.TheConstants.{CONTEXT_ITEMS};
 ghost use Rattle.rule_model.specs.Match.{item_of};
+ghost use Rattle.kmx_format.specs.Writable.{is_any};
 ghost use Rattle.rule_shadow.specs.declared.cert.Cert.{By};
 ghost use Rattle.rule_shadow.specs.Keys.{fitting_presses};
 ghost use Rattle.rule_shadow.specs.Covers.{covers_rule, covers_if_any, narrowed, nothing_narrowed};
-ghost use Rattle.rule_shadow.specs.Near.{is_any, is_at_most, near_before, first_near};
+ghost use Rattle.rule_shadow.specs.Near.{is_at_most, near_before, first_near};
 ghost use Rattle.rule_shadow.specs.Finding.{Says, least_by, least_onto, split_rules, first_split, found_for};
 
 use crate::cert::{Cert, Place};

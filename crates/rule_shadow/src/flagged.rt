@@ -70,10 +70,7 @@ impl<'a> FlaggedTables<'a> {
     pub(crate) fn elements(&self, store: u32) -> &[Element]
         ensures { result.now ≡ elements_of self.now.stores store }
     {
-        match self.tables.stores.as_slice().get(store as usize) {
-            Some(store) => store.elements.as_slice(),
-            None => &[],
-        }
+        self.tables.elements(store)
     }
 
     /// Whether a store has an item: by its set, or element by element where there are no sets.

@@ -1,3 +1,2 @@
 pub mod Groups
-mod Numbers
 pub mod DeadRules

@@ -2,6 +2,7 @@
 use Rattle.std.specs.Prelude.{◌≡◌, ℕ, Bool, is_some, nat_eq, List, [], ◌∷◌, ◌++◌, length, map, filter, flat_map, slice_get, codes, All, Some, unwrap_or}
 use Rattle.std.specs.List.{concat, list_all}
 use Rattle.std.specs.Fmt.{decimal}
+use Rattle.kmn_base.specs.Rising.{rising}
 use Rattle.rule_model.specs.declared.program.Program.{Program}
 use Rattle.rule_model.specs.declared.program.GroupDef.{GroupDef}
 use Rattle.rule_model.specs.declared.tables.Tables.{Tables}
@@ -11,7 +12,7 @@ use Rattle.kmx_format.specs.WellNamed.{IsWellNamed}
 use Rattle.kmx_format.specs.Compiles.{Compiles}
 use Rattle.rule_shadow.specs.Laws.{IsDead}
 use Rattle.shadow_text.specs.declared.verdicts.Verdict.{Verdict}
-use Rattle.shadow_text.specs.Verdicts.{rising, verdicts}
+use Rattle.shadow_text.specs.Verdicts.{verdicts}
 
 abbrev pub line_of : Verdict → ℕ
 line_of verdict = verdict.line

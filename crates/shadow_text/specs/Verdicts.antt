@@ -1,8 +1,6 @@
 -- What is found for each record of a keyboard, by lines of the source.
 use Rattle.std.specs.Prelude.{ℕ, ◌+◌, List, [], ◌∷◌, ◌++◌, filter_map, slice_get, Option, Some, None, option_map}
-use Rattle.std.specs.List.{fold}
-use Rattle.std.specs.Ordering.{nat_cmp}
-use Rattle.std.specs.BTreeSet.{insert_key}
+use Rattle.kmn_base.specs.Rising.{rising}
 use Rattle.rule_model.specs.declared.tables.Rule.{Rule}
 use Rattle.rule_model.specs.declared.tables.Group.{Group}
 use Rattle.rule_model.specs.declared.tables.Tables.{Tables}
@@ -10,10 +8,6 @@ use Rattle.rule_shadow.specs.declared.finding.Found.{Found}
 use Rattle.rule_shadow.specs.declared.finding.Found.TheVariants as finding
 use Rattle.rule_shadow.specs.Finding.{found}
 use Rattle.shadow_text.specs.declared.verdicts.Verdict.{Verdict}
-
--- numbers, each once, rising
-abbrev pub rising : List ℕ → List ℕ
-rising numbers = fold (insert_key nat_cmp) [] numbers
 
 abbrev pub line_of : Rule → ℕ
 line_of rule = rule.line

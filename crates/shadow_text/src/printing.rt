@@ -5,8 +5,8 @@ ghost use Rattle.std.specs.String.{string_bytes};
 ghost use Rattle.kmx_format.specs.Writable.{IsWritable};
 ghost use Rattle.shadow_text.specs.DeadLines.{rule_lines, is_dead, lines_before, dead_line, end_line, dead_text};
 
-use crate::verdicts::{Verdict, rising, verdicts};
-use kmn_base::{Memory, Text};
+use crate::verdicts::{Verdict, verdicts};
+use kmn_base::{Memory, Seq, Text, rising_lines};
 use rule_model::{Tables, put_numbers};
 use std::alloc::{AllocError, Global};
 
@@ -29,14 +29,14 @@ pub fn dead_text(alloc: Global, tables: &Tables) -> Result<Text, Memory>
 }
 
 /// The lines that records have, each once, rising.
-fn rule_lines(alloc: Global, all: &[Verdict]) -> Result<Vec<u32>, Memory>
-    ensures { IfOk result (λ lines. lines.items ≡ rule_lines all.now) }
+fn rule_lines(alloc: Global, all: &[Verdict]) -> Result<Seq<u32>, Memory>
+    ensures { IfOk result (λ lines. lines ≡ rule_lines all.now) }
 {
     let mut lines = Vec::new(alloc);
     for verdict in all {
         lines.push(verdict.line)?;
     }
-    rising(alloc, lines.as_slice())
+    rising_lines(alloc, lines.as_slice())
 }
 
 /// Whether something was found for each record of a line.
@@ -65,8 +65,8 @@ fn dead_among(alloc: Global, all: &[Verdict], lines: &[u32]) -> Result<Vec<u32>,
 }
 
 /// The lines of those that were found for the records of a line, each once, rising.
-fn lines_before(alloc: Global, all: &[Verdict], line: u32) -> Result<Vec<u32>, Memory>
-    ensures { IfOk result (λ lines. lines.items ≡ lines_before all.now line) }
+fn lines_before(alloc: Global, all: &[Verdict], line: u32) -> Result<Seq<u32>, Memory>
+    ensures { IfOk result (λ lines. lines ≡ lines_before all.now line) }
 {
     let mut lines = Vec::new(alloc);
     for verdict in all {
@@ -74,7 +74,7 @@ fn lines_before(alloc: Global, all: &[Verdict], line: u32) -> Result<Vec<u32>, M
             put_lines(&mut lines, verdict)?;
         }
     }
-    rising(alloc, lines.as_slice())
+    rising_lines(alloc, lines.as_slice())
 }
 
 /// Puts the lines of those that were found for a record behind lines.

@@ -2,43 +2,20 @@
 
 ghost use Rattle.std.specs.Prelude.{◌≡◌, ◌≤◌, ◌++◌, length, filter_map, IfOk, OnOk};
 ghost use Rattle.kmn_base.specs.declared.limits.TheConstants.{RECORDS};
+ghost use Rattle.kmn_base.specs.Rising.{rising};
 ghost use Rattle.kmx_format.specs.Writable.{IsWritable};
-ghost use Rattle.shadow_text.specs.Verdicts.{rising, line_at, found_lines, verdict_of, group_verdicts, verdicts};
+ghost use Rattle.shadow_text.specs.Verdicts.{line_at, found_lines, verdict_of, group_verdicts, verdicts};
 
-use kmn_base::{Memory, Seq};
+use kmn_base::{Memory, Seq, rising_lines};
 use rule_model::{Rule, Tables};
 use rule_shadow::{Finder, Found};
 use std::alloc::Global;
-use std::collections::BTreeSet;
 
 /// The line of a record, and where something was found for it the lines of the records that were found, rising.
 #[derive(Drop)]
 pub(crate) struct Verdict {
     pub line: u32,
     pub by: Option<Seq<u32>>,
-}
-
-/// Numbers, each once.
-fn distinct(alloc: Global, numbers: &[u32]) -> Result<BTreeSet<u32>, Memory>
-    ensures { IfOk result (λ kept. kept.keys ≡ rising numbers.now) }
-{
-    let mut kept = BTreeSet::new(alloc);
-    for number in numbers {
-        kept.insert(*number)?;
-    }
-    Ok(kept)
-}
-
-/// Numbers, each once, rising.
-pub(crate) fn rising(alloc: Global, numbers: &[u32]) -> Result<Vec<u32>, Memory>
-    ensures { IfOk result (λ kept. kept.items ≡ rising numbers.now) }
-{
-    let kept = distinct(alloc, numbers)?;
-    let mut list = Vec::new(alloc);
-    for number in kept.iter() {
-        list.push(*number)?;
-    }
-    Ok(list)
 }
 
 /// The line of the record of a number.
@@ -62,12 +39,11 @@ fn lines_at(alloc: Global, rules: &[Rule], numbers: &[u32]) -> Result<Vec<u32>, 
 }
 
 /// The lines of the records of some numbers, each once, rising.
-fn rising_lines(alloc: Global, rules: &[Rule], numbers: &[u32]) -> Result<Seq<u32>, Memory>
+fn lines_of(alloc: Global, rules: &[Rule], numbers: &[u32]) -> Result<Seq<u32>, Memory>
     ensures { IfOk result (λ lines. lines ≡ rising (filter_map (line_at rules.now) numbers.now)) }
 {
     let lines = lines_at(alloc, rules, numbers)?;
-    let kept = rising(alloc, lines.as_slice())?;
-    Ok(Seq::from_vec(kept))
+    rising_lines(alloc, lines.as_slice())
 }
 
 /// The lines of the records that were found, where something was.
@@ -77,11 +53,11 @@ fn found_lines(alloc: Global, rules: &[Rule], found: Found) -> Result<Option<Seq
     match found {
         Found::NotFound => Ok(None),
         Found::ByRule(number) => {
-            let lines = rising_lines(alloc, rules, &[number])?;
+            let lines = lines_of(alloc, rules, &[number])?;
             Ok(Some(lines))
         }
         Found::SplitAt(_, numbers) => {
-            let lines = rising_lines(alloc, rules, numbers.as_slice())?;
+            let lines = lines_of(alloc, rules, numbers.as_slice())?;
             Ok(Some(lines))
         }
     }

@@ -1,6 +1,6 @@
 -- What is found in tables of names and layers is what is found in their lists.
 use Rattle.std.proofs.Common.{◌≡◌, ℕ, ◌+◌, ◌<◌, Bool, true, false, not, List, [], ◌∷◌, ◌++◌, length, map, take, drop, get_or, Option, Some, None, refl, sym, ap, ◌∙◌, arith, if◌then◌else◌}
-use Rattle.std.specs.Prelude.{◌||◌, ◌&&◌, nat_eq, nat_lt, flat_map, option_to_list, bytes_eq}
+use Rattle.std.specs.Prelude.{◌||◌, ◌&&◌, nat_eq, nat_lt, option_to_list, bytes_eq}
 use Rattle.std.specs.Option.{option_map_or, option_or}
 use Rattle.std.specs.List.{list_any}
 use Rattle.std.specs.Str.{str_to_ascii_lowercase}
@@ -11,17 +11,19 @@ use Rattle.std.proofs.lemmas.Grind.{common_steps}
 use Rattle.std.proofs.lemmas.List.{drop_more, get_or_default, map-append}
 use Rattle.std.proofs.lemmas.List.Folds.{list_any-append}
 use Rattle.std.proofs.lemmas.Slice.Eq.{bytes_eq-Decides}
+use Rattle.std.proofs.Math.Bool.{or-false}
 use Rattle.indexmap.specs.IndexSet.{insert_key}
 use Rattle.kmn_base.specs.declared.codes.Code.TheVariants.{T3, T4, T5, T6}
 use Rattle.kmn_base.specs.declared.keys.RuleKey.{RuleKey}
 use Rattle.kmn_base.specs.declared.keys.RuleKey.TheVariants.{Any, Char, Virtual}
 use Rattle.kmn_base.specs.Names.{same_name}
+use Rattle.kmn_base.proofs.Elements.{any_flat_map}
 use Rattle.rule_model.specs.Dictionary.{name_in}
 use Rattle.rule_model.specs.declared.tables.Rule.{Rule}
 use Rattle.rule_model.specs.declared.tables.Group.{Group}
 use Rattle.kmn_names.specs.Names.{is_named}
 use Rattle.kmn_names.specs.Numbering.{with_marks}
-use Rattle.touch_layout.proofs.RecordedNames.{named_once, or_false, or_true}
+use Rattle.touch_layout.proofs.RecordedNames.{named_once, or_true}
 use Rattle.touch_layout.specs.declared.layers.TouchLayer.{TouchLayer}
 use Rattle.touch_layout.specs.Faults.{fault, whole_layout}
 use Rattle.touch_layout.specs.Ids.{is_key_of, is_record_of, has_record_of, has_record, recorded_name, rule_names, recorded_names}
@@ -30,18 +32,13 @@ use Rattle.touch_layout.specs.Layers.{Layer, layer_view, layers_view}
 use Rattle.touch_layout.specs.LayerIds.{folded, is_equal_layer, FindsSame}
 use Rattle.touch_layout.specs.Layout.{is_next_layer, has_strange_id, does_nothing, key_code, keys_fault, is_same_layer, layers_fault}
 
--- a name of one of the records
-any_flat : {X Y : Type 0} (test : Y → Bool) (f : X → List Y) (xs : List X) → list_any test (flat_map f xs) ≡ list_any (λ x. list_any test (f x)) xs
-any_flat test f [] = refl
-any_flat test f (x ∷ xs) = list_any-append test (f x) (flat_map f xs) ∙ ap (λ b. list_any test (f x) || b) (any_flat test f xs)
-
 any_same : {X : Type 0} (p q : X → Bool) → ((x : X) → p x ≡ q x) → (xs : List X) → list_any p xs ≡ list_any q xs
 any_same p q same [] = refl
 any_same p q same (x ∷ xs) = λ j. same x j || any_same p q same xs j
 
 name_found : (id : List ℕ) (name : Option (List ℕ)) → list_any (same_name id) (option_to_list name) ≡ option_map_or (same_name id) name false
 name_found id None = refl
-name_found id (Some name) = or_false (same_name id name)
+name_found id (Some name) = or-false (same_name id name)
 
 key_found : (dictionary : List (List ℕ)) (id : List ℕ) (key : RuleKey) → list_any (same_name id) (recorded_name dictionary key) ≡ is_key_of dictionary id key
 key_found dictionary id Any = refl
@@ -50,12 +47,12 @@ key_found dictionary id (Virtual flags code) = name_found id (name_in dictionary
 
 rules_found : (dictionary : List (List ℕ)) (id : List ℕ) (rules : List Rule) → list_any (same_name id) (rule_names dictionary rules) ≡ list_any (is_record_of dictionary id) rules
 rules_found dictionary id rules =
-    any_flat (same_name id) (λ (rule : Rule). recorded_name dictionary rule.key) rules
+    any_flat_map (same_name id) (λ (rule : Rule). recorded_name dictionary rule.key) rules
     ∙ any_same (λ (rule : Rule). list_any (same_name id) (recorded_name dictionary rule.key)) (is_record_of dictionary id) (λ rule. key_found dictionary id rule.key) rules
 
 recorded : (dictionary : List (List ℕ)) (groups : List Group) (id : List ℕ) → list_any (same_name id) (recorded_names dictionary groups) ≡ has_record dictionary groups id
 recorded dictionary groups id =
-    any_flat (same_name id) (λ (group : Group). rule_names dictionary group.rules) groups
+    any_flat_map (same_name id) (λ (group : Group). rule_names dictionary group.rules) groups
     ∙ any_same (λ (group : Group). list_any (same_name id) (rule_names dictionary group.rules)) (has_record_of dictionary id) (λ group. rules_found dictionary id group.rules) groups
 
 -- keys break the same rules
@@ -102,11 +99,11 @@ found_among key layer (other ∷ layers) next among =
 put_finds : (key : Key) (layer : Layer) (layers : List Layer) (among : Bool) → list_any (is_equal_layer layer) layers ≡ among
     → list_any (is_next_layer key) (if among then layers else layers ++ layer ∷ []) ≡ (list_any (is_next_layer key) layers || is_next_layer key layer)
 put_finds key layer layers false is =
-    list_any-append (is_next_layer key) layers (layer ∷ []) ∙ ap (λ b. list_any (is_next_layer key) layers || b) (or_false (is_next_layer key layer))
+    list_any-append (is_next_layer key) layers (layer ∷ []) ∙ ap (λ b. list_any (is_next_layer key) layers || b) (or-false (is_next_layer key layer))
 put_finds key layer layers true is = by (is_next_layer key layer) refl
   where
     by : (b : Bool) → is_next_layer key layer ≡ b → list_any (is_next_layer key) layers ≡ (list_any (is_next_layer key) layers || is_next_layer key layer)
-    by false next = sym (or_false (list_any (is_next_layer key) layers)) ∙ ap (λ b. list_any (is_next_layer key) layers || b) (sym next)
+    by false next = sym (or-false (list_any (is_next_layer key) layers)) ∙ ap (λ b. list_any (is_next_layer key) layers || b) (sym next)
     by true next = found_among key layer layers next is ∙ sym (or_true (list_any (is_next_layer key) layers)) ∙ ap (λ b. list_any (is_next_layer key) layers || b) (sym next)
 
 pick : {X Y : Type 0} (f : X → Y) (b : Bool) (xs ys : List X) → map f (if b then xs else ys) ≡ (if b then map f xs else map f ys)
@@ -129,7 +126,7 @@ module _ {X : Type 0} (layer_in : X → Layer) (eq : X → X → Bool) (same : (
       ∙ ap (list_any (is_next_layer key)) (inserted x xs)
       ∙ put_finds key (layer_in x) (map layer_in xs) (list_any (is_equal_layer (layer_in x)) (map layer_in xs)) refl
       ∙ (λ j. finds key j || alike key j)
-      ∙ sym (list_any-append (is_next_layer key) others (layer ∷ []) ∙ ap (λ b. list_any (is_next_layer key) others || b) (or_false (is_next_layer key layer)))
+      ∙ sym (list_any-append (is_next_layer key) others (layer ∷ []) ∙ ap (λ b. list_any (is_next_layer key) others || b) (or-false (is_next_layer key layer)))
 
   pub is_new : (xs : List X) (x : X) (new : Bool) → new ≡ not (list_any (eq x) xs) → new ≡ not (list_any (is_equal_layer (layer_in x)) (map layer_in xs))
   is_new xs x new is = is ∙ ap not (among_mapped x xs)

@@ -6,6 +6,7 @@ use Rattle.std.specs.Str.{str_to_ascii_lowercase, bytes_eq}
 use Rattle.std.proofs.lemmas.List.{drop_more}
 use Rattle.std.proofs.lemmas.List.Folds.{list_any-append}
 use Rattle.std.proofs.lemmas.Slice.Eq.{bytes_eq-Decides}
+use Rattle.std.proofs.Math.Bool.{or-false}
 use Rattle.kmn_base.specs.Names.{same_name}
 use Rattle.rule_model.specs.Dictionary.{with_name}
 use Rattle.rule_model.specs.declared.tables.Rule.{Rule}
@@ -27,10 +28,6 @@ pub next_group : (dictionary names : List (List ℕ)) (groups : List Group) (i :
 next_group dictionary names groups i group h e =
     ap (λ (gs : List Group). with_marks names (recorded_names dictionary gs)) (drop_more groups i group h ∙ ap (λ (g : Group). g ∷ drop (i + 1) groups) (sym e))
     ∙ marks_append names (rule_names dictionary group.rules) (recorded_names dictionary (drop (i + 1) groups))
-
-pub or_false : (b : Bool) → (b || false) ≡ b
-or_false true = refl
-or_false false = refl
 
 pub or_true : (b : Bool) → (b || true) ≡ true
 or_true true = refl
@@ -59,8 +56,8 @@ found_too id name (known ∷ names) one there = found_here (same_name name known
 one_more : (known : Bool) (same : Bool) (id name : List ℕ) (names : List (List ℕ)) → list_any (same_name name) names ≡ known → same_name id name ≡ same
     → list_any (same_name id) (if known then names else names ++ name ∷ []) ≡ (list_any (same_name id) names || same_name id name)
 one_more false same id name names is one =
-    list_any-append (same_name id) names (name ∷ []) ∙ ap (λ b. list_any (same_name id) names || b) (or_false (same_name id name))
-one_more true false id name names is one = sym (or_false (list_any (same_name id) names)) ∙ ap (λ b. list_any (same_name id) names || b) (sym one)
+    list_any-append (same_name id) names (name ∷ []) ∙ ap (λ b. list_any (same_name id) names || b) (or-false (same_name id name))
+one_more true false id name names is one = sym (or-false (list_any (same_name id) names)) ∙ ap (λ b. list_any (same_name id) names || b) (sym one)
 one_more true true id name names is one =
     found_too id name names one is ∙ sym (or_true (list_any (same_name id) names)) ∙ ap (λ b. list_any (same_name id) names || b) (sym one)
 
@@ -70,7 +67,7 @@ with_one id name names =
     ∙ one_more (list_any (same_name name) names) (same_name id name) id name names refl refl
 
 with_all : (id : List ℕ) (names more : List (List ℕ)) → list_any (same_name id) (with_marks names more) ≡ (list_any (same_name id) names || list_any (same_name id) more)
-with_all id names [] = sym (or_false (list_any (same_name id) names))
+with_all id names [] = sym (or-false (list_any (same_name id) names))
 with_all id names (name ∷ more) =
     with_all id (with_name names name) more ∙ ap (λ b. b || list_any (same_name id) more) (with_one id name names)
     ∙ or_later (list_any (same_name id) names) (same_name id name) (list_any (same_name id) more)

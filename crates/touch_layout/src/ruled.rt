@@ -1,7 +1,6 @@
 //! Which ids the records of a keyboard have as their key.
 
 ghost use Rattle.std.specs.Prelude.{◌≡◌, [], IfOk, OnOk};
-ghost use Rattle.rule_model.specs.Dictionary.{with_name};
 ghost use Rattle.rule_model.specs.Tab.{tab};
 ghost use Rattle.kmn_names.specs.Numbering.{with_marks};
 ghost use Rattle.touch_layout.specs.Ids.{recorded_name, recorded_names, rule_names};
@@ -12,18 +11,6 @@ use kmn_names::NameTable;
 use rule_model::{Group, Rule};
 use std::alloc::Global;
 
-/// Adds a name where it is new.
-#[tactic(auto, unfolding(kmn_names::specs::Names::is_named))]
-fn add_new(names: &mut NameTable, name: &[u8]) -> Result<(), Memory>
-    ensures { OnOk result (names.new ≡ with_name names.old name.now) }
-{
-    if names.has(name) {
-        Ok(())
-    } else {
-        names.push(name)
-    }
-}
-
 /// Adds the name that the dictionary has for the key of a record.
 fn add_name(names: &mut NameTable, keyboard: &IndexedTables<'_>, key: RuleKey) -> Result<(), Memory>
     ensures { OnOk result (names.new ≡ with_marks names.old (recorded_name (tab keyboard.now).dictionary key)) }
@@ -32,7 +19,7 @@ fn add_name(names: &mut NameTable, keyboard: &IndexedTables<'_>, key: RuleKey) -
         return Ok(());
     };
     match keyboard.own_key(code) {
-        Some(name) => add_new(names, name),
+        Some(name) => names.add_new(name),
         None => Ok(()),
     }
 }

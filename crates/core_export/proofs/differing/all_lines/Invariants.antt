@@ -2,7 +2,7 @@ use Rattle.std.proofs.Common.{◌≡◌, drop, flat_map}
 use Rattle.std.specs.List.{fold}
 use Rattle.std.specs.Ordering.{nat_cmp}
 use Rattle.std.specs.BTreeSet.{insert_key}
-use Rattle.core_export.specs.Differences.{rising}
+use Rattle.kmn_base.specs.Rising.{rising}
 use Rattle.core_export.specs.Found.{found_lines}
 use Rattle.core_export.proofs.differing.all_lines.Given as goal
 

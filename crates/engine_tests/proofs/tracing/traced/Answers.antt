@@ -7,5 +7,5 @@ use Rattle.engine_tests.proofs.tracing.traced.Goals as goal
 
 pub returns-then-can_be_done : goal.returns-then-can_be_done
 returns-then-can_be_done c =
-    subst (All (Contains (record_lines c.args.tables.now))) (sym c.in_ok-trace_event.ensures.lines)
+    subst (All (Contains (record_lines c.args.tables.now))) (sym c.in_ok-traced_event.ensures.lines)
     (c.chosen_lines_are_lines.ensures c.args.tables.now (state_of c.args.tables.now c.args.state.now) c.args.event.now)

@@ -1,7 +1,8 @@
 use Rattle.std.proofs.Common.{◌≡◌, []}
 use Rattle.std.specs.Prelude.{option_copied}
-use Rattle.indexed_tables.specs.Words.{words_behind, bytes_behind}
+use Rattle.indexed_tables.specs.Words.{words_behind}
 use Rattle.rule_model.specs.Tab.{words}
+use Rattle.rule_model.specs.Groups.{bytes_behind}
 use Rattle.kmx_decompiler.specs.Words.{are_unfit, not_empty}
 use Rattle.kmx_decompiler.proofs.dictionary.are_unfit.Given as goal
 

@@ -1,8 +1,8 @@
 use Rattle.std.proofs.Common.{sym, ◌∙◌, ap}
 use Rattle.engine_state.specs.declared.options.Held.{Held}
 use Rattle.engine_state.specs.Cells.{cell_at, held_value}
-use Rattle.engine_state.specs.Meaning.{stated}
 use Rattle.rule_model.specs.Tab.{tab}
+use Rattle.rule_model.specs.Keyboard.{stated}
 use Rattle.rule_matching.proofs.StoreContents.{elements_held}
 use Rattle.rule_matching.proofs.contents.held.Goals as goal
 

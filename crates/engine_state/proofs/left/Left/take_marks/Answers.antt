@@ -2,7 +2,7 @@ use Rattle.std.proofs.Common.{◌≡◌, ◌∙◌, ap, sym, ℕ, List, arith}
 use Rattle.std.specs.List.{suffix_len}
 use Rattle.kmn_base.specs.declared.items.Item.{Item}
 use Rattle.kmn_base.specs.Lists.{is_mark, without_last}
-use Rattle.engine_state.specs.Cached.{whole}
+use Rattle.engine_state.specs.Cached.{text_with_context}
 use Rattle.engine_state.specs.Texts.{LeftValue}
 use Rattle.engine_state.proofs.Lefts.{marks_at_hand}
 use Rattle.engine_state.proofs.left.Left.take_marks.Goals as goal
@@ -10,7 +10,7 @@ use Rattle.engine_state.proofs.left.Left.take_marks.Goals as goal
 pub returns-clause-items : goal.returns-clause-items
 returns-clause-items c =
     let items : List Item = c.args.self.now.items in
-    let same : items ≡ whole c.self.inside.text.text c.self.inside.cache.items = sym (ap (λ (v : LeftValue). v.items) c.self.view_is) in
+    let same : items ≡ text_with_context c.self.inside.text.text c.self.inside.cache.items = sym (ap (λ (v : LeftValue). v.items) c.self.view_is) in
     let count : c.end_marks-count.result ≡ suffix_len is_mark items
     = c.end_marks-count.ensures.value ∙ (marks_at_hand _ _ c.self.invariant.2 ∙ ap (suffix_len is_mark) (sym same)) in
     ap (λ (v : LeftValue). v.items) c.take.ensures ∙ ap (λ (n : ℕ). without_last n items) count

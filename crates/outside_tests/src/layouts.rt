@@ -1,9 +1,7 @@
 //! Touch layouts, each with the count of its keys or the first rule that it breaks.
 
-use crate::fixtures::rule;
-use compile_tests::fixtures::tables;
-use kmn_base::{Element, Memory, RuleKey, Seq};
-use rule_model::{Store, Tables};
+use kmn_compiler::compile;
+use rule_model::Tables;
 use source_tests::fixtures::parted;
 use std::alloc::{AllocError, Global};
 use std::fmt::Write;
@@ -40,6 +38,9 @@ const LAYOUTS: &str = r##" ⇒ refused T1 platform 0 layer 0 row 0 key 0
 ①T_flip②numeric③shift④ ⇒ refused T4 platform 1 layer 1 row 1 key 3
 ①T_flip②shift③default④ ⇒ refused T6 platform 1 layer 2 row 0 key 0"##;
 
+/// A keyboard with a rule for the key T_flip.
+const FLIP: &[u8] = b"begin Unicode > use(main)\ngroup(main) using keys\n+ [T_flip] > 'x'\n";
+
 /// The text that a sign of a layout stands for.
 fn text_of(sign: char) -> Option<&'static str> {
     match sign {
@@ -69,29 +70,6 @@ fn layout_of(alloc: Global, text: &str) -> Result<String, AllocError> {
         }
     }
     Ok(layout)
-}
-
-/// The dictionary T_flip, and a group with a record for that key.
-fn keyboard(alloc: Global) -> Result<Tables, Memory> {
-    let mut elements = Seq::new(alloc);
-    for c in "T_flip".chars() {
-        elements.add(Element::Char(c))?;
-    }
-    let store = Store {
-        system: 34,
-        name: Seq::new(alloc),
-        elements,
-    };
-    let key = RuleKey::Virtual {
-        flags: 0x4000,
-        code: 256,
-    };
-    let rule = rule(alloc, 0, key, 'x')?;
-    tables(
-        alloc,
-        Seq::from_vec(vec![in alloc; store]?),
-        Seq::from_vec(vec![in alloc; rule]?),
-    )
 }
 
 /// The count of the keys of a layout, or the rule that it breaks.
@@ -128,7 +106,7 @@ fn is_long_layout_refused(alloc: Global, tables: &Tables) -> Result<bool, Fail> 
 
 /// The first layout that isn't right.
 fn wrong_layout(alloc: Global) -> Result<Option<&'static str>, Fail> {
-    let tables = keyboard(alloc)?;
+    let tables = compile(alloc, FLIP, &[])?.tables;
     if !is_long_layout_refused(alloc, &tables)? {
         return Ok(Some("the long layout"));
     }

@@ -1,19 +1,17 @@
-//! Lines, each once, rising.
-
 ghost use Rattle.std.specs.Prelude.{◌≡◌, [], slice_get, OnOk, IfOk};
 ghost use Rattle.std.specs.List.{fold};
 ghost use Rattle.std.specs.Ordering.{nat_cmp};
 ghost use Rattle.std.specs.BTreeSet.{insert_key};
-ghost use Rattle.core_export.specs.Differences.{is_among};
+ghost use Rattle.kmn_base.specs.Rising.{is_among, rising};
 
-use kmn_base::{Memory, Seq};
+use crate::{Memory, Seq};
 use std::alloc::Global;
 use std::collections::BTreeSet;
 use std::marker::Model;
 
-/// Lines, each once. Contracts see them as the list of them, rising.
+/// Lines of a source, each once. Contracts see them as the list of them, rising.
 #[derive(Drop)]
-pub(crate) struct LineSet {
+pub struct LineSet {
     lines: BTreeSet<u32>,
 }
 
@@ -35,7 +33,7 @@ impl LineSet {
         }
     }
 
-    /// With one line more.
+    /// With one line more, or the same lines where it is among them.
     pub fn add(&mut self, line: u32) -> Result<(), Memory>
         ensures { OnOk result (self.new ≡ insert_key nat_cmp self.old line) }
     {
@@ -54,7 +52,7 @@ impl LineSet {
     }
 
     /// Whether a line is among them.
-    #[tactic(auto, using(crate::proofs::Sets::among_is))]
+    #[tactic(auto, using(crate::proofs::RisingLines::among_is))]
     pub fn has(&self, line: u32) -> bool
         ensures { result ≡ is_among line self.now }
     {
@@ -78,4 +76,15 @@ impl LineSet {
         }
         Ok(list)
     }
+}
+
+/// Lines of a source, each once, rising.
+pub fn rising_lines(alloc: Global, lines: &[u32]) -> Result<Seq<u32>, Memory>
+    ensures { IfOk result (λ list. list ≡ rising lines.now) }
+{
+    let mut set = LineSet::new(alloc);
+    for line in lines {
+        set.add(*line)?;
+    }
+    set.listed(alloc)
 }
