@@ -3,7 +3,7 @@ use Rattle.std.proofs.Common.{◌≡◌, ◌⊎◌, inl, inr, ℕ, Bool, true, f
 use Rattle.std.specs.Prelude.{option_map, IsSomeAnd}
 use Rattle.std.specs.List.{list_any}
 use Rattle.std.specs.Option.{option_map_or}
-use Rattle.std.proofs.lemmas.List.{append_cancel_left, map-append, take_all}
+use Rattle.std.proofs.lemmas.List.{append_cancel_left, map-append}
 use Rattle.std.proofs.lemmas.List.Folds.{list_any-append}
 use Rattle.std.proofs.lemmas.Option.{same_Some}
 use Rattle.kmn_base.specs.declared.codes.Code.{Code}
@@ -20,11 +20,7 @@ use Rattle.kmx_format.specs.Ordered.{compiled_tables}
 use Rattle.rule_model.specs.Src.{src}
 use Rattle.rule_model.specs.Tab.{tab}
 use Rattle.rule_model.specs.Transcript.{events_of}
-use Rattle.kmn_base.specs.declared.limits.TheConstants.{KEY_NAMES}
-use Rattle.rule_model.specs.Naming.{names_of}
-use Rattle.kmn_names.specs.Numbering.{lists_of}
-use Rattle.rule_checker.specs.Refused.{IsRead, checked, refused}
-use Rattle.rule_expand.proofs.AcceptedTables.{has_tables}
+use Rattle.rule_checker.specs.Refused.{checked}
 use Rattle.kmn_compiler.specs.Picture.{picture_name}
 use Rattle.kmn_compiler.specs.declared.compiling.Compiled.{Compiled}
 use Rattle.kmn_compiler.proofs.Checks.{checked_means, checked_steps, checked_prints}
@@ -156,11 +152,6 @@ as_meant source file keys =
     ∙ same_behind_all IsChecked (source_work source) (λ program. and_then (job_behind source keys program) (play_job file)) (λ program. and_then (pictured_work source program) (test_behind file keys)) (all_checked source)
     (played_behind source file keys)
     ∙ sym (and_then_assoc (source_work source) (pictured_work source) (test_behind file keys))
-
--- the names of a program's own keys are those that its dictionary has
-pub names_of_keys : (program : Program) → IsRead program → refused program ≡ None → (lists_of program).keys ≡ (src program).dictionary
-unfolding lists_of src
-names_of_keys program read kept = take_all KEY_NAMES (names_of program).keys (has_tables program read kept).keys
 
 pub does_as : {F S : Type 0} (work other : Work Ending) (folders : FolderView F) (folder after : F) (sinks : SinkView S) (out out_after : S) (how : Status)
     → work ≡ other → Does work folders folder after sinks out out_after how → Does other folders folder after sinks out out_after how

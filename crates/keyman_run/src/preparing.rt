@@ -192,7 +192,7 @@ fn read_named_picture<F: Folder>(
 }
 
 /// The names of a program's own keys.
-#[tactic(auto, using(crate::proofs::MeaningLaws::names_of_keys))]
+#[tactic(auto, using(rule_checker::proofs::Within::keys_are_coded))]
 pub fn key_names(checked: &Checked) -> &KeyDictionary
     ensures { result.now ≡ (src checked.now).dictionary }
 {

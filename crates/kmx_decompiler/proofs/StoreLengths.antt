@@ -103,6 +103,7 @@ module _ (names : SourceNames) where
       ∙ (λ j. front_lengths tables j
       ++ (back-listed (names_for tables) (1 + length (front_stores tables)) calls tables.stores ∙ from_number calls 0 calls tables.stores refl) j)
 
+-- the names of a dictionary, joined by spaces
 joined-size : (name : List ℕ) (names : List (List ℕ)) → All IsUtf8 (name ∷ names) → length (chars (join_with_byte 32 (name ∷ names))) + 1 ≡ spaced_size (name ∷ names)
 joined-size name [] utf8 = let here = counted-characters name (All-head IsUtf8 name [] utf8) in omega (arith, here)
 joined-size name (next ∷ names) utf8 =

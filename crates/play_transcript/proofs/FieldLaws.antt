@@ -1,5 +1,5 @@
 -- What an event, a preview and an expected text print and leave in the field that is turned to.
-use Rattle.std.proofs.Common.{◌≡◌, ℕ, zero, suc, ◌+◌, ◌<◌, Bool, true, false, List, [], ◌∷◌, ◌++◌, length, drop, get_or, cond, Option, Some, None, Result, Ok, Err, refl, sym, ap, ◌∙◌, subst, add-one, drop-cons, append-nil}
+use Rattle.std.proofs.Common.{◌≡◌, ℕ, zero, suc, ◌+◌, ◌<◌, Bool, true, false, List, [], ◌∷◌, ◌++◌, length, drop, get_or, cond, Option, Some, None, Result, Ok, Err, refl, sym, ap, ◌∙◌, subst, add-one, drop-cons}
 use Rattle.std.specs.Prelude.{IsSomeAnd}
 use Rattle.std.specs.List.{All}
 use Rattle.std.specs.Str.{bytes_eq}
@@ -28,10 +28,6 @@ use Rattle.play_transcript.specs.declared.host_playing.Play.{Play}
 use Rattle.play_transcript.specs.EachEntry.{AreSessions, told_lines, TellsOfStores, is_text_of}
 use Rattle.play_transcript.specs.HostText.{front, preview_line, event_text, preview_text, expect_text, text_or_refusal, event_lines, preview_lines, field_text, field_texts}
 use Rattle.play_transcript.specs.HostPlaying.{turned_to, refusal_in}
-
--- nothing is put
-pub nothing_put : (before : List ℕ) → before ≡ before ++ []
-nothing_put before = sym (append-nil before)
 
 -- ---- the session of a field
 

@@ -7,6 +7,10 @@ use Rattle.kmn_outside.specs.declared.traits.WriteError.{WriteError}
 use Rattle.kmn_outside.specs.declared.traits.WriteError.TheVariants as write
 use Rattle.play_transcript.specs.Printing.{AppendsBut, IsBegun, Prints}
 
+-- nothing is put
+pub nothing_put : (before : List ℕ) → before ≡ before ++ []
+nothing_put before = sym (append-nil before)
+
 -- at first all of a list is still to be appended
 pub none_appended : {X : Type 0} (before wanted : List X) → AppendsBut wanted before before wanted
 none_appended before wanted = record { done = []; parts = refl; appended = sym (append-nil before) }

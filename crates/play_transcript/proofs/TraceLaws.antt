@@ -31,10 +31,6 @@ use Rattle.play_transcript.specs.TraceEntry.{no_counts, text_left, end_left, eve
 use Rattle.play_transcript.specs.TraceEnds.{end_after, trace_end}
 use Rattle.play_transcript.specs.TraceText.{fired_from, hits_text, trace_text_of, trace_text}
 
--- nothing is printed where an expected text stands
-pub nothing_printed : (before : List ℕ) → before ≡ before ++ []
-nothing_printed before = sym (append-nil before)
-
 -- at first the whole text is to be printed, and the script ends as that of the trace
 all_text : (tables : Tables) (lines : List ℕ) (entries : List Entry) → text_left (first_session tables) (map not_chosen lines) no_counts entries ≡ trace_text (tab tables) lines entries
 unfolding trace trace_text

@@ -110,7 +110,7 @@ fn no_counts() -> TraceCounts
 }
 
 /// Plays an entry of a script and prints its line. An expected text does nothing.
-#[tactic(auto, using(crate::proofs::TraceLaws::nothing_printed))]
+#[tactic(auto, using(crate::proofs::PrintingLaws::nothing_put))]
 fn follow_entry<S: Sink>(
     alloc: Global,
     traced: &mut TracedSession,

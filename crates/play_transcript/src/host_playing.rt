@@ -161,7 +161,7 @@ fn play_event<S: Sink>(
 }
 
 /// Prints what the last event of a field did.
-#[tactic(auto, using(crate::proofs::PrintingLaws::faults, crate::proofs::FieldLaws::nothing_put))]
+#[tactic(auto, using(crate::proofs::PrintingLaws::faults, crate::proofs::PrintingLaws::nothing_put))]
 fn put_field_step<S: Sink>(
     alloc: Global,
     host: &Host,
@@ -222,7 +222,7 @@ fn refused_with(error: HostError) -> Result<Option<Code>, Memory>
 }
 
 /// Prints the refusal of an event or a preview, where there is a code.
-#[tactic(auto, using(crate::proofs::PrintingLaws::faults, crate::proofs::FieldLaws::nothing_put))]
+#[tactic(auto, using(crate::proofs::PrintingLaws::faults, crate::proofs::PrintingLaws::nothing_put))]
 fn put_refusal<S: Sink>(
     alloc: Global,
     number: u32,
@@ -243,7 +243,7 @@ fn put_refusal<S: Sink>(
 }
 
 /// Compares the whole text of the field that is turned to with an expected one, and prints where it differs.
-#[tactic(auto, using(crate::proofs::PrintingLaws::faults, crate::proofs::FieldLaws::nothing_put))]
+#[tactic(auto, using(crate::proofs::PrintingLaws::faults, crate::proofs::PrintingLaws::nothing_put))]
 fn play_expect<S: Sink>(
     alloc: Global,
     play: &mut Play,

@@ -4,7 +4,7 @@ use Rattle.std.specs.Prelude.{◌||◌, nat_eq, filter, find, flat_map, option_m
 use Rattle.std.specs.List.{list_any}
 use Rattle.std.specs.Option.{option_or}
 use Rattle.std.proofs.lemmas.Bool.Decides.{nat_tests}
-use Rattle.std.proofs.lemmas.List.{map-append}
+use Rattle.std.proofs.lemmas.List.{map-append, length-replicate}
 use Rattle.std.proofs.lemmas.List.Elements.{filter-append, filter_map-append}
 use Rattle.std.proofs.lemmas.List.Folds.{list_any-append, find-append}
 use Rattle.std.proofs.Math.Bool.{or-false}
@@ -73,10 +73,6 @@ put_size : (marks : List Bool) (n : ℕ) → length (set marks n true) ≡ lengt
 put_size [] n = refl
 put_size (m ∷ marks) zero = refl
 put_size (m ∷ marks) (suc n) = omega (arith, put_size marks n)
-
-replicate_size : (n : ℕ) → length (replicate n false) ≡ n
-replicate_size zero = refl
-replicate_size (suc n) = omega (arith, replicate_size n)
 
 -- a code that is none of the key table is never among codes
 pub other_code : (code : ℕ) (codes : List ℕ) → is_table_code code ≡ false → is_among codes code ≡ false
@@ -149,7 +145,7 @@ pub record AreCodes (codes : KeyCodes) (elements : List Element) : Type 0 where
 
 none_are : AreCodes no_codes []
 unfolding no_codes
-none_are = record { size = replicate_size 256; each = no_mark 256 }
+none_are = record { size = length-replicate 256 false; each = no_mark 256 }
 
 -- a set that has the codes of further elements too
 grown : (codes now : KeyCodes) (elements more : List Element) → AreCodes codes elements → length now.marks ≡ length codes.marks

@@ -198,6 +198,7 @@ space_ascii (suc i) = nothing_ascii i
 pub space_chars : chars (32 ∷ []) ≡ 32 ∷ []
 space_chars = chars-IsAscii (32 ∷ []) space_ascii
 
+-- the key dictionary has the characters of its names, and a space between each two
 pub joined_size : (name : List ℕ) (names : List (List ℕ)) → All IsOwnKey (name ∷ names) → length (chars (join_with_byte 32 (name ∷ names))) ≡ names_size (name ∷ names) + length names
 joined_size name [] own = omega arith
 joined_size name (next ∷ names) own =

@@ -156,6 +156,7 @@ split_covers : (tables : Tables) (group : Group) (number : ℕ) (r : Rule) (plac
 split_covers tables group number r place items qs few is h =
     ap (λ o. covers_parts tables group number r nothing_narrowed place o (row_of qs)) is ∙ row_covers tables group number r place items qs (row_of qs) h (row_tells qs)
 
+-- a store of writable tables has few items
 fewer_items : (elements : List Element) → length (filter_map item_of elements) ≤ length elements
 fewer_items [] = omega arith
 fewer_items (e ∷ elements) =

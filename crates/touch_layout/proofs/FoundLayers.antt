@@ -36,6 +36,7 @@ any_same : {X : Type 0} (p q : X → Bool) → ((x : X) → p x ≡ q x) → (xs
 any_same p q same [] = refl
 any_same p q same (x ∷ xs) = λ j. same x j || any_same p q same xs j
 
+-- a name of one of the records
 name_found : (id : List ℕ) (name : Option (List ℕ)) → list_any (same_name id) (option_to_list name) ≡ option_map_or (same_name id) name false
 name_found id None = refl
 name_found id (Some name) = or-false (same_name id name)

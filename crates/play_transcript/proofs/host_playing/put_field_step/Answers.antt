@@ -1,6 +1,5 @@
 use Rattle.std.proofs.Common.{arith}
-use Rattle.play_transcript.proofs.PrintingLaws.{faults}
-use Rattle.play_transcript.proofs.FieldLaws.{nothing_put}
+use Rattle.play_transcript.proofs.PrintingLaws.{faults, nothing_put}
 use Rattle.play_transcript.proofs.host_playing.put_field_step.Goals as goal
 
 pub returns-in_default-clause-counts : goal.returns-in_default-clause-counts
